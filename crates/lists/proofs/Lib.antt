@@ -1,0 +1,3 @@
+pub mod Tests
+pub mod Below
+pub mod Build

@@ -1,0 +1,1 @@
+// Lists and bounded counting: definitions in specs/, laws in proofs/. No code.

@@ -1,0 +1,51 @@
+-- What question 4 tests, as named facts: one for each clause of document 01's "Well formed" and for the readings of it.
+-- The test passes exactly where the facts hold: `facts` and `tested`. Assumes nothing.
+use mathlib.Core.Path.{_≡_, refl, sym, ap, _∙_}
+use mathlib.Core.Bool.{Bool, true, false, not, _&&_, _||_, cond}
+use mathlib.Core.Logic.{_≢_, _⊎_, inl, inr}
+use Prim.Native.Nat.{ℕ, zero, suc, _+_, _-_, _≤_, _<_}
+use lib.Dec.{eqb, leb, ltb}
+use Rattle.model.specs.Tables.{seats, capacity, absent, yes?, at, message, slotAt, place, entry, held, mark, applied, highest}
+use Rattle.model.specs.WellFormed.{inLog, greatestApplied, fairAmount, wellFormed}
+use Rattle.model.specs.declared.Controller.{Controller}
+use Rattle.model.specs.declared.Table.{Table}
+
+-- a name of one of n controllers
+pub record Named (n c : ℕ) : Type 0 where
+  pub low : 0 < c
+  pub high : c ≤ n
+
+-- controller i, whose part of the table is c
+pub record GoodController (t : Table) (i : ℕ) (c : Controller) : Type 0 where
+  -- "a log names only messages of the run, none twice"
+  pub log-room : c .length ≤ capacity
+  pub log-run : (k : ℕ) → k < c .length → slotAt c k < t .count
+  pub log-once : (j k : ℕ) → j < c .length → k < c .length → slotAt c j ≡ slotAt c k → j ≡ k
+  -- "read positions do not pass log ends"
+  pub places : (o : ℕ) → Named (t .n) o → place c o ≤ at t o .length
+  -- "marks are absent or 1 to 64"
+  pub marks : (s f : ℕ) → s < t .count → held c s ≡ true → f < seats
+      → (mark (entry (c .pending) s) f ≡ absent) ⊎ (0 < mark (entry (c .pending) s) f) × (mark (entry (c .pending) s) f ≤ 64)
+  -- "No message is both pending and applied at a controller"
+  pub apart : (s : ℕ) → s < t .count → held c s ≡ true → applied c s ≡ true → ⊥
+  -- and neither is a message that the run has not
+  pub outside : (s : ℕ) → s < capacity → t .count ≤ s → (held c s ≡ false) × (applied c s ≡ false)
+  -- "its highest applied numbers agree with what it applied"
+  pub highest-is : (x : ℕ) → Named (t .n) x → highest c x ≡ greatestApplied t c x
+  -- "A running controller's log names exactly what it has pending or applied"
+  pub exact : yes? (c .running) ≡ true → (s : ℕ) → s < t .count → inLog c s ≡ (held c s || applied c s)
+  -- "and is at least as long as any message number it sent"
+  pub long : yes? (c .running) ≡ true → (s : ℕ) → s < t .count → message t s .sender ≡ i → message t s .number .0 ≤ c .length
+
+pub record WellFormed (t : Table) : Type 0 where
+  -- "n and the message count are in range"
+  pub some : 0 < t .n
+  pub few : t .n ≤ seats
+  pub counted : t .count ≤ capacity
+  -- "messages have distinct names, senders 1 to n, numbers 1 to 64, and reports have amounts as in question 9"
+  pub names : (i j : ℕ) → i < t .count → j < t .count
+      → message t i .sender ≡ message t j .sender → message t i .number .0 ≡ message t j .number .0 → i ≡ j
+  pub senders : (s : ℕ) → s < t .count → Named (t .n) (message t s .sender)
+  pub numbers : (s : ℕ) → s < t .count → (0 < message t s .number .0) × (message t s .number .0 ≤ 64)
+  pub amounts : (s : ℕ) → s < t .count → fairAmount (message t s .payload) ≡ true
+  pub controllers : (c : ℕ) → Named (t .n) c → GoodController t c (at t c)

@@ -1,0 +1,103 @@
+-- What each call answers and leaves: the single event, the fresh table, the panel look.
+use Prim.Native.Nat.{ℕ, zero, suc}
+use mathlib.Core.Bool.{Bool, true, false, cond}
+use mathlib.Core.List.{List, [], _∷_}
+use lib.ListN.{length}
+use lib.IntN.{ℤ, pos}
+use lib.Dec.{eqb}
+use Rattle.lists.specs.Build.{over}
+use Rattle.model.specs.Tables.{fresh, blankTable}
+use Rattle.model.specs.Events.{next, appliedBy, namesOf, finishes, total}
+use Rattle.model.specs.Records.{behind, decode}
+use Rattle.model.specs.WellFormed.{named}
+use Rattle.model.specs.Questions.{Question, ask, firstNo, controllerCount, lentTable, stepQuestions}
+use Rattle.model.specs.declared.Name.{Name}
+use Rattle.model.specs.declared.Table.{Table}
+use Rattle.model.specs.declared.Event.{Event}
+use Rattle.model.specs.declared.Event.the-variants.{Send, Handover, Stop}
+
+-- THE SINGLE EVENT
+
+-- The answer: the refusal number, 0 if accepted; the set applied, by sender and then number; whether a sync of the
+-- receiver's own is in it, and then that sync's answer, the total after the set; the unread rest of the bytes.
+pub record EventAnswer : Type 0 where
+  pub number : ℕ
+  pub names : List Name
+  pub finished : Bool
+  pub total : ℤ
+  pub rest : List ℕ
+
+-- what an event call leaves besides
+pub record Outcome : Type 0 where
+  pub answer : EventAnswer
+  pub table : Table
+
+-- the controller that a handover names as its receiver; 0 for another event
+unfoldable pub receiver : Event → ℕ
+receiver (Send c p) = 0
+receiver (Handover r o) = r
+receiver (Stop c k) = 0
+
+unfoldable pub accepted : Table → List ℕ → Outcome
+accepted t s =
+    let e = decode s in
+    let t′ = next t e in
+    let f = finishes t (appliedBy t e) (receiver e) in
+    record {
+      answer = record {
+        number = 0;
+        names = namesOf t (appliedBy t e);
+        finished = f;
+        total = cond f (total t′ (receiver e)) (pos 0);
+        rest = behind s;
+      };
+      table = t′;
+    }
+
+unfoldable pub refused : Table → List ℕ → ℕ → Outcome
+refused t s k = record {
+  answer = record { number = k; names = []; finished = false; total = pos 0; rest = s };
+  table = t;
+}
+
+-- an event whose questions give k
+unfoldable pub settled : Table → List ℕ → ℕ → Outcome
+settled t s k = let a = accepted t s in cond (eqb k 0) a (refused t s k)
+
+-- an event of a file run, whose own table is not put to question 4; the scratch area has so many bytes
+unfoldable pub step : Table → List ℕ → ℕ → Outcome
+step t s room = settled t s (firstNo (stepQuestions t s room))
+
+-- the single-event call
+unfoldable pub event : Table → List ℕ → ℕ → Outcome
+event t s room = settled t s (firstNo (lentTable t ∷ stepQuestions t s room))
+
+-- the first 4,096 bytes zero, later ones as they were
+unfoldable pub cleared : List ℕ → List ℕ
+cleared s = over (λ i. 0) 4096 s
+
+-- the scratch area after an event with this number
+unfoldable pub scratchAfter : ℕ → List ℕ → List ℕ
+scratchAfter k s = cond (eqb k 0) (cleared s) s
+
+-- THE FRESH TABLE
+
+pub record FreshAnswer : Type 0 where
+  pub number : ℕ
+  pub table : Table
+
+unfoldable pub freshTable : ℕ → FreshAnswer
+freshTable n =
+    let k = firstNo (controllerCount n ∷ []) in
+    record { number = k; table = cond (eqb k 0) (fresh n) blankTable }
+
+-- THE PANEL LOOK (a local read)
+
+pub record LookAnswer : Type 0 where
+  pub number : ℕ
+  pub total : ℤ
+
+unfoldable pub look : Table → ℕ → LookAnswer
+look t c =
+    let k = firstNo (lentTable t ∷ ask 8 (named t c) ∷ []) in
+    record { number = k; total = cond (eqb k 0) (total t c) (pos 0) }

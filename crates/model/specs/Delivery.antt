@@ -1,0 +1,66 @@
+-- Lines 15 and 16 of Algorithm 1: the set of buffered messages that a controller applies.
+-- It is the largest closed set: proofs/Largest.antt.
+use Prim.Native.Nat.{ℕ, zero, suc, min}
+use mathlib.Core.Bool.{Bool, true, false, not, _&&_, _||_, cond}
+use mathlib.Core.List.{List, [], _∷_}
+use lib.ListN.{getD}
+use lib.Dec.{eqb, leb, ltb}
+use Rattle.lists.specs.Below.{count, all}
+use Rattle.lists.specs.Build.{tabulate}
+use Rattle.model.specs.Tables.{seats, capacity, absent, yes?, entry, mark}
+use Rattle.model.specs.declared.Pending.{Pending}
+
+-- more than half of n controllers, for n from 0 to 7; a table has no more
+abbrev pub majorities : List ℕ
+majorities = 1 ∷ 1 ∷ 2 ∷ 2 ∷ 3 ∷ 3 ∷ 4 ∷ 4 ∷ []
+
+unfoldable pub majority : ℕ → ℕ
+majority n = getD majorities (min n seats) 0
+
+-- how many of n controllers have forwarded the message, as far as is known here
+unfoldable pub markCount : ℕ → Pending → ℕ
+markCount n p = count (min n seats) (λ f. ltb (mark p f) absent)
+
+-- how many of n controllers have a smaller forward number for p than for q
+unfoldable pub beforeCount : ℕ → Pending → Pending → ℕ
+beforeCount n p q = count (min n seats) (λ f. ltb (mark p f) (mark q f))
+
+-- the relation of line 16
+unfoldable pub goesBefore : ℕ → Pending → Pending → Bool
+goesBefore n p q = leb (majority n) (beforeCount n p q)
+
+-- a set of slots: a Bool for each
+abbrev pub Slots : Type 0
+Slots = List Bool
+
+abbrev pub has : Slots → ℕ → Bool
+has S s = getD S s false
+
+-- Over N slots: `held` are those to choose among, `fit` those that may be chosen, and `before` is the relation.
+module _ (N : ℕ) (held fit : ℕ → Bool) (before : ℕ → ℕ → Bool) where
+  -- s goes before each held slot outside S
+  unfoldable pub clears : Slots → ℕ → Bool
+  clears S s = all N (λ t. has S t || (not (held t) || before s t))
+
+  -- one round of removals
+  unfoldable pub round : Slots → Slots
+  round S = tabulate N (λ s. has S s && clears S s)
+
+  -- rounds until one removes nothing
+  unfoldable pub settle : ℕ → Slots → Slots
+  settle zero S = S
+  settle (suc k) S =
+      let R = round S in
+      let on = settle k R in
+      cond (eqb (count N (has R)) (count N (has S))) S on
+
+  unfoldable pub largest : Slots
+  largest = settle N (tabulate N (λ s. held s && fit s))
+
+-- the set that a controller of n applies, with this buffer
+unfoldable pub applicable : ℕ → List Pending → Slots
+applicable n P =
+    largest capacity
+    (λ s. yes? (entry P s .held))
+    (λ s. leb (majority n) (markCount n (entry P s)))
+    (λ s t. goesBefore n (entry P s) (entry P t))

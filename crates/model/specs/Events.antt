@@ -1,0 +1,117 @@
+-- The events of document 01 and what each does to the table: lines 1 to 20 of Algorithm 1, and the counter of Algorithm 4.
+use Prim.Native.Nat.{ℕ, zero, suc, _+_, _-_, max}
+use mathlib.Core.Bool.{Bool, true, false, not, _&&_, _||_, cond}
+use mathlib.Core.List.{List, [], _∷_}
+use lib.ListN.{getD, set, replicate}
+use lib.IntN.{ℤ, pos, _-ℤ_}
+use lib.Dec.{eqb, leb, ltb}
+use Rattle.lists.specs.Below.{count, sum, greatest}
+use Rattle.lists.specs.Build.{tabulate}
+use Rattle.model.specs.Tables.{seats, capacity, messageNumber, messageOf, blank, at, message, slotAt, place, entry, held, applied, highest, withController, withMessage, withEntry, withRead, withMark, withDelivered, withStop}
+use Rattle.model.specs.Delivery.{Slots, has, applicable}
+use Rattle.model.specs.declared.MessageNumber.{MessageNumber}
+use Rattle.model.specs.declared.Payload.{Payload}
+use Rattle.model.specs.declared.Message.{Message}
+use Rattle.model.specs.declared.Name.{Name}
+use Rattle.model.specs.declared.Controller.{Controller}
+use Rattle.model.specs.declared.Table.{Table}
+use Rattle.model.specs.declared.Event.{Event}
+use Rattle.model.specs.declared.Event.the-variants.{Send, Handover, Stop}
+
+-- 1. REPORT AND SYNC (scd-broadcast): lines 1 and 5 to 12 with i = sd = g
+
+-- A message of c, numbered by its log, is buffered with c's own mark and ends c's log.
+unfoldable pub send : Table → ℕ → Payload → Table
+send t c p =
+    let k = at t c .length + 1 in
+    let s = t .count in
+    withController (withMessage t (messageOf c (messageNumber k) p)) c (withMark (withEntry (at t c) s) s (blank .marks) c k)
+
+-- 2. HANDOVER (fifo-delivery from o): lines 3 to 14
+
+-- Entry m of slot s at place k, from 1, of the log of o: passed over, marked, or buffered and forwarded.
+unfoldable pub forward : Controller → Message → ℕ → ℕ → ℕ → Controller
+forward c m s o k =
+    cond (leb (m .number .0) (highest c (m .sender))) c
+    (cond (held c s) (withMark c s (entry (c .pending) s .marks) o k)
+    (withMark (withEntry c s) s (blank .marks) o k))
+
+-- the slot that r reads next in the log of o
+unfoldable pub nextSlot : Table → ℕ → ℕ → ℕ
+nextSlot t r o = slotAt (at t o) (place (at t r) o)
+
+-- r after it has read, and before it applies
+unfoldable pub received : Table → ℕ → ℕ → Controller
+received t r o =
+    let s = nextSlot t r o in
+    forward (withRead (at t r) o) (message t s) s o (place (at t r) o + 1)
+
+-- the set that r then applies
+unfoldable pub handoverSet : Table → ℕ → ℕ → Slots
+handoverSet t r o = applicable (t .n) (received t r o .pending)
+
+-- 3. APPLY (scd-delivery): lines 17 to 20
+
+-- the highest number of sender x, from 1, in S
+unfoldable pub highestIn : Table → Slots → ℕ → ℕ
+highestIn t S x = greatest (t .count) (λ s. cond (has S s && eqb (message t s .sender) x) (message t s .number .0) 0)
+
+-- The slots of S leave the buffer as one; with S empty nothing changes.
+unfoldable pub deliver : Table → Controller → Slots → Controller
+deliver t c S =
+    withDelivered c
+    (tabulate capacity (λ s. cond (has S s) blank (entry (c .pending) s)))
+    (tabulate capacity (λ s. cond (has S s) 1 (getD (c .applied) s 0)))
+    (tabulate seats (λ x. messageNumber (max (highest c (suc x)) (highestIn t S (suc x)))))
+
+unfoldable pub handover : Table → ℕ → ℕ → Table
+handover t r o = withController t r (deliver t (received t r o) (handoverSet t r o))
+
+-- 4. STOP (crash), and every event
+
+unfoldable pub next : Table → Event → Table
+next t (Send c p) = send t c p
+next t (Handover r o) = handover t r o
+next t (Stop c k) = withController t c (withStop (at t c) k)
+
+-- the set that an event applies
+unfoldable pub appliedBy : Table → Event → Slots
+appliedBy t (Send c p) = []
+appliedBy t (Handover r o) = handoverSet t r o
+appliedBy t (Stop c k) = []
+
+-- TOTALS: the counter of Algorithm 4, widened to signed amounts
+
+-- the sum of a weight over what c has applied
+unfoldable pub weigh : (Payload → ℕ) → Table → ℕ → ℕ
+weigh w t c = sum (t .count) (λ s. cond (applied (at t c) s) (w (message t s .payload)) 0)
+
+unfoldable pub total : Table → ℕ → ℤ
+total t c = pos (weigh (λ p. p .added) t c) -ℤ pos (weigh (λ p. p .withdrawn) t c)
+
+-- NAMES
+
+abbrev pub nameOf : Message → Name
+nameOf m = record { sender = m .sender; number = m .number }
+
+-- by sender and then number
+unfoldable pub earlier : Name → Name → Bool
+earlier a b = ltb (a .sender) (b .sender) || (eqb (a .sender) (b .sender) && ltb (a .number .0) (b .number .0))
+
+unfoldable pub insert : Name → List Name → List Name
+insert x [] = x ∷ []
+insert x (y ∷ ys) = cond (earlier x y) (x ∷ y ∷ ys) (y ∷ insert x ys)
+
+-- the names of the slots of S below k, in that order
+unfoldable pub namesBelow : ℕ → Table → Slots → List Name
+namesBelow zero t S = []
+namesBelow (suc k) t S =
+    let r = namesBelow k t S in
+    cond (has S k) (insert (nameOf (message t k)) r) r
+
+unfoldable pub namesOf : Table → Slots → List Name
+namesOf t S = namesBelow (t .count) t S
+
+-- whether S holds a sync that c sent: c then gets its answer
+unfoldable pub finishes : Table → Slots → ℕ → Bool
+finishes t S c = ltb 0 (count (t .count) (λ s. has S s && (eqb (message t s .payload .kind) 2 && eqb (message t s .sender) c)))

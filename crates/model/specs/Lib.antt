@@ -1,0 +1,9 @@
+pub mod Tables
+pub mod Sized
+pub mod Delivery
+pub mod Events
+pub mod Records
+pub mod WellFormed
+pub mod Questions
+pub mod Calls
+pub mod Runs

@@ -1,0 +1,93 @@
+-- The questions of document 01 and their order: the refusal is the number of the first no.
+use Prim.Native.Nat.{ℕ, zero, suc, _+_}
+use mathlib.Core.Bool.{Bool, true, false, not, _&&_, cond}
+use mathlib.Core.List.{List, [], _∷_, _++_}
+use lib.ListN.{length}
+use lib.Dec.{eqb, leb, ltb}
+use Rattle.lists.specs.Below.{count, all}
+use Rattle.model.specs.Tables.{seats, capacity, yes?, at, message, place, held}
+use Rattle.model.specs.Records.{byte, size, kind, sizeOf, decode}
+use Rattle.model.specs.WellFormed.{named, fairAmount, wellFormed}
+use Rattle.model.specs.declared.Table.{Table}
+use Rattle.model.specs.declared.Event.{Event}
+use Rattle.model.specs.declared.Event.the-variants.{Send, Handover, Stop}
+
+-- a question: its number, and whether the answer is yes
+pub record Question : Type 0 where
+  pub number : ℕ
+  pub yes : Bool
+
+abbrev pub ask : ℕ → Bool → Question
+ask k b = record { number = k; yes = b }
+
+-- the number of the first no; 0 if there is none
+unfoldable pub firstNo : List Question → ℕ
+firstNo [] = 0
+firstNo (q ∷ qs) = let r = firstNo qs in cond (q .yes) r (q .number)
+
+-- questions 1 to 3, put to a file; 3 also to a request for a fresh table
+unfoldable pub controllerCount : ℕ → Question
+controllerCount n = ask 3 (ltb 0 n && leb n seats)
+
+unfoldable pub fileQuestions : List ℕ → List Question
+fileQuestions s =
+    ask 1 (leb 2 (length s) && leb (length s) 65535)
+    ∷ ask 2 (eqb (byte s 0) 1)
+    ∷ controllerCount (byte s 1)
+    ∷ []
+
+-- question 4, put to every call that is lent a table
+unfoldable pub lentTable : Table → Question
+lentTable t = ask 4 (wellFormed t)
+
+-- questions 5 to 7, of the record that the bytes begin with
+unfoldable pub recordQuestions : List ℕ → List Question
+recordQuestions s =
+    ask 5 (ltb (size s) (length s))
+    ∷ ask 6 (ltb 0 (size s) && (ltb 0 (kind s) && leb (kind s) 4))
+    ∷ ask 7 (eqb (size s) (sizeOf (kind s)))
+    ∷ []
+
+-- 11: c has a message of its own in its buffer
+unfoldable pub ownPending : Table → ℕ → Bool
+ownPending t c = ltb 0 (count (t .count) (λ s. held (at t c) s && eqb (message t s .sender) c))
+
+-- 13: the log of o has an entry that r has not read
+unfoldable pub unread : Table → ℕ → ℕ → Bool
+unread t r o = ltb (place (at t r) o) (at t o .length)
+
+-- 14: the log of c can be cut to k entries
+unfoldable pub keepable : Table → ℕ → ℕ → Bool
+keepable t c k = leb k (at t c .length) && all (t .n) (λ r. leb (place (at t (suc r)) c) k)
+
+-- questions 8 to 14, by the kind of event
+unfoldable pub eventQuestions : Table → Event → List Question
+eventQuestions t (Send c p) =
+    ask 8 (named t c)
+    ∷ ask 9 (fairAmount p)
+    ∷ ask 10 (yes? (at t c .running))
+    ∷ ask 11 (not (ownPending t c))
+    ∷ ask 12 (ltb (t .count) capacity)
+    ∷ []
+eventQuestions t (Handover r o) =
+    ask 8 (named t r && named t o)
+    ∷ ask 10 (yes? (at t r .running))
+    ∷ ask 13 (unread t r o)
+    ∷ []
+eventQuestions t (Stop c k) =
+    ask 8 (named t c)
+    ∷ ask 10 (yes? (at t c .running))
+    ∷ ask 14 (keepable t c k)
+    ∷ []
+
+-- question 15, of a scratch area of so many bytes
+unfoldable pub scratchRoom : ℕ → Question
+scratchRoom room = ask 15 (leb 4096 room)
+
+-- questions 5 to 15
+unfoldable pub stepQuestions : Table → List ℕ → ℕ → List Question
+stepQuestions t s room = recordQuestions s ++ (eventQuestions t (decode s) ++ (scratchRoom room ∷ []))
+
+-- question 16: a line of so many bytes fits in what is left of the listing
+unfoldable pub lineFits : ℕ → ℕ → Question
+lineFits line left = ask 16 (leb line left)

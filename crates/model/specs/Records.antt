@@ -1,0 +1,44 @@
+-- The records of a run file: a length byte, a kind byte, fields; and the event that a record names.
+use Prim.Native.Nat.{ℕ, zero, suc, _+_, _-_, _*_}
+use mathlib.Core.Bool.{Bool, cond}
+use mathlib.Core.List.{List, [], _∷_}
+use lib.ListN.{getD, drop}
+use lib.Dec.{eqb, ltb}
+use Rattle.model.specs.Tables.{report, sync}
+use Rattle.model.specs.declared.Payload.{Payload}
+use Rattle.model.specs.declared.Event.{Event}
+use Rattle.model.specs.declared.Event.the-variants.{Send, Handover, Stop}
+
+-- byte i; 0 past the end
+abbrev pub byte : List ℕ → ℕ → ℕ
+byte s i = getD s i 0
+
+-- the length byte of the first record, and what is behind that record
+abbrev pub size : List ℕ → ℕ
+size s = byte s 0
+
+unfoldable pub behind : List ℕ → List ℕ
+behind s = drop (size s + 1) s
+
+abbrev pub kind : List ℕ → ℕ
+kind s = byte s 1
+
+-- two bytes, the high one first
+abbrev pub word : List ℕ → ℕ → ℕ
+word s i = byte s i * 256 + byte s (i + 1)
+
+-- the lengths of the kinds 1 report, 2 sync, 3 handover, 4 stop
+unfoldable pub sizeOf : ℕ → ℕ
+sizeOf k = getD (0 ∷ 4 ∷ 2 ∷ 3 ∷ 4 ∷ []) k 0
+
+-- an amount in two's complement, as what it adds and what it withdraws
+unfoldable pub amount : ℕ → Payload
+amount x = cond (ltb x 32768) (report x 0) (report 0 (65536 - x))
+
+-- the event of a record of kind 1 to 4 and of that kind's length
+unfoldable pub decode : List ℕ → Event
+decode s =
+    cond (eqb (kind s) 1) (Send (byte s 2) (amount (word s 3)))
+    (cond (eqb (kind s) 2) (Send (byte s 2) sync)
+    (cond (eqb (kind s) 3) (Handover (byte s 2) (byte s 3))
+    (Stop (byte s 2) (word s 3))))

@@ -1,0 +1,203 @@
+-- The table: its limits, what stands in it, and how one part of it is replaced.
+-- Words: a controller is a process, a log its fifo-broadcast, pending its buffer, applied what it has scd-delivered.
+use Prim.Native.Nat.{ℕ, zero, suc, _+_, _-_}
+use mathlib.Core.Bool.{Bool}
+use mathlib.Core.List.{List, [], _∷_}
+use lib.ListN.{getD, set, replicate}
+use lib.Dec.{eqb, leb, ltb}
+use Rattle.model.specs.declared.ForwardNumber.{ForwardNumber}
+use Rattle.model.specs.declared.MessageNumber.{MessageNumber}
+use Rattle.model.specs.declared.Payload.{Payload}
+use Rattle.model.specs.declared.Message.{Message}
+use Rattle.model.specs.declared.Pending.{Pending}
+use Rattle.model.specs.declared.Controller.{Controller}
+use Rattle.model.specs.declared.Table.{Table}
+
+-- LIMITS
+
+-- the most controllers of a run, and the most messages
+abbrev pub seats : ℕ
+seats = 7
+
+abbrev pub capacity : ℕ
+capacity = 64
+
+-- greater than every forward number, and not less than itself
+abbrev pub absent : ℕ
+absent = 255
+
+-- a flag is 0 for no and anything else for yes
+abbrev pub yes? : ℕ → Bool
+yes? f = ltb 0 f
+
+-- MESSAGES
+
+abbrev pub report : ℕ → ℕ → Payload
+report a w = record { kind = 1; added = a; withdrawn = w }
+
+abbrev pub sync : Payload
+sync = record { kind = 2; added = 0; withdrawn = 0 }
+
+-- a place in a log, and a sender's number: separate counters, each from 1
+abbrev pub forwardNumber : ℕ → ForwardNumber
+forwardNumber k = record { 0 = k }
+
+abbrev pub messageNumber : ℕ → MessageNumber
+messageNumber k = record { 0 = k }
+
+abbrev pub messageOf : ℕ → MessageNumber → Payload → Message
+messageOf c k p = record { sender = c; number = k; payload = p }
+
+-- WHAT STANDS PAST THE END OF AN ARRAY, as in every read of the language: zero, and no elements
+
+abbrev pub none : MessageNumber
+none = record { 0 = 0 }
+
+abbrev pub noMessage : Message
+noMessage = record { sender = 0; number = none; payload = record { kind = 0; added = 0; withdrawn = 0 } }
+
+abbrev pub noPending : Pending
+noPending = record { held = 0; marks = [] }
+
+abbrev pub noController : Controller
+noController = record { running = 0; length = 0; log = []; read = []; pending = []; applied = []; highest = [] }
+
+-- A FRESH TABLE, AND ONE OF ZEROS
+
+-- not pending: every mark is absent
+abbrev pub blank : Pending
+blank = record { held = 0; marks = replicate 7 (record { 0 = absent }) }
+
+unfoldable pub idle : Controller
+idle = record {
+  running = 1;
+  length = 0;
+  log = replicate 64 0;
+  read = replicate 7 0;
+  pending = replicate 64 blank;
+  applied = replicate 64 0;
+  highest = replicate 7 none;
+}
+
+unfoldable pub fresh : ℕ → Table
+fresh n = record { n = n; count = 0; messages = replicate 64 noMessage; controllers = replicate 7 idle }
+
+unfoldable pub zeroController : Controller
+zeroController = record {
+  running = 0;
+  length = 0;
+  log = replicate 64 0;
+  read = replicate 7 0;
+  pending = replicate 64 (record { held = 0; marks = replicate 7 (record { 0 = 0 }) });
+  applied = replicate 64 0;
+  highest = replicate 7 none;
+}
+
+unfoldable pub blankTable : Table
+blankTable = record { n = 0; count = 0; messages = replicate 64 noMessage; controllers = replicate 7 zeroController }
+
+-- READS
+
+-- controller c, from 1
+unfoldable pub at : Table → ℕ → Controller
+at t c = getD (t .controllers) (c - 1) noController
+
+-- the message of slot s
+unfoldable pub message : Table → ℕ → Message
+message t s = getD (t .messages) s noMessage
+
+-- the slot at place k, from 0, of a log
+abbrev pub slotAt : Controller → ℕ → ℕ
+slotAt c k = getD (c .log) k 0
+
+-- how many entries of the log of o were read
+abbrev pub place : Controller → ℕ → ℕ
+place c o = getD (c .read) (o - 1) 0
+
+-- the buffer's entry of slot s, and whether s is in the buffer
+abbrev pub entry : List Pending → ℕ → Pending
+entry P s = getD P s noPending
+
+abbrev pub held : Controller → ℕ → Bool
+held c s = yes? (entry (c .pending) s .held)
+
+-- the forward number of controller f, from 0, for a buffered message
+abbrev pub mark : Pending → ℕ → ℕ
+mark p f = (getD (p .marks) f (record { 0 = 0 })) .0
+
+-- whether slot s was applied
+abbrev pub applied : Controller → ℕ → Bool
+applied c s = yes? (getD (c .applied) s 0)
+
+-- the highest number applied of sender x, from 1
+abbrev pub highest : Controller → ℕ → ℕ
+highest c x = (getD (c .highest) (x - 1) none) .0
+
+-- REPLACEMENTS, one for each part that changes
+
+unfoldable pub withController : Table → ℕ → Controller → Table
+withController t c x = record { n = t .n; count = t .count; messages = t .messages; controllers = set (t .controllers) (c - 1) x }
+
+-- one message more, in the next slot
+unfoldable pub withMessage : Table → Message → Table
+withMessage t m = record { n = t .n; count = t .count + 1; messages = set (t .messages) (t .count) m; controllers = t .controllers }
+
+-- a slot at the end of the log
+abbrev pub withEntry : Controller → ℕ → Controller
+withEntry c s = record {
+  running = c .running;
+  length = c .length + 1;
+  log = set (c .log) (c .length) s;
+  read = c .read;
+  pending = c .pending;
+  applied = c .applied;
+  highest = c .highest;
+}
+
+-- one entry more of the log of o read
+abbrev pub withRead : Controller → ℕ → Controller
+withRead c o = record {
+  running = c .running;
+  length = c .length;
+  log = c .log;
+  read = set (c .read) (o - 1) (place c o + 1);
+  pending = c .pending;
+  applied = c .applied;
+  highest = c .highest;
+}
+
+-- slot s in the buffer with these marks, and place k of controller o marked
+abbrev pub withMark : Controller → ℕ → List ForwardNumber → ℕ → ℕ → Controller
+withMark c s ms o k = record {
+  running = c .running;
+  length = c .length;
+  log = c .log;
+  read = c .read;
+  pending = set (c .pending) s (record { held = 1; marks = set ms (o - 1) (forwardNumber k) });
+  applied = c .applied;
+  highest = c .highest;
+}
+
+-- another buffer, and what was applied
+abbrev pub withDelivered : Controller → List Pending → List ℕ → List MessageNumber → Controller
+withDelivered c P A H = record {
+  running = c .running;
+  length = c .length;
+  log = c .log;
+  read = c .read;
+  pending = P;
+  applied = A;
+  highest = H;
+}
+
+-- stopped, with the first k entries of the log
+abbrev pub withStop : Controller → ℕ → Controller
+withStop c k = record {
+  running = 0;
+  length = k;
+  log = c .log;
+  read = c .read;
+  pending = c .pending;
+  applied = c .applied;
+  highest = c .highest;
+}

@@ -1,0 +1,89 @@
+-- Question 4: the table is well formed. Each clause stands for the words of document 01 above it.
+use Prim.Native.Nat.{ℕ, zero, suc, _+_, _-_}
+use mathlib.Core.Bool.{Bool, true, false, not, _&&_, _||_, Bool·beq, cond}
+use lib.Dec.{eqb, leb, ltb}
+use Rattle.lists.specs.Below.{count, all, distinct, greatest}
+use Rattle.model.specs.Tables.{seats, capacity, absent, yes?, at, message, slotAt, place, entry, held, mark, applied, highest}
+use Rattle.model.specs.declared.Payload.{Payload}
+use Rattle.model.specs.declared.Message.{Message}
+use Rattle.model.specs.declared.Controller.{Controller}
+use Rattle.model.specs.declared.Table.{Table}
+
+-- a controller's name
+unfoldable pub named : Table → ℕ → Bool
+named t c = ltb 0 c && leb c (t .n)
+
+-- A report's amount is from -360 to 360 and not 0; a sync has none.
+unfoldable pub magnitude : ℕ → Bool
+magnitude x = ltb 0 x && leb x 360
+
+unfoldable pub fairAmount : Payload → Bool
+fairAmount p =
+    eqb (p .kind) 1 && (magnitude (p .added) && eqb (p .withdrawn) 0 || eqb (p .added) 0 && magnitude (p .withdrawn))
+    || eqb (p .kind) 2 && (eqb (p .added) 0 && eqb (p .withdrawn) 0)
+
+unfoldable pub sameName : Message → Message → Bool
+sameName a b = eqb (a .sender) (b .sender) && eqb (a .number .0) (b .number .0)
+
+-- the log of c names slot s
+unfoldable pub inLog : Controller → ℕ → Bool
+inLog c s = ltb 0 (count (c .length) (λ k. eqb (slotAt c k) s))
+
+-- the greatest number that c has applied of sender x, 0 if none
+unfoldable pub greatestApplied : Table → Controller → ℕ → ℕ
+greatestApplied t c x = greatest (t .count) (λ s. cond (applied c s && eqb (message t s .sender) x) (message t s .number .0) 0)
+
+-- "n and the message count are in range"
+unfoldable pub inRange : Table → Bool
+inRange t = ltb 0 (t .n) && (leb (t .n) seats && leb (t .count) capacity)
+
+-- "messages have distinct names, senders 1 to n, numbers 1 to 64, and reports have amounts as in question 9"
+unfoldable pub goodMessage : Table → Message → Bool
+goodMessage t m = named t (m .sender) && (ltb 0 (m .number .0) && (leb (m .number .0) 64 && fairAmount (m .payload)))
+
+unfoldable pub goodMessages : Table → Bool
+goodMessages t =
+    distinct (t .count) (λ i j. sameName (message t i) (message t j))
+    && all (t .count) (λ s. goodMessage t (message t s))
+
+-- "a log names only messages of the run, none twice"
+unfoldable pub goodLog : Table → Controller → Bool
+goodLog t c =
+    leb (c .length) capacity
+    && (all (c .length) (λ k. ltb (slotAt c k) (t .count))
+    && distinct (c .length) (λ i j. eqb (slotAt c i) (slotAt c j)))
+
+-- "read positions do not pass log ends"
+unfoldable pub goodPlaces : Table → Controller → Bool
+goodPlaces t c = all (t .n) (λ o. leb (place c (suc o)) (at t (suc o) .length))
+
+-- "marks are absent or 1 to 64"
+unfoldable pub goodMark : ℕ → Bool
+goodMark k = eqb k absent || (ltb 0 k && leb k 64)
+
+unfoldable pub goodMarks : Table → Controller → Bool
+goodMarks t c = all (t .count) (λ s. not (held c s) || all seats (λ f. goodMark (mark (entry (c .pending) s) f)))
+
+-- "No message is both pending and applied at a controller"; and none of either is out of the run
+unfoldable pub goodBuffer : Table → Controller → Bool
+goodBuffer t c =
+    all (t .count) (λ s. not (held c s && applied c s))
+    && all capacity (λ s. ltb s (t .count) || (not (held c s) && not (applied c s)))
+
+-- "its highest applied numbers agree with what it applied"
+unfoldable pub goodHighest : Table → Controller → Bool
+goodHighest t c = all (t .n) (λ x. eqb (highest c (suc x)) (greatestApplied t c (suc x)))
+
+-- "A running controller's log names exactly what it has pending or applied, and is at least as long as any message number it sent"
+unfoldable pub goodRunning : Table → ℕ → Controller → Bool
+goodRunning t i c =
+    not (yes? (c .running))
+    || (all (t .count) (λ s. Bool·beq (inLog c s) (held c s || applied c s))
+    && all (t .count) (λ s. not (eqb (message t s .sender) i) || leb (message t s .number .0) (c .length)))
+
+unfoldable pub goodController : Table → ℕ → Controller → Bool
+goodController t i c =
+    goodLog t c && (goodPlaces t c && (goodMarks t c && (goodBuffer t c && (goodHighest t c && goodRunning t i c))))
+
+unfoldable pub wellFormed : Table → Bool
+wellFormed t = inRange t && (goodMessages t && all (t .n) (λ i. goodController t (suc i) (at t (suc i))))

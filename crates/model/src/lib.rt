@@ -1,0 +1,206 @@
+// The table of all controllers, its limits and its constructors. What each function answers is a definition of specs/.
+ghost use mathlib.Core.Path.{_≡_};
+ghost use Rattle.model.specs.Tables.{report, sync, messageOf, forwardNumber, messageNumber, fresh, blankTable};
+
+// A place in a log (the source's sn_g), 1 to 64; 255 is absent.
+#[repr(C)]
+pub struct ForwardNumber(pub u8);
+
+// The number that a sender gives its message (the source's sn), 1 to 64; 0 is none.
+#[repr(C)]
+pub struct MessageNumber(pub u8);
+
+// What a message says: kind 1 is a report and 2 a sync; the amount is two magnitudes, at most one of them not 0.
+#[repr(C)]
+pub struct Payload {
+    pub kind: u8,
+    pub added: u16,
+    pub withdrawn: u16,
+}
+
+// A message that is scd-broadcast. Its index in the table is its slot.
+#[repr(C)]
+pub struct Message {
+    pub sender: u8,
+    pub number: MessageNumber,
+    pub payload: Payload,
+}
+
+// The name of a message outside the table.
+#[repr(C)]
+pub struct Name {
+    pub sender: u8,
+    pub number: MessageNumber,
+}
+
+// A buffered message: each controller's forward number for it. Flags are 0 for no and anything else for yes.
+#[repr(C)]
+pub struct Pending {
+    pub held: u8,
+    pub marks: [ForwardNumber; 7],
+}
+
+// A process: what it has forwarded, read, buffered and scd-delivered. Logs hold slots; pending and applied go by slot.
+#[repr(C)]
+pub struct Controller {
+    pub running: u8,
+    pub length: usize,
+    pub log: [u8; 64],
+    pub read: [usize; 7],
+    pub pending: [Pending; 64],
+    pub applied: [u8; 64],
+    pub highest: [MessageNumber; 7],
+}
+
+#[repr(C)]
+pub struct Table {
+    pub n: usize,
+    pub count: usize,
+    pub messages: [Message; 64],
+    pub controllers: [Controller; 7],
+}
+
+// The events: a message is broadcast, an entry of a log is fifo-delivered, a process crashes.
+pub enum Event {
+    Send { sender: u8, payload: Payload },
+    Handover { receiver: u8, owner: u8 },
+    Stop { controller: u8, kept: usize },
+}
+
+impl ForwardNumber {
+    pub const ABSENT: u8 = 255;
+
+    // A place in a log, from a count of its entries.
+    pub fn of(place: u8) -> ForwardNumber
+        ensures { λ r. ⌜ r ≡ forwardNumber place ⌝ }
+    {
+        ForwardNumber(place)
+    }
+}
+
+impl MessageNumber {
+    pub const NONE: u8 = 0;
+
+    // A sender's number, from a count of its log's entries.
+    pub fn of(number: u8) -> MessageNumber
+        ensures { λ r. ⌜ r ≡ messageNumber number ⌝ }
+    {
+        MessageNumber(number)
+    }
+}
+
+impl Payload {
+    pub const REPORT: u8 = 1;
+
+    pub const SYNC: u8 = 2;
+
+    pub const AMOUNT: u16 = 360;
+
+    pub fn report(added: u16, withdrawn: u16) -> Payload
+        ensures { λ r. ⌜ r ≡ report added withdrawn ⌝ }
+    {
+        Payload {
+            kind: Payload::REPORT,
+            added,
+            withdrawn,
+        }
+    }
+
+    pub fn sync() -> Payload
+        ensures { λ r. ⌜ r ≡ sync ⌝ }
+    {
+        Payload {
+            kind: Payload::SYNC,
+            added: 0,
+            withdrawn: 0,
+        }
+    }
+}
+
+impl Message {
+    pub fn of(sender: u8, number: MessageNumber, payload: Payload) -> Message
+        ensures { λ r. ⌜ r ≡ messageOf sender number payload ⌝ }
+    {
+        Message {
+            sender,
+            number,
+            payload,
+        }
+    }
+}
+
+impl Table {
+    pub const CONTROLLERS: usize = 7;
+
+    pub const MESSAGES: usize = 64;
+
+    pub const SCRATCH: usize = 4096;
+
+    // A table of n controllers in which nothing was sent.
+    pub fn fresh(n: usize) -> Table
+        ensures { λ r. ⌜ r ≡ fresh n ⌝ }
+    {
+        let none = Message {
+            sender: 0,
+            number: MessageNumber(MessageNumber::NONE),
+            payload: Payload {
+                kind: 0,
+                added: 0,
+                withdrawn: 0,
+            },
+        };
+        let nothing = Pending {
+            held: 0,
+            marks: [ForwardNumber(ForwardNumber::ABSENT); 7],
+        };
+        let idle = Controller {
+            running: 1,
+            length: 0,
+            log: [0; 64],
+            read: [0; 7],
+            pending: [nothing; 64],
+            applied: [0; 64],
+            highest: [MessageNumber(MessageNumber::NONE); 7],
+        };
+        Table {
+            n,
+            count: 0,
+            messages: [none; 64],
+            controllers: [idle; 7],
+        }
+    }
+
+    // The table with every field zero, which a refused request answers.
+    pub fn blank() -> Table
+        ensures { λ r. ⌜ r ≡ blankTable ⌝ }
+    {
+        let none = Message {
+            sender: 0,
+            number: MessageNumber(0),
+            payload: Payload {
+                kind: 0,
+                added: 0,
+                withdrawn: 0,
+            },
+        };
+        let nothing = Pending {
+            held: 0,
+            marks: [ForwardNumber(0); 7],
+        };
+        let zero = Controller {
+            running: 0,
+            length: 0,
+            log: [0; 64],
+            read: [0; 7],
+            pending: [nothing; 64],
+            applied: [0; 64],
+            highest: [MessageNumber(0); 7],
+        };
+        Table {
+            n: 0,
+            count: 0,
+            messages: [none; 64],
+            controllers: [zero; 7],
+        }
+    }
+}
