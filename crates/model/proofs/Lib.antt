@@ -1,1 +1,4 @@
 pub mod WellFormed
+pub mod Computed
+pub mod Largest
+pub mod Cases

@@ -42,13 +42,15 @@ unfoldable pub accepted : Table → List ℕ → Outcome
 accepted t s =
     let e = decode s in
     let t′ = next t e in
-    let f = finishes t (appliedBy t e) (receiver e) in
+    let S = appliedBy t e in
+    let f = finishes t S (receiver e) in
+    let x = total t′ (receiver e) in
     record {
       answer = record {
         number = 0;
-        names = namesOf t (appliedBy t e);
+        names = namesOf t S;
         finished = f;
-        total = cond f (total t′ (receiver e)) (pos 0);
+        total = cond f x (pos 0);
         rest = behind s;
       };
       table = t′;

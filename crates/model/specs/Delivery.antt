@@ -40,11 +40,11 @@ has S s = getD S s false
 module _ (N : ℕ) (held fit : ℕ → Bool) (before : ℕ → ℕ → Bool) where
   -- s goes before each held slot outside S
   unfoldable pub clears : Slots → ℕ → Bool
-  clears S s = all N (λ t. has S t || (not (held t) || before s t))
+  clears S s = all N (λ t. let b = before s t in has S t || (not (held t) || b))
 
   -- one round of removals
   unfoldable pub round : Slots → Slots
-  round S = tabulate N (λ s. has S s && clears S s)
+  round S = tabulate N (λ s. let c = clears S s in has S s && c)
 
   -- rounds until one removes nothing
   unfoldable pub settle : ℕ → Slots → Slots

@@ -52,9 +52,13 @@ handoverSet t r o = applicable (t .n) (received t r o .pending)
 
 -- 3. APPLY (scd-delivery): lines 17 to 20
 
+-- the number of a message of sender x; 0 for another's
+unfoldable pub numberOf : ℕ → Message → ℕ
+numberOf x m = cond (eqb (m .sender) x) (m .number .0) 0
+
 -- the highest number of sender x, from 1, in S
 unfoldable pub highestIn : Table → Slots → ℕ → ℕ
-highestIn t S x = greatest (t .count) (λ s. cond (has S s && eqb (message t s .sender) x) (message t s .number .0) 0)
+highestIn t S x = greatest (t .count) (λ s. let k = numberOf x (message t s) in cond (has S s) k 0)
 
 -- The slots of S leave the buffer as one; with S empty nothing changes.
 unfoldable pub deliver : Table → Controller → Slots → Controller
@@ -84,7 +88,7 @@ appliedBy t (Stop c k) = []
 
 -- the sum of a weight over what c has applied
 unfoldable pub weigh : (Payload → ℕ) → Table → ℕ → ℕ
-weigh w t c = sum (t .count) (λ s. cond (applied (at t c) s) (w (message t s .payload)) 0)
+weigh w t c = sum (t .count) (λ s. let x = w (message t s .payload) in cond (applied (at t c) s) x 0)
 
 unfoldable pub total : Table → ℕ → ℤ
 total t c = pos (weigh (λ p. p .added) t c) -ℤ pos (weigh (λ p. p .withdrawn) t c)
@@ -107,7 +111,8 @@ unfoldable pub namesBelow : ℕ → Table → Slots → List Name
 namesBelow zero t S = []
 namesBelow (suc k) t S =
     let r = namesBelow k t S in
-    cond (has S k) (insert (nameOf (message t k)) r) r
+    let more = insert (nameOf (message t k)) r in
+    cond (has S k) more r
 
 unfoldable pub namesOf : Table → Slots → List Name
 namesOf t S = namesBelow (t .count) t S

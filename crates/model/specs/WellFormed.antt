@@ -4,6 +4,7 @@ use mathlib.Core.Bool.{Bool, true, false, not, _&&_, _||_, Bool·beq, cond}
 use lib.Dec.{eqb, leb, ltb}
 use Rattle.lists.specs.Below.{count, all, distinct, greatest}
 use Rattle.model.specs.Tables.{seats, capacity, absent, yes?, at, message, slotAt, place, entry, held, mark, applied, highest}
+use Rattle.model.specs.Events.{numberOf}
 use Rattle.model.specs.declared.Payload.{Payload}
 use Rattle.model.specs.declared.Message.{Message}
 use Rattle.model.specs.declared.Controller.{Controller}
@@ -31,7 +32,7 @@ inLog c s = ltb 0 (count (c .length) (λ k. eqb (slotAt c k) s))
 
 -- the greatest number that c has applied of sender x, 0 if none
 unfoldable pub greatestApplied : Table → Controller → ℕ → ℕ
-greatestApplied t c x = greatest (t .count) (λ s. cond (applied c s && eqb (message t s .sender) x) (message t s .number .0) 0)
+greatestApplied t c x = greatest (t .count) (λ s. let k = numberOf x (message t s) in cond (applied c s) k 0)
 
 -- "n and the message count are in range"
 unfoldable pub inRange : Table → Bool

@@ -1,0 +1,215 @@
+-- The cases that document 01 marks P, and one for each pair of questions in a row that can both be no: one table, one theorem.
+-- Assumes nothing.
+use mathlib.Core.Path.{_≡_, refl}
+use Prim.Native.Nat.{ℕ, zero, suc, _+_, _*_, _/_, _%_, _-_}
+use mathlib.Core.Bool.{cond}
+use mathlib.Core.List.{List, [], _∷_, _++_, map}
+use lib.Dec.{eqb}
+use lib.IntN.{ℤ, pos, negsuc}
+use Rattle.model.specs.Tables.{fresh}
+use Rattle.model.specs.Calls.{EventAnswer, Outcome, FreshAnswer, LookAnswer, step, event, freshTable, look}
+use Rattle.model.specs.Runs.{Progress, RunAnswer, RunOutcome, progress, fileRun}
+use Rattle.model.specs.declared.Name.{Name}
+use Rattle.model.specs.declared.Table.{Table}
+use Rattle.model.proofs.Computed.{computed}
+
+-- RECORDS
+
+report : ℕ → ℕ → List ℕ
+report c x = 4 ∷ 1 ∷ c ∷ x / 256 ∷ x % 256 ∷ []
+
+sync : ℕ → List ℕ
+sync c = 2 ∷ 2 ∷ c ∷ []
+
+handover : ℕ → ℕ → List ℕ
+handover r o = 3 ∷ 3 ∷ r ∷ o ∷ []
+
+stop : ℕ → ℕ → List ℕ
+stop c k = 4 ∷ 4 ∷ c ∷ 0 ∷ k ∷ []
+
+minus : ℕ → ℕ
+minus x = 65536 - x
+
+times : ℕ → List (List ℕ) → List (List ℕ)
+times zero xs = []
+times (suc k) xs = xs ++ times k xs
+
+-- CASES: n controllers; the records of accepted events; then a call
+
+data Call : Type 0 where
+  -- the single event: its bytes, and how many bytes of scratch
+  single : List ℕ → ℕ → Call
+  -- the panel look
+  panel : ℕ → Call
+
+data Case : Type 0 where
+  events : ℕ → List (List ℕ) → Call → Case
+  -- a request for a fresh table
+  request : ℕ → Case
+  -- a file, with no bytes lent
+  file : List ℕ → Case
+  -- the records of a file past question 3, and how many bytes of scratch and of listing
+  run : List ℕ → ℕ → ℕ → Case
+
+-- the number; the set of each accepted event, a message as 100 times its sender plus its number; and the total that a look shows
+record Given : Type 0 where
+  number : ℕ
+  sets : List (List ℕ)
+  shown : ℤ
+
+abbrev coded : Name → ℕ
+coded m = m .sender * 100 + m .number .0
+
+-- the set of an accepted event; a refused one as 1000 plus its number
+abbrev setOf : EventAnswer → List ℕ
+setOf a = cond (eqb (a .number) 0) (map coded (a .names)) ((1000 + a .number) ∷ [])
+
+called : Table → Call → Given
+called t (single s room) =
+    let a = event t s room .answer in
+    record { number = a .number; sets = cond (eqb (a .number) 0) (map coded (a .names) ∷ []) []; shown = pos 0 }
+called t (panel c) = let a = look t c in record { number = a .number; sets = []; shown = a .total }
+
+played : Table → List (List ℕ) → Call → Given
+played t [] c = called t c
+played t (r ∷ rs) c =
+    let o = step t r 4096 in
+    let g = played (o .table) rs c in
+    record { number = g .number; sets = setOf (o .answer) ∷ g .sets; shown = g .shown }
+
+given : Case → Given
+given (events n rs c) = played (fresh n) rs c
+given (request n) = record { number = freshTable n .number; sets = []; shown = pos 0 }
+given (file s) = record { number = fileRun s [] [] .answer .number; sets = []; shown = pos 0 }
+given (run s room space) = record { number = progress s room space .number; sets = []; shown = pos 0 }
+
+record Row : Type 0 where
+  of : Case
+  gives : Given
+
+abbrev row : Case → ℕ → List (List ℕ) → Row
+row c k ss = record { of = c; gives = record { number = k; sets = ss; shown = pos 0 } }
+
+-- accepted events before a single event, and their sets
+abbrev case : ℕ → List (List ℕ) → List ℕ → ℕ → ℕ → List (List ℕ) → Row
+case n rs s room k ss = row (events n rs (single s room)) k ss
+
+-- no event applies anything, and j are accepted
+abbrev quiet : ℕ → List (List ℕ) → List ℕ → ℕ → ℕ → ℕ → Row
+quiet n rs s room k j = case n rs s room k (times j ([] ∷ []))
+
+abbrev shows : ℕ → List (List ℕ) → ℕ → List (List ℕ) → ℤ → Row
+shows n rs c ss x = record { of = events n rs (panel c); gives = record { number = 0; sets = ss; shown = x } }
+
+-- the run of document 01 but for its last record
+worked : List (List ℕ)
+unfolding report handover minus
+worked =
+    report 1 30 ∷ handover 1 1 ∷ handover 2 1 ∷ handover 1 2 ∷ report 3 (minus 2) ∷ handover 2 3 ∷ handover 2 2 ∷ handover 2 2 ∷ handover 3 2 ∷ handover 3 2 ∷ []
+
+-- log 1 is of length 3, and read to place 2
+three : List (List ℕ)
+unfolding report handover
+three = report 1 5 ∷ report 2 5 ∷ report 3 5 ∷ handover 1 2 ∷ handover 1 3 ∷ handover 2 1 ∷ handover 2 1 ∷ []
+
+-- k messages of a machine of one, each applied: the first of the sets is that of message x
+full : ℕ → List (List ℕ)
+unfolding report handover times
+full k = times k (report 1 1 ∷ handover 1 1 ∷ [])
+
+each : ℕ → ℕ → List (List ℕ)
+each zero x = []
+each (suc k) x = [] ∷ (x ∷ []) ∷ each k (suc x)
+
+table : List Row
+unfolding report sync handover stop minus times worked three full each
+table =
+    -- P: the sets of the worked run; event 10 applies nothing
+    case 3 worked (handover 3 1) 4096 0 ([] ∷ [] ∷ [] ∷ (101 ∷ []) ∷ [] ∷ [] ∷ (101 ∷ []) ∷ (301 ∷ []) ∷ [] ∷ [] ∷ (101 ∷ 301 ∷ []) ∷ [])
+    -- P: n = 4, two marks: not applied; three: applied
+    ∷ quiet 4 (report 1 5 ∷ handover 1 1 ∷ handover 2 1 ∷ []) (handover 1 2) 4096 0 4
+    ∷ case 4 (report 1 5 ∷ handover 1 1 ∷ handover 2 1 ∷ handover 1 2 ∷ handover 3 1 ∷ []) (handover 1 3) 4096 0 ([] ∷ [] ∷ [] ∷ [] ∷ [] ∷ (101 ∷ []) ∷ [])
+    -- P: n = 1
+    ∷ case 1 (report 1 5 ∷ []) (handover 1 1) 4096 0 ([] ∷ (101 ∷ []) ∷ [])
+    -- P: amounts
+    ∷ quiet 1 [] (report 1 360) 4096 0 1
+    ∷ quiet 1 [] (report 1 361) 4096 9 0
+    ∷ quiet 1 [] (report 1 0) 4096 9 0
+    ∷ quiet 1 [] (report 1 (minus 360)) 4096 0 1
+    ∷ quiet 1 [] (report 1 (minus 361)) 4096 9 0
+    -- P: the second report while the first is pending
+    ∷ quiet 2 (report 1 1 ∷ []) (report 1 1) 4096 11 1
+    -- P: a stop at log length 3, highest read position 2
+    ∷ quiet 4 three (stop 1 1) 4096 14 7
+    ∷ quiet 4 three (stop 1 2) 4096 0 8
+    ∷ quiet 4 three (stop 1 3) 4096 0 8
+    ∷ quiet 4 three (stop 1 4) 4096 14 7
+    -- 4 before 5, 5 before 6, 6 before 7, 7 before 8
+    ∷ quiet 0 [] [] 0 4 0
+    ∷ quiet 1 [] [] 0 5 0
+    ∷ quiet 1 [] (3 ∷ 9 ∷ 1 ∷ []) 0 5 0
+    ∷ quiet 1 [] (0 ∷ 1 ∷ []) 0 6 0
+    ∷ quiet 1 [] (1 ∷ 9 ∷ []) 0 6 0
+    ∷ quiet 1 [] (3 ∷ 1 ∷ 9 ∷ 0 ∷ []) 0 7 0
+    -- a report: 8 before 9 before 10 before 11 before 12 before 15
+    ∷ quiet 1 [] (report 2 361) 0 8 0
+    ∷ quiet 2 (stop 1 0 ∷ []) (report 1 361) 0 9 1
+    ∷ quiet 2 (report 1 1 ∷ stop 1 1 ∷ []) (report 1 360) 0 10 2
+    -- P: the 64th message is accepted, and the next gives 11 while it is pending
+    ∷ case 1 (full 63 ++ (report 1 1 ∷ [])) (report 1 1) 0 11 (each 63 101 ++ ([] ∷ []))
+    -- P: the 65th message gives 12
+    ∷ case 1 (full 64) (report 1 1) 0 12 (each 64 101)
+    ∷ quiet 1 [] (report 1 1) 4095 15 0
+    -- a sync: 8 before 10
+    ∷ quiet 2 (stop 1 0 ∷ []) (sync 3) 0 8 1
+    ∷ quiet 2 (stop 1 0 ∷ []) (sync 1) 0 10 1
+    -- a handover: 8 before 10 before 13 before 15
+    ∷ quiet 2 (stop 1 0 ∷ []) (handover 1 3) 0 8 1
+    ∷ quiet 2 (stop 1 0 ∷ []) (handover 1 2) 0 10 1
+    ∷ quiet 2 [] (handover 1 2) 0 13 0
+    ∷ quiet 2 (report 2 1 ∷ []) (handover 1 2) 4095 15 1
+    -- a log owner need not run
+    ∷ quiet 2 (report 2 1 ∷ stop 2 1 ∷ []) (handover 1 2) 4096 0 3
+    -- a stop: 8 before 10 before 14 before 15
+    ∷ quiet 2 [] (stop 3 1) 0 8 0
+    ∷ quiet 2 (stop 1 0 ∷ []) (stop 1 1) 0 10 1
+    ∷ quiet 2 [] (stop 1 1) 0 14 0
+    ∷ quiet 2 [] (stop 1 0) 4095 15 0
+    -- a file: 1 before 2 before 3 before 5; 15 before 16
+    ∷ row (file (1 ∷ [])) 1 []
+    ∷ row (file (2 ∷ [])) 1 []
+    ∷ row (file (2 ∷ 8 ∷ [])) 2 []
+    ∷ row (file (1 ∷ 8 ∷ 9 ∷ [])) 3 []
+    ∷ row (file (1 ∷ 0 ∷ [])) 3 []
+    ∷ row (file (1 ∷ 3 ∷ [])) 0 []
+    ∷ row (file (1 ∷ 1 ∷ 9 ∷ [])) 5 []
+    ∷ row (run (1 ∷ 1 ∷ report 1 5 ++ handover 1 1) 4095 0) 15 []
+    ∷ row (run (1 ∷ 1 ∷ report 1 5 ++ handover 1 1) 4096 9) 16 []
+    ∷ row (run (1 ∷ 1 ∷ report 1 5 ++ handover 1 1) 4096 10) 0 []
+    -- a fresh table: 1 to 7 controllers
+    ∷ row (request 0) 3 []
+    ∷ row (request 1) 0 []
+    ∷ row (request 7) 0 []
+    ∷ row (request 8) 3 []
+    -- a look: 4 before 8; the total of the worked run, and a negative one
+    ∷ row (events 0 [] (panel 1)) 4 []
+    ∷ row (events 2 [] (panel 0)) 8 []
+    ∷ row (events 2 [] (panel 3)) 8 []
+    ∷ shows 3 worked 2 ([] ∷ [] ∷ [] ∷ (101 ∷ []) ∷ [] ∷ [] ∷ (101 ∷ []) ∷ (301 ∷ []) ∷ [] ∷ [] ∷ []) (pos 28)
+    ∷ shows 1 (report 1 (minus 7) ∷ handover 1 1 ∷ stop 1 1 ∷ []) 1 ([] ∷ (101 ∷ []) ∷ [] ∷ []) (negsuc 6)
+    ∷ []
+
+results : List Row → List Given
+results [] = []
+results (r ∷ rs) = given (r .of) ∷ results rs
+
+expected : List Row → List Given
+expected [] = []
+expected (r ∷ rs) = r .gives ∷ expected rs
+
+pub record AllCases : Type 0 where
+  hold : results table ≡ expected table
+
+pub all-cases : AllCases
+unfolding computed results expected table called played given report sync handover stop minus times worked three full each
+all-cases = record { hold = refl }

@@ -1,0 +1,201 @@
+-- The set applied is closed, contains every closed set, and is the only set with both: for every table, well formed or not.
+-- Line 16's own loop, which removes one message at a time in any order, ends in it too: `removals-end`. Assumes nothing.
+use mathlib.Core.Path.{_≡_, refl, sym, ap, _∙_}
+use mathlib.Core.Logic.{_≢_}
+use mathlib.Core.Bool.{Bool, true, false, not, _&&_, _||_, cond, true≢false, false≢true}
+use mathlib.Core.List.{List, [], _∷_}
+use Prim.Native.Nat.{ℕ, zero, suc, min, _+_, _≤_, _<_}
+use native.Mathlib.Omega.{arith}
+use native.Mathlib.Decide.{ℕ-discrete}
+use lib.ListN.{length, getD, set, length-set}
+use lib.Seq.{ext-getD, getD-set-same, getD-set-other}
+use lib.Dec.{eqb, leb, ltb}
+use borrow.Author.Tests.{eqb-true, eqb-false, ltb-true, leb-true}
+use Rattle.lists.specs.Below.{count, all}
+use Rattle.lists.specs.Build.{tabulate}
+use Rattle.lists.proofs.Tests.{cond-case, and-left, and-right, both, bool-eq, contradiction}
+use Rattle.lists.proofs.Below.{all-at, all-of, Within, count-le, count-eq, count-pos, count-bound, apart-count}
+use Rattle.lists.proofs.Build.{length-tabulate, getD-tabulate}
+use Rattle.model.specs.Tables.{seats, capacity, yes?, entry, mark}
+use Rattle.model.specs.Delivery.{Slots, has, clears, round, settle, largest, majorities, majority, markCount, beforeCount, goesBefore, applicable}
+use Rattle.model.specs.declared.Pending.{Pending}
+
+module _ (N : ℕ) (held fit : ℕ → Bool) (before : ℕ → ℕ → Bool) where
+  -- each member may be chosen, and goes before each held slot that is no member
+  pub record Closed (S : Slots) : Type 0 where
+    pub chosen : (s : ℕ) → s < N → has S s ≡ true → (held s && fit s) ≡ true
+    pub first : (s t : ℕ) → s < N → t < N → has S s ≡ true → held t ≡ true → has S t ≡ false → before s t ≡ true
+
+  pub record Largest (S : Slots) : Type 0 where
+    pub size : length S ≡ N
+    pub closed : Closed S
+    pub contains : (R : Slots) → Closed R → Within N (has R) (has S)
+
+  -- the test of one pair, and what it says
+  keep-true : (a b c : Bool) → (a || (not b || c)) ≡ true → b ≡ true → a ≡ false → c ≡ true
+  keep-true true b c e p q = absurd (true≢false q)
+  keep-true false true c e p q = e
+  keep-true false false c e p q = absurd (false≢true p)
+
+  keep-of : (a b c : Bool) → (b ≡ true → a ≡ false → c ≡ true) → (a || (not b || c)) ≡ true
+  keep-of true b c f = refl
+  keep-of false true c f = f refl refl
+  keep-of false false c f = refl
+
+  clears-at : (S : Slots) (s : ℕ) → clears N held fit before S s ≡ true → (t : ℕ) → t < N → held t ≡ true → has S t ≡ false → before s t ≡ true
+  unfolding clears
+  clears-at S s e t h = keep-true (has S t) (held t) (before s t) (all-at N _ e t h)
+
+  has-round : (S : Slots) (s : ℕ) → s < N → has (round N held fit before S) s ≡ (has S s && clears N held fit before S s)
+  unfolding round
+  has-round S s h = getD-tabulate N _ false s h
+
+  round-within : (S : Slots) → Within N (has (round N held fit before S)) (has S)
+  round-within S s h e = and-left (has S s) _ (sym (has-round S s h) ∙ e)
+
+  outside : (S R : Slots) → Within N (has R) (has S) → (t : ℕ) → t < N → has S t ≡ false → has R t ≡ false
+  outside S R w t h q = go (has R t) refl
+    where
+      go : (b : Bool) → has R t ≡ b → has R t ≡ false
+      go true e = contradiction (w t h e) q
+      go false e = e
+
+  -- a round keeps the members of a closed set
+  round-contains : (S R : Slots) → Closed R → Within N (has R) (has S) → Within N (has R) (has (round N held fit before S))
+  unfolding clears
+  round-contains S R c w s h e =
+      has-round S s h ∙ both (w s h e)
+      (all-of N _ (λ t ht. keep-of (has S t) (held t) (before s t) (λ p q. c .first s t h ht e p (outside S R w t ht q))))
+
+  -- a set all of whose members may be chosen
+  abbrev Fit : Slots → Type 0
+  Fit S = Within N (has S) (λ s. held s && fit s)
+
+  -- what a round leaves as it was is closed
+  stable-closed : (S : Slots) → Fit S → count N (has (round N held fit before S)) ≡ count N (has S) → Closed S
+  stable-closed S f e = record {
+    chosen = f;
+    first = λ s t hs ht m.
+        clears-at S s (and-right (has S s) _ (sym (has-round S s hs) ∙ count-eq N (has (round N held fit before S)) (has S) (round-within S) e s hs m)) t ht;
+  }
+
+  settle-closed : (k : ℕ) (S : Slots) → count N (has S) ≤ k → Fit S → Closed (settle N held fit before k S)
+  unfolding settle
+  settle-closed zero S le f = record {
+    chosen = f;
+    first = λ s t hs ht m. absurd (omega (arith, count-pos N (has S) s hs m));
+  }
+  settle-closed (suc k) S le f =
+      cond-case Closed (eqb (count N (has (round N held fit before S))) (count N (has S))) S _
+      (λ e. stable-closed S f (eqb-true _ _ e))
+      (λ e. settle-closed k (round N held fit before S)
+      (omega (arith, count-le N (has (round N held fit before S)) (has S) (round-within S), eqb-false (count N (has (round N held fit before S))) (count N (has S)) e))
+      (λ s h m. f s h (round-within S s h m)))
+
+  settle-contains : (R : Slots) → Closed R → (k : ℕ) (S : Slots) → Within N (has R) (has S) → Within N (has R) (has (settle N held fit before k S))
+  unfolding settle
+  settle-contains R c zero S w = w
+  settle-contains R c (suc k) S w =
+      cond-case (λ X. Within N (has R) (has X)) (eqb (count N (has (round N held fit before S))) (count N (has S))) S _
+      (λ _. w) (λ _. settle-contains R c k (round N held fit before S) (round-contains S R c w))
+
+  settle-size : (k : ℕ) (S : Slots) → length S ≡ N → length (settle N held fit before k S) ≡ N
+  unfolding settle round
+  settle-size zero S e = e
+  settle-size (suc k) S e =
+      cond-case (λ X. length X ≡ N) (eqb (count N (has (round N held fit before S))) (count N (has S))) S _
+      (λ _. e) (λ _. settle-size k (round N held fit before S) (length-tabulate N _))
+
+  pub largest-is : Largest (largest N held fit before)
+  unfolding largest
+  largest-is = record {
+    size = settle-size N _ (length-tabulate N _);
+    closed = settle-closed N _ (count-bound N _) (λ s h m. sym (getD-tabulate N _ false s h) ∙ m);
+    contains = λ R c. settle-contains R c N _ (λ s h m. getD-tabulate N _ false s h ∙ c .chosen s h m);
+  }
+
+  pub largest-unique : (S R : Slots) → Largest S → Largest R → S ≡ R
+  largest-unique S R p q =
+      ext-getD false S R (p .size ∙ sym (q .size))
+      (λ s h. let hn : s < N = rw (p .size) at h in bool-eq (has S s) (has R s) (q .contains S (p .closed) s hn) (p .contains R (q .closed) s hn))
+
+  -- THE LOOP OF LINE 16
+
+  -- the candidates of line 15, and sets that its loop reaches from them: a member is removed that does not go before some held non-member
+  pub data Reached : Slots → Type 0 where
+    candidates : Reached (tabulate N (λ s. held s && fit s))
+    removal : {S : Slots} (s t : ℕ) → s < N → t < N → has S s ≡ true → held t ≡ true → has S t ≡ false → before s t ≡ false
+        → Reached S → Reached (set S s false)
+
+  reached-size : {S : Slots} → Reached S → length S ≡ N
+  reached-size candidates = length-tabulate N _
+  reached-size (removal {S = S} s t hs ht m h q b r) = length-set S s false ∙ reached-size r
+
+  -- a removal leaves what was there and is not the one removed
+  removed-other : (S : Slots) (s k : ℕ) → k ≢ s → has (set S s false) k ≡ has S k
+  removed-other S s k d = getD-set-other S s k false false d
+
+  reached-fit : {S : Slots} → Reached S → Fit S
+  reached-fit candidates s h m = sym (getD-tabulate N _ false s h) ∙ m
+  reached-fit (removal {S = S} s t hs ht m h q b r) k l e = go (ℕ-discrete k s) (λ m′. reached-fit r k l m′)
+    where
+      go : Dec (k ≡ s) → (has S k ≡ true → (held k && fit k) ≡ true) → (held k && fit k) ≡ true
+      go (yes p) f = contradiction e (rw p (getD-set-same S s false false (omega (arith, reached-size r))))
+      go (no p) f = f (sym (removed-other S s k p) ∙ e)
+
+  reached-contains : {S : Slots} → Reached S → (R : Slots) → Closed R → Within N (has R) (has S)
+  reached-contains candidates R c s h m = getD-tabulate N _ false s h ∙ c .chosen s h m
+  reached-contains (removal {S = S} s t hs ht m h q b r) R c k l e = go (ℕ-discrete k s) (λ k′ l′ e′. reached-contains r R c k′ l′ e′)
+    where
+      go : Dec (k ≡ s) → Within N (has R) (has S) → has (set S s false) k ≡ true
+      go (yes p) w = contradiction (c .first s t hs ht (rw p at e) h (outside S R w t ht q)) b
+      go (no p) w = removed-other S s k p ∙ w k l e
+
+  -- where nothing is left to remove, the loop has found the largest set
+  pub removals-end : {S : Slots} → Reached S
+      → ((s t : ℕ) → s < N → t < N → has S s ≡ true → held t ≡ true → has S t ≡ false → before s t ≡ true)
+      → S ≡ largest N held fit before
+  removals-end {S} r f =
+      largest-unique S _ (record { size = reached-size r; closed = record { chosen = reached-fit r; first = f }; contains = reached-contains r }) largest-is
+
+-- THE SET THAT A CONTROLLER APPLIES
+
+module _ (n : ℕ) (P : List Pending) where
+  abbrev pub inBuffer : ℕ → Bool
+  inBuffer s = yes? (entry P s .held)
+
+  abbrev pub candidate : ℕ → Bool
+  candidate s = leb (majority n) (markCount n (entry P s))
+
+  abbrev pub precedes : ℕ → ℕ → Bool
+  precedes s t = goesBefore n (entry P s) (entry P t)
+
+  pub applicable-largest : Largest capacity inBuffer candidate precedes (applicable n P)
+  unfolding applicable
+  applicable-largest = largest-is capacity inBuffer candidate precedes
+
+  pub applicable-unique : (S : Slots) → Largest capacity inBuffer candidate precedes S → S ≡ applicable n P
+  applicable-unique S l = largest-unique capacity inBuffer candidate precedes S (applicable n P) l applicable-largest
+
+  -- what is applied was in the buffer
+  pub applicable-held : (s : ℕ) → s < capacity → has (applicable n P) s ≡ true → inBuffer s ≡ true
+  applicable-held s h m = and-left (inBuffer s) (candidate s) (applicable-largest .closed .chosen s h m)
+
+-- MAJORITIES
+
+-- twice a majority is more than all, for every table
+pub majority-more : (n : ℕ) → min n seats < majority n + majority n
+unfolding majority all
+majority-more n =
+    ltb-true (min n seats) (majority n + majority n) (all-at 8 (λ k. ltb k (getD majorities k 0 + getD majorities k 0)) refl (min n seats) (omega arith))
+
+-- two majorities meet, so two messages do not each go before the other
+pub not-both-before : (n : ℕ) (p q : Pending) → goesBefore n p q ≡ true → goesBefore n q p ≡ true → ⊥
+unfolding goesBefore beforeCount
+not-both-before n p q e f =
+    let a = leb-true (majority n) (count (min n seats) (λ k. ltb (mark p k) (mark q k))) e in
+    let b = leb-true (majority n) (count (min n seats) (λ k. ltb (mark q k) (mark p k))) f in
+    let c = apart-count (min n seats) (λ k. ltb (mark p k) (mark q k)) (λ k. ltb (mark q k) (mark p k))
+    (λ k hk x y. omega (arith, ltb-true (mark p k) (mark q k) x, ltb-true (mark q k) (mark p k) y)) in
+    let d = majority-more n in
+    omega arith
