@@ -7,9 +7,9 @@ use Rattle.model.specs.Events.{send, forward, nextSlot, received, handov
 use Rattle.model.specs.Records.{behind, sizeOf, amount, decode}
 use Rattle.model.specs.WellFormed.{named, magnitude, fairAmount, sameName, inLog, greatestApplied, inRange, goodMessage, goodMessages, goodLog, goodPlaces, goodMark, goodMarks, goodBuffer, goodHighest, goodRunning, goodController, wellFormed}
 use Rattle.model.specs.Questions.{firstNo, controllerCount, fileQuestions, lentTable, recordQuestions, ownPending, unread, keepable, eventQuestions, scratchRoom, stepQuestions, lineFits}
-use Rattle.model.specs.Calls.{receiver, accepted, refused, settled, step, event, cleared, scratchAfter, freshTable, look}
+use Rattle.model.specs.Calls.{receiver, accepted, refused, settled, step, event, cleared, scratchAfter, answerOf, freshTable, look}
 use Rattle.model.specs.Runs.{digits, decimal, signed, listed, line, lineOf, records, progress, ran, fileRun, header, footer}
 
 unfoldable pub computed : Unit {0}
-unfolding count all distinct sum greatest tabulateFrom tabulate over overlay idle fresh zeroController blankTable at message withController withMessage majority markCount beforeCount goesBefore clears round settle largest applicable send forward nextSlot received handoverSet numberOf highestIn deliver handover next appliedBy weigh total earlier insert namesBelow namesOf finishes behind sizeOf amount decode named magnitude fairAmount sameName inLog greatestApplied inRange goodMessage goodMessages goodLog goodPlaces goodMark goodMarks goodBuffer goodHighest goodRunning goodController wellFormed firstNo controllerCount fileQuestions lentTable recordQuestions ownPending unread keepable eventQuestions scratchRoom stepQuestions lineFits receiver accepted refused settled step event cleared scratchAfter freshTable look digits decimal signed listed line lineOf records progress ran fileRun header footer
+unfolding count all distinct sum greatest tabulateFrom tabulate over overlay idle fresh zeroController blankTable at message withController withMessage majority markCount beforeCount goesBefore clears round settle largest applicable send forward nextSlot received handoverSet numberOf highestIn deliver handover next appliedBy weigh total earlier insert namesBelow namesOf finishes behind sizeOf amount decode named magnitude fairAmount sameName inLog greatestApplied inRange goodMessage goodMessages goodLog goodPlaces goodMark goodMarks goodBuffer goodHighest goodRunning goodController wellFormed firstNo controllerCount fileQuestions lentTable recordQuestions ownPending unread keepable eventQuestions scratchRoom stepQuestions lineFits receiver accepted refused settled step event cleared scratchAfter answerOf freshTable look digits decimal signed listed line lineOf records progress ran fileRun header footer
 computed = tt

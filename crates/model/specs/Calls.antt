@@ -2,11 +2,11 @@
 use Prim.Native.Nat.{ℕ, zero, suc}
 use mathlib.Core.Bool.{Bool, true, false, cond}
 use mathlib.Core.List.{List, [], _∷_}
-use lib.ListN.{length}
+use lib.ListN.{length, replicate}
 use lib.IntN.{ℤ, pos}
 use lib.Dec.{eqb}
-use Rattle.lists.specs.Build.{over}
-use Rattle.model.specs.Tables.{fresh, blankTable}
+use Rattle.lists.specs.Build.{over, overlay}
+use Rattle.model.specs.Tables.{capacity, noName, fresh, blankTable}
 use Rattle.model.specs.Events.{next, appliedBy, namesOf, finishes, total}
 use Rattle.model.specs.Records.{behind, decode}
 use Rattle.model.specs.WellFormed.{named}
@@ -14,6 +14,9 @@ use Rattle.model.specs.Questions.{Question, ask, firstNo, controllerCoun
 use Rattle.model.specs.declared.Name.{Name}
 use Rattle.model.specs.declared.Table.{Table}
 use Rattle.model.specs.declared.Event.{Event}
+use Rattle.model.specs.declared.Answer.{Answer}
+use Rattle.model.specs.declared.FreshAnswer.{FreshAnswer}
+use Rattle.model.specs.declared.LookAnswer.{LookAnswer}
 use Rattle.model.specs.declared.Event.the-variants.{Send, Handover, Stop}
 
 -- THE SINGLE EVENT
@@ -82,11 +85,17 @@ cleared s = over (λ i. 0) 4096 s
 unfoldable pub scratchAfter : ℕ → List ℕ → List ℕ
 scratchAfter k s = cond (eqb k 0) (cleared s) s
 
--- THE FRESH TABLE
+-- the answer as the caller gets it: the names in the first of 64 places, zeros behind them
+unfoldable pub answerOf : EventAnswer → Answer
+answerOf a = record {
+  number = a .number;
+  finished = cond (a .finished) 1 0;
+  total = a .total;
+  size = length (a .names);
+  names = overlay (a .names) (replicate capacity noName);
+}
 
-pub record FreshAnswer : Type 0 where
-  pub number : ℕ
-  pub table : Table
+-- THE FRESH TABLE
 
 unfoldable pub freshTable : ℕ → FreshAnswer
 freshTable n =
@@ -94,10 +103,6 @@ freshTable n =
     record { number = k; table = cond (eqb k 0) (fresh n) blankTable }
 
 -- THE PANEL LOOK (a local read)
-
-pub record LookAnswer : Type 0 where
-  pub number : ℕ
-  pub total : ℤ
 
 unfoldable pub look : Table → ℕ → LookAnswer
 look t c =

@@ -10,9 +10,10 @@ use Rattle.model.specs.Tables.{fresh, blankTable}
 use Rattle.model.specs.Events.{total}
 use Rattle.model.specs.Records.{byte, decode}
 use Rattle.model.specs.Questions.{Question, ask, firstNo, fileQuestions, lineFits}
-use Rattle.model.specs.Calls.{EventAnswer, Outcome, step, receiver, scratchAfter, cleared}
+use Rattle.model.specs.Calls.{EventAnswer, Outcome, step, receiver, cleared}
 use Rattle.model.specs.declared.Name.{Name}
 use Rattle.model.specs.declared.Table.{Table}
+use Rattle.model.specs.declared.RunAnswer.{RunAnswer}
 
 -- THE LISTING
 
@@ -69,14 +70,7 @@ records (suc f) t (b ∷ s) room space e l =
 unfoldable pub progress : List ℕ → ℕ → ℕ → Progress
 progress s room space = records (length s) (fresh (byte s 1)) (drop 2 s) room space 0 []
 
--- what a file run answers: the refusal number, the events accepted, the listing bytes written and the last table
-pub record RunAnswer : Type 0 where
-  pub number : ℕ
-  pub events : ℕ
-  pub written : ℕ
-  pub table : Table
-
--- and what it leaves
+-- what a file run answers, and what it leaves
 pub record RunOutcome : Type 0 where
   pub answer : RunAnswer
   pub listing : List ℕ

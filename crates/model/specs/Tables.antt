@@ -9,6 +9,7 @@ use Rattle.model.specs.declared.ForwardNumber.{ForwardNumber}
 use Rattle.model.specs.declared.MessageNumber.{MessageNumber}
 use Rattle.model.specs.declared.Payload.{Payload}
 use Rattle.model.specs.declared.Message.{Message}
+use Rattle.model.specs.declared.Name.{Name}
 use Rattle.model.specs.declared.Pending.{Pending}
 use Rattle.model.specs.declared.Controller.{Controller}
 use Rattle.model.specs.declared.Table.{Table}
@@ -52,6 +53,9 @@ messageOf c k p = record { sender = c; number = k; payload = p }
 
 abbrev pub none : MessageNumber
 none = record { 0 = 0 }
+
+abbrev pub noName : Name
+noName = record { sender = 0; number = none }
 
 abbrev pub noMessage : Message
 noMessage = record { sender = 0; number = none; payload = record { kind = 0; added = 0; withdrawn = 0 } }

@@ -60,6 +60,40 @@ pub struct Table {
     pub controllers: [Controller; 7],
 }
 
+// What the single-event call answers: the refusal number, 0 if accepted; whether a sync of the receiver's own is in the
+// set applied, and then its answer; how many messages are in the set, and their names, zeros behind them.
+#[repr(C)]
+pub struct Answer {
+    pub number: u8,
+    pub finished: u8,
+    pub total: i32,
+    pub size: usize,
+    pub names: [Name; 64],
+}
+
+// What a request for a fresh table answers.
+#[repr(C)]
+pub struct FreshAnswer {
+    pub number: u8,
+    pub table: Table,
+}
+
+// What a panel look answers.
+#[repr(C)]
+pub struct LookAnswer {
+    pub number: u8,
+    pub total: i32,
+}
+
+// What a file run answers: the refusal number, the events accepted, the listing bytes written and the last table.
+#[repr(C)]
+pub struct RunAnswer {
+    pub number: u8,
+    pub events: usize,
+    pub written: usize,
+    pub table: Table,
+}
+
 // The events: a message is broadcast, an entry of a log is fifo-delivered, a process crashes.
 pub enum Event {
     Send { sender: u8, payload: Payload },
