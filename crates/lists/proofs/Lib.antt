@@ -1,3 +1,5 @@
 pub mod Tests
 pub mod Below
+pub mod Search
 pub mod Build
+pub mod Loops

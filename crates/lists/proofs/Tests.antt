@@ -21,6 +21,10 @@ pub or-cases : (a b : Bool) → (a || b) ≡ true → (a ≡ true) ⊎ (b ≡ tr
 or-cases true b e = inl refl
 or-cases false b e = inr e
 
+pub or-false : (a b : Bool) → (a || b) ≡ false → (a ≡ false) × (b ≡ false)
+or-false true b e = absurd (true≢false e)
+or-false false b e = (refl, e)
+
 pub or-left : {a : Bool} (b : Bool) → a ≡ true → (a || b) ≡ true
 or-left b p = rw p
 
@@ -50,6 +54,10 @@ not-both-of false b f = refl
 pub decided : (b : Bool) → (b ≡ true) ⊎ (b ≡ false)
 decided true = inl refl
 decided false = inr refl
+
+pub by-contradiction : (b : Bool) → (b ≡ false → ⊥) → b ≡ true
+by-contradiction true f = refl
+by-contradiction false f = absurd (f refl)
 
 pub contradiction {ℓ} : {A : Type ℓ} {b : Bool} → b ≡ true → b ≡ false → A
 contradiction p q = absurd (true≢false (sym p ∙ q))

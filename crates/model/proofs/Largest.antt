@@ -68,7 +68,7 @@ module _ (N : ℕ) (held fit : ℕ → Bool) (before : ℕ → ℕ → Bool) whe
       (all-of N _ (λ t ht. keep-of (has S t) (held t) (before s t) (λ p q. c .first s t h ht e p (outside S R w t ht q))))
 
   -- a set all of whose members may be chosen
-  abbrev Fit : Slots → Type 0
+  abbrev pub Fit : Slots → Type 0
   Fit S = Within N (has S) (λ s. held s && fit s)
 
   -- what a round leaves as it was is closed
@@ -127,7 +127,7 @@ module _ (N : ℕ) (held fit : ℕ → Bool) (before : ℕ → ℕ → Bool) whe
     removal : {S : Slots} (s t : ℕ) → s < N → t < N → has S s ≡ true → held t ≡ true → has S t ≡ false → before s t ≡ false
         → Reached S → Reached (set S s false)
 
-  reached-size : {S : Slots} → Reached S → length S ≡ N
+  pub reached-size : {S : Slots} → Reached S → length S ≡ N
   reached-size candidates = length-tabulate N _
   reached-size (removal {S = S} s t hs ht m h q b r) = length-set S s false ∙ reached-size r
 
@@ -135,7 +135,7 @@ module _ (N : ℕ) (held fit : ℕ → Bool) (before : ℕ → ℕ → Bool) whe
   removed-other : (S : Slots) (s k : ℕ) → k ≢ s → has (set S s false) k ≡ has S k
   removed-other S s k d = getD-set-other S s k false false d
 
-  reached-fit : {S : Slots} → Reached S → Fit S
+  pub reached-fit : {S : Slots} → Reached S → Fit S
   reached-fit candidates s h m = sym (getD-tabulate N _ false s h) ∙ m
   reached-fit (removal {S = S} s t hs ht m h q b r) k l e = go (ℕ-discrete k s) (λ m′. reached-fit r k l m′)
     where

@@ -1,4 +1,6 @@
 pub mod WellFormed
-pub mod Computed
+pub mod Tested
+pub mod Allowed
 pub mod Largest
+pub mod Computed
 pub mod Cases

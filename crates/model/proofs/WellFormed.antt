@@ -1,12 +1,11 @@
 -- What question 4 tests, as named facts: one for each clause of document 01's "Well formed" and for the readings of it.
--- The test passes exactly where the facts hold: `facts` and `tested`. Assumes nothing.
-use mathlib.Core.Path.{_≡_, refl, sym, ap, _∙_}
-use mathlib.Core.Bool.{Bool, true, false, not, _&&_, _||_, cond}
-use mathlib.Core.Logic.{_≢_, _⊎_, inl, inr}
-use Prim.Native.Nat.{ℕ, zero, suc, _+_, _-_, _≤_, _<_}
-use lib.Dec.{eqb, leb, ltb}
+-- The test passes exactly where the facts hold: proofs/Tested.antt. Assumes nothing.
+use mathlib.Core.Path.{_≡_}
+use mathlib.Core.Bool.{true, false, _||_}
+use mathlib.Core.Logic.{_⊎_}
+use Prim.Native.Nat.{ℕ, _≤_, _<_}
 use Rattle.model.specs.Tables.{seats, capacity, absent, yes?, at, message, slotAt, place, entry, held, mark, applied, highest}
-use Rattle.model.specs.WellFormed.{inLog, greatestApplied, fairAmount, wellFormed}
+use Rattle.model.specs.WellFormed.{inLog, greatestApplied, fairAmount}
 use Rattle.model.specs.declared.Controller.{Controller}
 use Rattle.model.specs.declared.Table.{Table}
 
@@ -14,6 +13,10 @@ use Rattle.model.specs.declared.Table.{Table}
 pub record Named (n c : ℕ) : Type 0 where
   pub low : 0 < c
   pub high : c ≤ n
+
+-- "marks are absent or 1 to 64"
+abbrev pub GoodMark : ℕ → Type 0
+GoodMark k = (k ≡ absent) ⊎ (0 < k) × (k ≤ 64)
 
 -- controller i, whose part of the table is c
 pub record GoodController (t : Table) (i : ℕ) (c : Controller) : Type 0 where
@@ -23,9 +26,7 @@ pub record GoodController (t : Table) (i : ℕ) (c : Controller) : Type 0 where
   pub log-once : (j k : ℕ) → j < c .length → k < c .length → slotAt c j ≡ slotAt c k → j ≡ k
   -- "read positions do not pass log ends"
   pub places : (o : ℕ) → Named (t .n) o → place c o ≤ at t o .length
-  -- "marks are absent or 1 to 64"
-  pub marks : (s f : ℕ) → s < t .count → held c s ≡ true → f < seats
-      → (mark (entry (c .pending) s) f ≡ absent) ⊎ (0 < mark (entry (c .pending) s) f) × (mark (entry (c .pending) s) f ≤ 64)
+  pub marks : (s f : ℕ) → s < t .count → held c s ≡ true → f < seats → GoodMark (mark (entry (c .pending) s) f)
   -- "No message is both pending and applied at a controller"
   pub apart : (s : ℕ) → s < t .count → held c s ≡ true → applied c s ≡ true → ⊥
   -- and neither is a message that the run has not

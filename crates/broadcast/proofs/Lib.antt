@@ -1,0 +1,13 @@
+pub mod Updates
+pub mod Logs
+pub mod Marks
+pub mod Stable
+pub mod Invariant
+pub mod Evidence
+pub mod Legal
+pub mod Sources
+pub mod Settled
+pub mod Runs
+pub mod Theorem
+pub mod Stored
+pub mod Slots

@@ -1,0 +1,3 @@
+pub mod State
+pub mod Delivery
+pub mod Events

@@ -1,0 +1,1 @@
+// Theorems only: the abstract system of set-constrained delivery.

@@ -1,0 +1,92 @@
+-- A fresh table is well formed, every accepted event keeps a well-formed table well formed, and so every call does.
+-- Assumes nothing.
+use mathlib.Core.Path.{_≡_, refl, ap}
+use mathlib.Core.Bool.{true}
+use mathlib.Core.List.{List}
+use Prim.Native.Nat.{ℕ, _-_, _≤_, _<_}
+use native.Mathlib.Nat.{not-suc-le-zero}
+use native.Mathlib.Omega.{arith}
+use lib.ListN.{getD-replicate}
+use lib.Dec.{eqb}
+use borrow.Author.Tests.{eqb-true}
+use Rattle.lists.specs.Below.{greatest}
+use Rattle.lists.proofs.Tests.{cond-case}
+use Rattle.model.specs.Tables.{seats, capacity, yes?, at, none, noController, noPending, blank, idle, fresh}
+use Rattle.model.specs.Events.{next}
+use Rattle.model.specs.Records.{decode}
+use Rattle.model.specs.Sized.{Sized}
+use Rattle.model.specs.WellFormed.{greatestApplied, wellFormed}
+use Rattle.model.specs.Questions.{firstNo, lentTable, eventQuestions, stepQuestions}
+use Rattle.model.specs.Calls.{Outcome, accepted, refused, settled, step, event}
+use Rattle.model.specs.declared.MessageNumber.{MessageNumber}
+use Rattle.model.specs.declared.Pending.{Pending}
+use Rattle.model.specs.declared.Table.{Table}
+use Rattle.model.specs.declared.Event.{Event}
+use Rattle.model.specs.declared.Event.the-variants.{Send, Handover, Stop}
+use Rattle.model.proofs.WellFormed.{Named, GoodController, WellFormed}
+use Rattle.model.proofs.Tested.{facts, tested}
+use Rattle.model.proofs.Allowed.{step-asked, send-allowed, handover-allowed, stop-allowed}
+use Rattle.invariant.proofs.Sizes.{next-sized}
+use Rattle.invariant.proofs.Sending.{send-well-formed}
+use Rattle.invariant.proofs.Receiving.{handover-well-formed}
+use Rattle.invariant.proofs.Stopping.{stop-well-formed}
+
+-- THE FRESH TABLE
+
+pub at-fresh : (n c : ℕ) → Named seats c → at (fresh n) c ≡ idle
+unfolding at fresh
+at-fresh n c h = getD-replicate seats (c - 1) idle noController (omega arith)
+
+idle-good : (n i : ℕ) → n ≤ seats → GoodController (fresh n) i idle
+unfolding fresh idle greatestApplied greatest
+idle-good n i l = record {
+  log-room = omega arith;
+  log-run = λ k h. absurd (not-suc-le-zero h);
+  log-once = λ j k h. absurd (not-suc-le-zero h);
+  places = λ o h. rw (getD-replicate {A = ℕ} seats (o - 1) 0 0 (omega arith)) (omega arith);
+  marks = λ s f h. absurd (not-suc-le-zero h);
+  apart = λ s h. absurd (not-suc-le-zero h);
+  outside = λ s h _.
+      (ap (λ (p : Pending). yes? (p .held)) (getD-replicate capacity s blank noPending h), ap (λ f. yes? f) (getD-replicate capacity s 0 0 h));
+  highest-is = λ x h. ap (λ (m : MessageNumber). m .0) (getD-replicate seats (x - 1) none none (omega arith));
+  exact = λ r s h. absurd (not-suc-le-zero h);
+  long = λ r s h. absurd (not-suc-le-zero h);
+}
+
+pub fresh-well-formed : (n : ℕ) → 0 < n → n ≤ seats → WellFormed (fresh n)
+unfolding fresh
+fresh-well-formed n low high = record {
+  some = low;
+  few = high;
+  counted = omega arith;
+  names = λ i j h. absurd (not-suc-le-zero h);
+  senders = λ s h. absurd (not-suc-le-zero h);
+  numbers = λ s h. absurd (not-suc-le-zero h);
+  amounts = λ s h. absurd (not-suc-le-zero h);
+  controllers = λ c h. rw (at-fresh n c (omega arith)) (idle-good n c high);
+}
+
+-- EVENTS
+
+pub next-well-formed : (t : Table) (e : Event) → Sized t → WellFormed t → firstNo (eventQuestions t e) ≡ 0 → WellFormed (next t e)
+unfolding next
+next-well-formed t (Send c p) z w q = send-well-formed t w z c p (send-allowed t c p q)
+next-well-formed t (Handover r o) z w q = handover-well-formed t w z r o (handover-allowed t r o q)
+next-well-formed t (Stop c k) z w q = stop-well-formed t w z c k (stop-allowed t c k q)
+
+-- CALLS
+
+pub step-kept : (t : Table) (s : List ℕ) (room : ℕ) → Sized t → wellFormed t ≡ true → Sized (step t s room .table) × (wellFormed (step t s room .table) ≡ true)
+unfolding step settled accepted refused
+step-kept t s room z w =
+    cond-case (λ (o : Outcome). Sized (o .table) × (wellFormed (o .table) ≡ true)) (eqb (firstNo (stepQuestions t s room)) 0) (accepted t s) (refused t s _)
+    (λ e. (next-sized t (decode s) z, tested (next t (decode s)) (next-well-formed t (decode s) z (facts t w) (step-asked t s room (eqb-true _ 0 e) .1))))
+    (λ _. (z, w))
+
+-- on a well-formed table the event call is a step
+pub event-number-step : (t : Table) (s : List ℕ) (room : ℕ) → wellFormed t ≡ true → event t s room ≡ step t s room
+unfolding event step firstNo lentTable
+event-number-step t s room w = rw w refl
+
+pub event-kept : (t : Table) (s : List ℕ) (room : ℕ) → Sized t → wellFormed t ≡ true → Sized (event t s room .table) × (wellFormed (event t s room .table) ≡ true)
+event-kept t s room z w = rw (event-number-step t s room w) (step-kept t s room z w)

@@ -1,0 +1,12 @@
+pub mod Stores
+pub mod Logs
+pub mod Sizes
+pub mod Buffering
+pub mod Delivering
+pub mod Receiving
+pub mod Replacing
+pub mod Sending
+pub mod Stopping
+pub mod Kept
+pub mod Counter
+pub mod Bounds

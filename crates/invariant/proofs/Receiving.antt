@@ -1,0 +1,110 @@
+-- An allowed handover leaves a good receiver: it reads an entry, passes it over, marks or forwards it, and applies a set.
+-- Assumes nothing.
+use mathlib.Core.Path.{_≡_, refl, _∙_}
+use mathlib.Core.Bool.{true, false, cond}
+use mathlib.Core.Logic.{_⊎_, inl, inr}
+use Prim.Native.Nat.{ℕ, _+_, _≤_, _<_}
+use native.Mathlib.Omega.{arith}
+use native.Mathlib.Decide.{ℕ-discrete}
+use lib.Dec.{leb}
+use borrow.Author.Tests.{leb-false, eq-eqb}
+use Rattle.lists.proofs.Tests.{decided}
+use Rattle.lists.proofs.Below.{greatest-ge}
+use Rattle.model.specs.Tables.{capacity, yes?, at, message, place, entry, held, applied, highest, blank, withRead}
+use Rattle.model.specs.Delivery.{has}
+use Rattle.model.specs.Events.{numberOf, forward, nextSlot, received, handoverSet, deliver, handover}
+use Rattle.model.specs.Sized.{Sized, SizedController}
+use Rattle.model.specs.WellFormed.{inLog, greatestApplied}
+use Rattle.model.specs.declared.Controller.{Controller}
+use Rattle.model.specs.declared.Table.{Table}
+use Rattle.model.proofs.WellFormed.{Named, GoodController, WellFormed}
+use Rattle.model.proofs.Allowed.{HandoverAllowed}
+use Rattle.model.proofs.Largest.{applicable-held}
+use Rattle.invariant.proofs.Stores.{seated, at-sized, read-place, read-place-other, forward-case}
+use Rattle.invariant.proofs.Sizes.{read-sized}
+use Rattle.invariant.proofs.Buffering.{blank-marks, marked-good, entered-good}
+use Rattle.invariant.proofs.Delivering.{delivered-good}
+use Rattle.invariant.proofs.Replacing.{but-one, replaced}
+
+-- no applied number is above the highest
+pub applied-number : (t : Table) (i : ℕ) (c : Controller) → GoodController t i c
+    → (s : ℕ) → s < t .count → Named (t .n) (message t s .sender) → applied c s ≡ true → message t s .number .0 ≤ highest c (message t s .sender)
+unfolding greatestApplied numberOf
+applied-number t i c g s h n e =
+    rw (g .highest-is (message t s .sender) n)
+    (rw (e, eq-eqb (message t s .sender) (message t s .sender) refl) at
+    (greatest-ge (t .count) (λ r. cond (applied c r) (numberOf (message t s .sender) (message t r)) 0) s h))
+
+-- entry s of a log, at place k
+forward-good : (t : Table) (w : WellFormed t) (i : ℕ) (c : Controller) → GoodController t i c → SizedController c → yes? (c .running) ≡ true
+    → (s : ℕ) → s < t .count → (o k : ℕ) → 0 < k → k ≤ 64 → GoodController t i (forward c (message t s) s o k)
+forward-good t w i c g z running s run o k low high =
+    forward-case (GoodController t i) c (message t s) s o k (λ _. g)
+    (λ above e. marked-good t i c g z (w .counted) s run (unapplied above) (entry (c .pending) s .marks) (z .marks s (omega (arith, w .counted)))
+    (λ f hf. g .marks s f run e hf) o k low high e)
+    (λ above e. entered-good t i c g z (w .counted) s run (unapplied above) (blank .marks) refl blank-marks o k low high
+    (g .exact running s run ∙ rw (e, unapplied above) refl))
+  where
+    unapplied : leb (message t s .number .0) (highest c (message t s .sender)) ≡ false → applied c s ≡ false
+    unapplied above = go (decided (applied c s))
+      where
+        go : (applied c s ≡ true) ⊎ (applied c s ≡ false) → applied c s ≡ false
+        go (inl p) = absurd (omega (arith, applied-number t i c g s run (w .senders s run) p, leb-false (message t s .number .0) (highest c (message t s .sender)) above))
+        go (inr p) = p
+
+-- a receiver's log only grows
+pub received-longer : (t : Table) (r o : ℕ) → at t r .length ≤ received t r o .length
+unfolding received
+received-longer t r o =
+    forward-case (λ (x : Controller). at t r .length ≤ x .length) (withRead (at t r) o) (message t (nextSlot t r o)) (nextSlot t r o) o (place (at t r) o + 1)
+    (λ _. omega arith) (λ _ _. omega arith) (λ _ _. omega arith)
+
+module _ (t : Table) (w : WellFormed t) (z : Sized t) (r o : ℕ) (a : HandoverAllowed t r o) where
+  receiver-sized : SizedController (at t r)
+  receiver-sized = at-sized t r z (seated (w .few) (a .receiver))
+
+  read-good : GoodController t r (withRead (at t r) o)
+  unfolding inLog greatestApplied
+  read-good =
+      let g = w .controllers r (a .receiver) in
+      record {
+        log-room = g .log-room;
+        log-run = g .log-run;
+        log-once = g .log-once;
+        places = λ q h. places q h (ℕ-discrete q o);
+        marks = g .marks;
+        apart = g .apart;
+        outside = g .outside;
+        highest-is = g .highest-is;
+        exact = g .exact;
+        long = g .long;
+      }
+    where
+      places : (q : ℕ) → Named (t .n) q → Dec (q ≡ o) → place (withRead (at t r) o) q ≤ at t q .length
+      places q h (yes e) = rw (e, read-place (at t r) o receiver-sized (seated (w .few) (a .owner))) (omega (arith, a .unread))
+      places q h (no e) = rw (read-place-other (at t r) o q (seated (w .few) (a .owner)) (seated (w .few) h) e) (w .controllers r (a .receiver) .places q h)
+
+  pub next-slot-run : nextSlot t r o < t .count
+  unfolding nextSlot
+  next-slot-run = w .controllers o (a .owner) .log-run (place (at t r) o) (a .unread)
+
+  pub received-good : GoodController t r (received t r o)
+  unfolding received
+  received-good =
+      forward-good t w r (withRead (at t r) o) read-good (read-sized (at t r) o receiver-sized) (a .running)
+      (nextSlot t r o) next-slot-run o (place (at t r) o + 1) (omega arith) (omega (arith, a .unread, w .controllers o (a .owner) .log-room))
+
+  -- the set applied was buffered
+  pub applied-held : (s : ℕ) → s < capacity → has (handoverSet t r o) s ≡ true → held (received t r o) s ≡ true
+  unfolding handoverSet
+  applied-held s h e = applicable-held (t .n) (received t r o .pending) s h e
+
+  pub receiver-good : GoodController t r (deliver t (received t r o) (handoverSet t r o))
+  receiver-good = delivered-good t r (received t r o) received-good (w .few) (w .counted) (handoverSet t r o) applied-held
+
+  pub handover-well-formed : WellFormed (handover t r o)
+  unfolding handover deliver
+  handover-well-formed =
+      replaced t r (deliver t (received t r o) (handoverSet t r o)) z (but-one t r w) (a .receiver) receiver-good
+      (omega (arith, receiver-good .places r (a .receiver), received-longer t r o))
+      (λ q h _. omega (arith, w .controllers q h .places r (a .receiver), received-longer t r o))

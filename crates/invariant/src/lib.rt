@@ -1,0 +1,1 @@
+// Every accepted event keeps a well-formed table well formed: theorems only.

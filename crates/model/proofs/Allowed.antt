@@ -1,0 +1,125 @@
+-- What an event that no question refuses may rely on: a record of facts for each kind of event. Assumes nothing.
+use mathlib.Core.Path.{_≡_, refl}
+use mathlib.Core.Bool.{Bool, true, false, _&&_}
+use mathlib.Core.List.{List, [], _∷_, _++_}
+use Prim.Native.Nat.{ℕ, suc, _≤_, _<_}
+use native.Mathlib.Omega.{arith}
+use lib.Dec.{eqb, leb}
+use borrow.Author.Tests.{ltb-true, ltb-false, leb-true, eq-eqb, not-true}
+use Rattle.lists.specs.Below.{count}
+use Rattle.lists.proofs.Tests.{and-left, and-right, both}
+use Rattle.lists.proofs.Below.{count-pos}
+use Rattle.model.specs.Tables.{capacity, yes?, at, message, place, held}
+use Rattle.model.specs.Records.{decode}
+use Rattle.model.specs.WellFormed.{named, fairAmount}
+use Rattle.model.specs.Questions.{Question, ask, firstNo, recordQuestions, ownPending, unread, keepable, eventQuestions, scratchRoom, stepQuestions}
+use Rattle.model.specs.declared.Payload.{Payload}
+use Rattle.model.specs.declared.Table.{Table}
+use Rattle.model.specs.declared.Event.{Event}
+use Rattle.model.specs.declared.Event.the-variants.{Send, Handover, Stop}
+use Rattle.model.proofs.WellFormed.{Named}
+use Rattle.model.proofs.Tested.{named-at, all-named}
+
+-- no no: the first answer was yes, and there is no no behind it
+pub no-no : (k : ℕ) (b : Bool) (qs : List Question) → firstNo (ask (suc k) b ∷ qs) ≡ 0 → (b ≡ true) × (firstNo qs ≡ 0)
+unfolding firstNo
+no-no k true qs e = (refl, e)
+no-no k false qs e = absurd (omega (arith, e))
+
+-- no question has the number 0, which stands for no refusal
+pub data Numbered : List Question → Type 0 where
+  none : Numbered []
+  more : {k : ℕ} {b : Bool} {qs : List Question} → Numbered qs → Numbered (ask (suc k) b ∷ qs)
+
+pub no-no-append : {qs : List Question} → Numbered qs → (rs : List Question) → firstNo (qs ++ rs) ≡ 0 → (firstNo qs ≡ 0) × (firstNo rs ≡ 0)
+unfolding firstNo
+no-no-append none rs e = (refl, e)
+no-no-append (more {k = k} {b = b} {qs = qs} n) rs e =
+    let q = no-no k b (qs ++ rs) e in
+    let r = no-no-append n rs (q .1) in
+    (rw (q .0) (r .0), r .1)
+
+event-numbered : (t : Table) (e : Event) → Numbered (eventQuestions t e)
+unfolding eventQuestions
+event-numbered t (Send c p) = more (more (more (more (more none))))
+event-numbered t (Handover r o) = more (more (more none))
+event-numbered t (Stop c k) = more (more (more none))
+
+record-numbered : (s : List ℕ) → Numbered (recordQuestions s)
+unfolding recordQuestions
+record-numbered s = more (more (more none))
+
+-- the questions of a step: of the record, of the event, and of the scratch area
+pub step-asked : (t : Table) (s : List ℕ) (room : ℕ) → firstNo (stepQuestions t s room) ≡ 0
+    → (firstNo (recordQuestions s) ≡ 0) × (firstNo (eventQuestions t (decode s)) ≡ 0) × (firstNo (scratchRoom room ∷ []) ≡ 0)
+unfolding stepQuestions
+step-asked t s room e =
+    let q = no-no-append (record-numbered s) (eventQuestions t (decode s) ++ (scratchRoom room ∷ [])) e in
+    let r = no-no-append (event-numbered t (decode s)) (scratchRoom room ∷ []) (q .1) in
+    (q .0, r .0, r .1)
+
+pub record SendAllowed (t : Table) (c : ℕ) (p : Payload) : Type 0 where
+  pub sender : Named (t .n) c
+  pub amount : fairAmount p ≡ true
+  pub running : yes? (at t c .running) ≡ true
+  pub none-pending : (s : ℕ) → s < t .count → held (at t c) s ≡ true → message t s .sender ≡ c → ⊥
+  pub room : t .count < capacity
+
+pub record HandoverAllowed (t : Table) (r o : ℕ) : Type 0 where
+  pub receiver : Named (t .n) r
+  pub owner : Named (t .n) o
+  pub running : yes? (at t r .running) ≡ true
+  pub unread : place (at t r) o < at t o .length
+
+pub record StopAllowed (t : Table) (c k : ℕ) : Type 0 where
+  pub controller : Named (t .n) c
+  pub running : yes? (at t c .running) ≡ true
+  pub within : k ≤ at t c .length
+  pub read-kept : (r : ℕ) → Named (t .n) r → place (at t r) c ≤ k
+
+pub send-allowed : (t : Table) (c : ℕ) (p : Payload) → firstNo (eventQuestions t (Send c p)) ≡ 0 → SendAllowed t c p
+unfolding eventQuestions ownPending
+send-allowed t c p e =
+    let q8 = no-no _ _ _ e in
+    let q9 = no-no _ _ _ (q8 .1) in
+    let q10 = no-no _ _ _ (q9 .1) in
+    let q11 = no-no _ _ _ (q10 .1) in
+    let q12 = no-no _ _ _ (q11 .1) in
+    record {
+      sender = named-at t c (q8 .0);
+      amount = q9 .0;
+      running = q10 .0;
+      none-pending = λ s h p q. omega (
+        arith,
+        count-pos (t .count) (λ s. held (at t c) s && eqb (message t s .sender) c) s h (both p (eq-eqb (message t s .sender) c q)),
+        ltb-false 0 (count (t .count) (λ s. held (at t c) s && eqb (message t s .sender) c)) (not-true (ownPending t c) (q11 .0)),
+      );
+      room = ltb-true (t .count) capacity (q12 .0);
+    }
+
+pub handover-allowed : (t : Table) (r o : ℕ) → firstNo (eventQuestions t (Handover r o)) ≡ 0 → HandoverAllowed t r o
+unfolding eventQuestions unread
+handover-allowed t r o e =
+    let q8 = no-no _ _ _ e in
+    let q10 = no-no _ _ _ (q8 .1) in
+    let q13 = no-no _ _ _ (q10 .1) in
+    record {
+      receiver = named-at t r (and-left _ _ (q8 .0));
+      owner = named-at t o (and-right (named t r) _ (q8 .0));
+      running = q10 .0;
+      unread = ltb-true (place (at t r) o) (at t o .length) (q13 .0);
+    }
+
+pub stop-allowed : (t : Table) (c k : ℕ) → firstNo (eventQuestions t (Stop c k)) ≡ 0 → StopAllowed t c k
+unfolding eventQuestions keepable
+stop-allowed t c k e =
+    let q8 = no-no _ _ _ e in
+    let q10 = no-no _ _ _ (q8 .1) in
+    let q14 = no-no _ _ _ (q10 .1) in
+    record {
+      controller = named-at t c (q8 .0);
+      running = q10 .0;
+      within = leb-true k (at t c .length) (and-left _ _ (q14 .0));
+      read-kept = λ r h. leb-true (place (at t r) c) k
+          (all-named (t .n) (λ r. leb (place (at t r) c) k) (and-right (leb k (at t c .length)) _ (q14 .0)) r h);
+    }
