@@ -2,16 +2,15 @@
 -- no other sum changes. Assumes nothing.
 use mathlib.Core.Path.{_≡_, refl, ap, _∙_}
 use mathlib.Core.Bool.{Bool, true, false, _||_, cond, true≢false}
-use mathlib.Core.Logic.{_≢_, _⊎_, inl, inr}
+use mathlib.Core.Logic.{_≢_}
 use mathlib.Core.List.{List}
 use Prim.Native.Nat.{ℕ, _+_, _<_}
-use native.Mathlib.Numerals.{add-one}
 use native.Mathlib.Omega.{arith}
 use native.Mathlib.Decide.{ℕ-discrete}
 use lib.ListN.{getD}
 use Rattle.lists.specs.Below.{sum}
-use Rattle.lists.proofs.Tests.{decided}
-use Rattle.lists.proofs.Below.{sum-ext, sum-plus}
+use Rattle.lists.proofs.Tests.{refuted}
+use Rattle.lists.proofs.Below.{sum-ext, sum-plus, sum-last}
 use Rattle.model.specs.Tables.{seats, capacity, yes?, at, message, place, applied, withController, withMessage, withRead}
 use Rattle.model.specs.Delivery.{has}
 use Rattle.model.specs.Events.{nextSlot, received, handoverSet, deliver, send, handover, next, weigh}
@@ -49,11 +48,8 @@ received-applied t r o =
 module _ (t : Table) (w : WellFormed t) (z : Sized t) (r o : ℕ) (a : HandoverAllowed t r o) where
   -- nothing is applied twice
   pub applied-new : (s : ℕ) → s < t .count → has (handoverSet t r o) s ≡ true → applied (at t r) s ≡ false
-  applied-new s h e = go (decided (applied (at t r) s))
-    where
-      go : (applied (at t r) s ≡ true) ⊎ (applied (at t r) s ≡ false) → applied (at t r) s ≡ false
-      go (inl p) = absurd (received-good t w z r o a .apart s h (applied-held t w z r o a s (omega (arith, w .counted)) e) (rw (received-applied t r o) p))
-      go (inr p) = p
+  applied-new s h e = refuted (applied (at t r) s) (λ p.
+      received-good t w z r o a .apart s h (applied-held t w z r o a s (omega (arith, w .counted)) e) (rw (received-applied t r o) p))
 
   pub receiver-applied : (s : ℕ) → s < t .count → applied (at (handover t r o) r) s ≡ (has (handoverSet t r o) s || applied (at t r) s)
   unfolding handover
@@ -99,10 +95,6 @@ unfolding weigh
 weigh-same v t c x d z hc hd f =
     weigh-replaced v t c x d
     ∙ sum-ext (t .count) _ _ (λ s h. ap (λ (l : List ℕ). cond (yes? (getD l s 0)) (v (message t s .payload)) 0) (same-applied t c x d z hc hd f))
-
-sum-last : (n : ℕ) (f : ℕ → ℕ) → f n ≡ 0 → sum (n + 1) f ≡ sum n f
-unfolding sum
-sum-last n f e = rw (add-one, e) (omega arith)
 
 -- a new message is nowhere applied
 weigh-added : (v : Payload → ℕ) (t : Table) (m : Message) (c : ℕ) → GoodController t c (at t c) → t .count < capacity → weigh v (withMessage t m) c ≡ weigh v t c

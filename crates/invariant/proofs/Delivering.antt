@@ -2,12 +2,11 @@
 -- Assumes nothing.
 use mathlib.Core.Path.{_≡_, refl, sym, ap, _∙_}
 use mathlib.Core.Bool.{Bool, true, false, not, _&&_, _||_, cond}
-use mathlib.Core.Logic.{_⊎_, inl, inr}
 use Prim.Native.Nat.{ℕ, suc, _-_, max, _≤_, _<_}
 use native.Mathlib.Omega.{arith}
 use lib.ListN.{getD}
 use borrow.Author.Tests.{not-true}
-use Rattle.lists.proofs.Tests.{and-left, and-right, contradiction, decided}
+use Rattle.lists.proofs.Tests.{and-left, and-right, refuted, contradiction}
 use Rattle.lists.proofs.Below.{greatest-max}
 use Rattle.lists.proofs.Build.{getD-tabulate}
 use Rattle.model.specs.Tables.{seats, capacity, yes?, message, entry, held, mark, applied, highest, blank, none, noPending}
@@ -76,7 +75,7 @@ module _ (t : Table) (i : ℕ) (c : Controller) (g : GoodController t i c) (few 
     apart = λ s h e a.
         let k = kept s (omega arith) e in
         g .apart s h (k .1) (rw (k .0) at (sym (delivered-applied t c S s (omega arith)) ∙ a));
-    outside = λ s h l. outside s h (g .outside s h l) (decided (has S s));
+    outside = λ s h l. outside s h (g .outside s h l);
     highest-is = λ x h. delivered-highest t c S x (omega arith) ∙ ap (λ y. max y (highestIn t S x)) (g .highest-is x h) ∙ sym (delivered-greatest x);
     exact = λ e s h.
         rw (delivered-held t c S s (omega arith), delivered-applied t c S s (omega arith))
@@ -87,10 +86,10 @@ module _ (t : Table) (i : ℕ) (c : Controller) (g : GoodController t i c) (few 
       marks : (s f : ℕ) → s < t .count → (has S s ≡ false) × (held c s ≡ true) → f < seats → GoodMark (mark (entry (deliver t c S .pending) s) f)
       marks s f h k hf = rw (delivered-entry t c S s (omega arith), k .0) (g .marks s f h (k .1) hf)
 
-      outside : (s : ℕ) → s < capacity → (held c s ≡ false) × (applied c s ≡ false) → (has S s ≡ true) ⊎ (has S s ≡ false)
-          → (held (deliver t c S) s ≡ false) × (applied (deliver t c S) s ≡ false)
-      outside s h o (inl p) = contradiction (buffered s h p) (o .0)
-      outside s h o (inr p) = (rw (delivered-held t c S s h, p) (o .0), rw (delivered-applied t c S s h, p) (o .1))
+      outside : (s : ℕ) → s < capacity → (held c s ≡ false) × (applied c s ≡ false) → (held (deliver t c S) s ≡ false) × (applied (deliver t c S) s ≡ false)
+      outside s h o =
+          let p = refuted (has S s) (λ m. contradiction (buffered s h m) (o .0)) in
+          (rw (delivered-held t c S s h, p) (o .0), rw (delivered-applied t c S s h, p) (o .1))
 
       exact : (b h a : Bool) → (b ≡ true → h ≡ true) → (h || a) ≡ (not b && h || (b || a))
       exact true h a f = rw (f refl)

@@ -1,7 +1,7 @@
 -- A log names a slot where one of its entries is that slot; what one entry more changes; a log has room for a slot that it lacks.
 -- Assumes nothing.
-use mathlib.Core.Path.{_≡_, refl, sym, _∙_}
-use mathlib.Core.Bool.{Bool, true, false}
+use mathlib.Core.Path.{_≡_, sym, _∙_}
+use mathlib.Core.Bool.{true, false}
 use mathlib.Core.Logic.{_≢_}
 use Prim.Native.Nat.{ℕ, _+_, _≤_, _<_}
 use native.Mathlib.Omega.{arith}
@@ -9,7 +9,7 @@ use native.Mathlib.Decide.{ℕ-discrete}
 use lib.Dec.{eqb}
 use lib.Seq.{getD-set-same, getD-set-other}
 use borrow.Author.Tests.{ltb-true, eqb-true, lt-ltb, eq-eqb}
-use Rattle.lists.proofs.Tests.{bool-eq, contradiction}
+use Rattle.lists.proofs.Tests.{refuted, bool-eq, contradiction}
 use Rattle.lists.proofs.Below.{count-pos, count-found, distinct-room-less}
 use Rattle.model.specs.Tables.{capacity, slotAt, withEntry}
 use Rattle.model.specs.Sized.{SizedController}
@@ -39,11 +39,8 @@ not-in-log c s e k h p = contradiction (in-log-of c s (record { index = k; below
 
 -- a log names only messages of the run
 pub log-lacks : (t : Table) (i : ℕ) (c : Controller) → GoodController t i c → (s : ℕ) → t .count ≤ s → inLog c s ≡ false
-log-lacks t i c g s h = go (inLog c s) refl
-  where
-    go : (b : Bool) → inLog c s ≡ b → b ≡ false
-    go true e = let f = in-log-at c s e in absurd (omega (arith, g .log-run (f .index) (f .below), f .names))
-    go false e = refl
+log-lacks t i c g s h = refuted (inLog c s) (λ e.
+    let f = in-log-at c s e in omega (arith, g .log-run (f .index) (f .below), f .names))
 
 -- a message of the run that the log lacks: the log is shorter than the run
 pub log-shorter : (t : Table) (i : ℕ) (c : Controller) → GoodController t i c → (s : ℕ) → s < t .count → inLog c s ≡ false → c .length < t .count

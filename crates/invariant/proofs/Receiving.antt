@@ -1,14 +1,13 @@
--- An allowed handover leaves a good receiver: it reads an entry, passes it over, marks or forwards it, and applies a set.
--- Assumes nothing.
+-- An allowed handover keeps a well-formed table well formed: the receiver reads an entry, passes it over, marks or forwards
+-- it, and applies a set of what it has buffered. Assumes nothing.
 use mathlib.Core.Path.{_≡_, refl, _∙_}
 use mathlib.Core.Bool.{true, false, cond}
-use mathlib.Core.Logic.{_⊎_, inl, inr}
 use Prim.Native.Nat.{ℕ, _+_, _≤_, _<_}
 use native.Mathlib.Omega.{arith}
 use native.Mathlib.Decide.{ℕ-discrete}
 use lib.Dec.{leb}
 use borrow.Author.Tests.{leb-false, eq-eqb}
-use Rattle.lists.proofs.Tests.{decided}
+use Rattle.lists.proofs.Tests.{refuted}
 use Rattle.lists.proofs.Below.{greatest-ge}
 use Rattle.model.specs.Tables.{capacity, yes?, at, message, place, entry, held, applied, highest, blank, withRead}
 use Rattle.model.specs.Delivery.{has}
@@ -46,11 +45,8 @@ forward-good t w i c g z running s run o k low high =
     (g .exact running s run ∙ rw (e, unapplied above) refl))
   where
     unapplied : leb (message t s .number .0) (highest c (message t s .sender)) ≡ false → applied c s ≡ false
-    unapplied above = go (decided (applied c s))
-      where
-        go : (applied c s ≡ true) ⊎ (applied c s ≡ false) → applied c s ≡ false
-        go (inl p) = absurd (omega (arith, applied-number t i c g s run (w .senders s run) p, leb-false (message t s .number .0) (highest c (message t s .sender)) above))
-        go (inr p) = p
+    unapplied above = refuted (applied c s) (λ p.
+        omega (arith, applied-number t i c g s run (w .senders s run) p, leb-false (message t s .number .0) (highest c (message t s .sender)) above))
 
 -- a receiver's log only grows
 pub received-longer : (t : Table) (r o : ℕ) → at t r .length ≤ received t r o .length

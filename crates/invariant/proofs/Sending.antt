@@ -3,12 +3,10 @@ use mathlib.Core.Path.{_≡_, refl, sym, ap, _∙_}
 use mathlib.Core.Bool.{true, false, _||_, cond}
 use mathlib.Core.Logic.{_≢_}
 use Prim.Native.Nat.{ℕ, _+_, _≤_, _<_}
-use native.Mathlib.Numerals.{add-one}
 use native.Mathlib.Omega.{arith}
 use native.Mathlib.Decide.{ℕ-discrete}
-use Rattle.lists.specs.Below.{greatest}
 use Rattle.lists.proofs.Tests.{contradiction}
-use Rattle.lists.proofs.Below.{greatest-ext}
+use Rattle.lists.proofs.Below.{greatest-ext, greatest-last}
 use Rattle.model.specs.Tables.{capacity, yes?, at, message, held, applied, blank, messageNumber, messageOf, withMessage, withEntry, withMark}
 use Rattle.model.specs.Events.{numberOf, send}
 use Rattle.model.specs.Sized.{Sized}
@@ -26,10 +24,6 @@ use Rattle.invariant.proofs.Buffering.{blank-marks, entered-good}
 use Rattle.invariant.proofs.Replacing.{WellFormedBut, replaced}
 
 -- ONE MESSAGE MORE
-
-greatest-last : (n : ℕ) (f : ℕ → ℕ) → f n ≡ 0 → greatest (n + 1) f ≡ greatest n f
-unfolding greatest
-greatest-last n f e = rw (add-one, e) (omega arith)
 
 module _ (t : Table) (m : Message) where
   -- a message of the longer run
@@ -94,7 +88,7 @@ module _ (t : Table) (m : Message) where
         long r s (new p e) q = absurd (d (sym q ∙ ap (λ (x : Message). x .sender) e))
         long r s (old p e) q = rw e (g .long r s p (sym (ap (λ (x : Message). x .sender) e) ∙ q))
 
--- another name, where its messages are no longer than the log
+-- good under another name too, where the log is as long as any number sent under it
 pub renamed : (t : Table) (i j : ℕ) (c : Controller) → GoodController t i c
     → (yes? (c .running) ≡ true → (s : ℕ) → s < t .count → message t s .sender ≡ j → message t s .number .0 ≤ c .length)
     → GoodController t j c

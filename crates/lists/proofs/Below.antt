@@ -4,6 +4,7 @@ use mathlib.Core.Bool.{Bool, true, false, not, _&&_, _||_, false≢true}
 use mathlib.Core.Logic.{_≢_, _⊎_, inl, inr}
 use Prim.Native.Nat.{ℕ, zero, suc, _+_, _*_, max, _≤_, _<_}
 use native.Mathlib.Nat.{not-suc-le-zero}
+use native.Mathlib.Numerals.{add-one}
 use native.Mathlib.Omega.{arith}
 use native.Mathlib.Decide.{ℕ-discrete, decLt}
 use lib.Dec.{eqb, ltb}
@@ -151,6 +152,11 @@ sum-bound (suc n) f b h = omega (arith, sum-bound n f b (λ k l. h k (omega arit
     suc-times : (n b : ℕ) → suc n * b ≡ n * b + b
     suc-times n b = native.Mathlib.Nat.suc-mul n b
 
+-- a last term of 0 adds nothing
+pub sum-last : (n : ℕ) (f : ℕ → ℕ) → f n ≡ 0 → sum (n + 1) f ≡ sum n f
+unfolding sum
+sum-last n f e = rw (add-one, e) (omega arith)
+
 -- GREATEST
 
 pub greatest-ext : (n : ℕ) (f g : ℕ → ℕ) → ((k : ℕ) → k < n → f k ≡ g k) → greatest n f ≡ greatest n g
@@ -167,6 +173,10 @@ pub greatest-le : (n : ℕ) (f : ℕ → ℕ) (b : ℕ) → ((k : ℕ) → k < n
 unfolding greatest
 greatest-le zero f b h = omega arith
 greatest-le (suc n) f b h = omega (arith, greatest-le n f b (λ k l. h k (omega arith)), h n (omega arith))
+
+pub greatest-last : (n : ℕ) (f : ℕ → ℕ) → f n ≡ 0 → greatest (n + 1) f ≡ greatest n f
+unfolding greatest
+greatest-last n f e = rw (add-one, e) (omega arith)
 
 -- the greatest of two functions' greater values
 pub greatest-max : (n : ℕ) (f g h : ℕ → ℕ) → ((k : ℕ) → k < n → h k ≡ max (f k) (g k)) → greatest n h ≡ max (greatest n f) (greatest n g)

@@ -59,6 +59,10 @@ pub by-contradiction : (b : Bool) → (b ≡ false → ⊥) → b ≡ true
 by-contradiction true f = refl
 by-contradiction false f = absurd (f refl)
 
+pub refuted : (b : Bool) → (b ≡ true → ⊥) → b ≡ false
+refuted true f = absurd (f refl)
+refuted false f = refl
+
 pub contradiction {ℓ} : {A : Type ℓ} {b : Bool} → b ≡ true → b ≡ false → A
 contradiction p q = absurd (true≢false (sym p ∙ q))
 
