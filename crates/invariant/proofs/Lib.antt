@@ -10,3 +10,4 @@ pub mod Stopping
 pub mod Kept
 pub mod Counter
 pub mod Bounds
+pub mod Listing
