@@ -26,7 +26,8 @@ module _ (k : System) (s : State) (v : Invariant k s) (i : ℕ) where
   mark-top m f = elim (marked k s i m f) [ known a e ↦ omega (arith, v .logs .position-top f m) | unknown a d e ↦ omega arith ]
 
   -- an order of marks is an order of positions, but for a message of i's own that it has not read from its own log
-  evidence : (x y f : ℕ) → own x f < own y f → (f ≡ i → sender x ≡ i → (f ≡ i → sender y ≡ i → ⊥) → s .position f x < s .position f y) → s .position f x < s .position f y
+  evidence : (x y f : ℕ) → own x f < own y f → (f ≡ i → sender x ≡ i → (f ≡ i → sender y ≡ i → ⊥) → s .position f x < s .position f y)
+      → s .position f x < s .position f y
   evidence x y f h d = go (marked k s i x f) (marked k s i y f)
     where
       go : Marked k s i x f → Marked k s i y f → s .position f x < s .position f y
@@ -65,18 +66,19 @@ module _ (k : System) (s : State) (v : Invariant k s) (i : ℕ) where
     quorum-evidence : (x y : ℕ) → s .position i y < top → QuorumLess n quorum (own x) (own y) → Precedes k (s .position) x y
     quorum-evidence x y p a = elim (decLt 1 quorum) [ yes l ↦ several l | no l ↦ single l ]
       where
-        unless-own : ((f : ℕ) → f < n → own x f < own y f → f ≡ i → sender x ≡ i → (f ≡ i → sender y ≡ i → ⊥) → s .position f x < s .position f y) → Precedes k (s .position) x y
-        unless-own d = quorum-mono n quorum (own x) (own y) (λ f. s .position f x) (λ f. s .position f y) (λ f l h. evidence x y f h (d f l h)) a
+        unless-own : ((f : ℕ) → f ≡ i → sender x ≡ i → (f ≡ i → sender y ≡ i → ⊥) → s .position f x < s .position f y)
+            → Precedes k (s .position) x y
+        unless-own d = quorum-mono n quorum (own x) (own y) (λ f. s .position f x) (λ f. s .position f y) (λ f _ h. evidence x y f h (d f)) a
 
         several : 1 < quorum → Precedes k (s .position) x y
         several l =
             let o = another n (λ f. ltb (own x f) (own y f)) i (omega arith) in
             let g = o .which in
             let h = evidence x y g (ltb-true (own x g) (own y g) (o .first)) (λ e. absurd (eqb-false g i (not-true (eqb g i) (o .second)) e)) in
-            unless-own (λ f l' h' e q d. rw (e ∙ sym q) (sender-agrees x y g h))
+            unless-own (λ f e q _. rw (e ∙ sym q) (sender-agrees x y g h))
 
         single : ¬ (1 < quorum) → Precedes k (s .position) x y
-        single l = unless-own (λ f l' h e q d. absurd (d e (omega (arith, v .logs .named i y p))))
+        single l = unless-own (λ f e _ d. absurd (d e (omega (arith, v .logs .named i y p))))
 
     module _ (t : ℕ → Bool) (w : Closed k s i t) where
       delivered-stable : Stable k (s .position) (λ m. s .delivered i m || t m)
@@ -100,6 +102,7 @@ module _ (k : System) (s : State) (v : Invariant k s) (i : ℕ) where
         read-readable = v .read-readable;
         readable-length = v .readable-length;
         running-readable = v .running-readable;
+        idle = v .idle;
         heard = v .heard;
         logged = λ j m. update-case (λ D. D m ≡ true → s .position j m < top) (s .delivered) i (λ m. s .delivered i m || t m) j (λ e. rw e (delivered-logged m)) (λ _. v .logged j m);
         stable = λ j. update-case (Stable k (s .position)) (s .delivered) i (λ m. s .delivered i m || t m) j (λ _. delivered-stable) (λ _. v .stable j);

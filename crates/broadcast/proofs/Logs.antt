@@ -55,7 +55,8 @@ module _ (k : System) where
       position-kept f y h = elim (position-after f y) [ appended a b o e ↦ absurd (omega arith) | unchanged d e ↦ e ]
 
     -- lengths and readable lengths afterwards
-    pub grow-case : (Q : ℕ → ℕ → Type 0) (f : ℕ) → (f ≡ c → Q (suc (s .readable f)) (suc (L f))) → (f ≢ c → Q (s .readable f) (L f)) → Q (append s c m .readable f) (L′ f)
+    pub grow-case : (Q : ℕ → ℕ → Type 0) (f : ℕ) → (f ≡ c → Q (suc (s .readable f)) (suc (L f))) → (f ≢ c → Q (s .readable f) (L f))
+        → Q (append s c m .readable f) (L′ f)
     unfolding append
     grow-case Q f h d = update-case₂ Q (s .readable) L c (suc (s .readable c)) (suc (L c)) f (λ e. rw (sym e) (h e)) d
 
@@ -87,7 +88,7 @@ module _ (k : System) where
         where
           go : After f y (P′ f y) → After (sender y) y (P′ (sender y) y) → P′ (sender y) y < top
           go (unchanged d e) l = let p = v .sent f y (omega arith) in omega (arith, kept (sender y) y p)
-          go (appended a b o e) (appended a' b' o' e') = omega (arith, ap L a', w .room)
+          go (appended a b o e) (appended a' b' o' e') = omega (arith, ap L a')
           go (appended a b o e) (unchanged d' e') = let p : P (sender y) y < top = rw b (w .known (λ q. d' (rw b (sym q)) b)) in omega arith
 
       causal′ : (f y z : ℕ) → P′ f y < top → P′ (sender y) z < P′ (sender y) y → P′ f z < P′ f y
@@ -108,7 +109,7 @@ module _ (k : System) where
 
       pub append-logs : Logs P′ L′
       append-logs = record {
-        length-top = λ f. grow-case (λ _ l. l ≤ top) f (λ e. omega (arith, w .room, ap L e)) (λ _. v .length-top f);
+        length-top = λ f. grow-case (λ _ l. l ≤ top) f (λ e. omega (arith, ap L e)) (λ _. v .length-top f);
         position-top = λ f y. elim (at f y) [ appended a b o e ↦ omega (arith, v .length-top f) | unchanged d e ↦ omega (arith, v .position-top f y) ];
         position-length = λ f y h. elim (at f y) [
           | appended a b o e ↦ grow-case (λ _ l. P′ f y < l) f (λ _. omega arith) (λ d. absurd (d a))

@@ -34,7 +34,8 @@ module _ (k : System) where
   mark-lacking s i m f h = elim (marked s i m f) [ known a e ↦ e ∙ h | unknown a d e ↦ e ]
 
   module _ (s : State) (c m : ℕ) (new : s .position c m ≡ top) where
-    pub append-mark : (i y f : ℕ) → s .read i f ≤ s .length f → (i ≡ c → y ≡ m → f ≡ c → sender m ≡ c → ⊥) → mark k (append s c m) i y f ≡ mark k s i y f
+    pub append-mark : (i y f : ℕ) → s .read i f ≤ s .length f → (i ≡ c → y ≡ m → f ≡ c → sender m ≡ c → ⊥)
+        → mark k (append s c m) i y f ≡ mark k s i y f
     unfolding append mark
     append-mark i y f r d = go (position-after k s c m new f y) (marked (append s c m) i y f)
       where
@@ -45,7 +46,6 @@ module _ (k : System) where
         go (appended a b o e) (unknown l d' e') = e' ∙ sym (mark-lacking s i y f o)
 
     pub broadcast-mark : sender m ≡ c → mark k (append s c m) c m c ≡ s .length c
-    unfolding append
     broadcast-mark b = go (position-after k s c m new c m) (marked (append s c m) c m c)
       where
         go : After k s c m c m (append s c m .position c m) → Marked (append s c m) c m c → mark k (append s c m) c m c ≡ s .length c

@@ -66,8 +66,8 @@ module _ (k : System) where
           first h = let e = forward-entry k s v r o m w h in record {
             invariant = append-invariant k s v r m e;
             next = position-kept k s r m (e .new) o m (next-present k s v r o m w) ∙ w .next;
-            unread = grow-case k s r m (λ a _. s .read r o < a) o (λ _. omega (arith, w .unread)) (λ _. w .unread);
-            mine = elim (position-after k s r m (e .new) r m) [ appended a b z q ↦ omega (arith, e .room) | unchanged d q ↦ absurd (d refl refl) ];
+            unread = grow-case k s r m (λ a _. s .read r o < a) o (λ _. omega arith) (λ _. w .unread);
+            mine = elim (position-after k s r m (e .new) r m) [ appended a b z q ↦ omega arith | unchanged d q ↦ absurd (d refl refl) ];
             others = λ i d. same-settled k s (append s r m) i (append-view k s v r m e i d) (a .settled i);
             keeps-stable = append-stable k s v r m e;
           }
@@ -80,7 +80,7 @@ module _ (k : System) where
           let g = forwarded in
           record {
             all = record {
-              invariant = scdDeliver-invariant k x (fifoDeliver-invariant k u (g .invariant) r o m (g .next) (g .unread) (g .mine)) r (w .process) t (b .closed);
+              invariant = scdDeliver-invariant k x (fifoDeliver-invariant k u (g .invariant) r o m (w .process) (g .next) (g .unread) (g .mine)) r (w .process) t (b .closed);
               sourced = same-sourced k x (scdDeliver x r t) refl refl (receive-sourced k s v (a .sourced) r o m w);
               settled = λ i. elim (ℕ-discrete i r) [
                 | yes d ↦ rw d (deliver-settled k x r t b)
@@ -129,10 +129,11 @@ module _ (k : System) where
       read-readable = λ r o. omega arith;
       readable-length = λ o. omega arith;
       running-readable = λ c h. refl;
+      idle = λ r o h. refl;
       heard = λ r o m h. absurd (omega arith);
       logged = λ i m h. absurd (false≢true h);
       stable = λ i. record { precedes = λ x y h. absurd (false≢true h) };
     };
     sourced = record { reader = λ f m h. absurd (omega arith) };
-    settled = λ r. record { none-pending = λ b e h y p. absurd (omega (arith, p .logged)) };
+    settled = λ r. record { none-pending = λ b e h y p. absurd (omega arith) };
   }

@@ -37,12 +37,12 @@ module _ (k : System) where
   pub same-settled : (s u : State) (r : ℕ) → SameView s u r → Settled s r → Settled u r
   same-settled s u r e q = record {
     none-pending = λ b l h y p. q .none-pending (e .running b) (sym (e .read) ∙ l ∙ e .length) (record { marks = before h }) y
-        (record { logged = omega (arith, p .logged, e .position y); undelivered = sym (e .delivered y) ∙ p .undelivered });
+        (record { logged = omega (arith, e .position y); undelivered = sym (e .delivered y) ∙ p .undelivered });
   }
     where
       before : AllMarked u r → (y : ℕ) → Pending k s r y → QuorumLess n quorum (mark k s r y) (λ f. top)
-      before h y p = quorum-mono n quorum (mark k u r y) (λ f. top) (mark k s r y) (λ f. top) (λ f _ l. omega (arith, l, e .mark-same y f))
-          (h .marks y (record { logged = omega (arith, p .logged, e .position y); undelivered = e .delivered y ∙ p .undelivered }))
+      before h y p = quorum-mono n quorum (mark k u r y) (λ f. top) (mark k s r y) (λ f. top) (λ f _ l. omega (arith, e .mark-same y f))
+          (h .marks y (record { logged = omega (arith, e .position y); undelivered = e .delivered y ∙ p .undelivered }))
 
   module _ (s : State) (v : Invariant k s) (c m : ℕ) (w : Entry k s c m) where
     pub append-view : (r : ℕ) → r ≢ c → SameView s (append s c m) r
@@ -113,7 +113,6 @@ module _ (k : System) where
       undelivered = not-true (s .delivered r m) (and-right (ltb (s .position r m) top) (not (s .delivered r m)) h);
     }
 
-    -- what is pending after the delivery was pending before it and is not in the set
     after : (y : ℕ) → scdDeliver s r t .delivered r y ≡ (s .delivered r y || t y)
     unfolding scdDeliver
     after y = update-case (λ D. D y ≡ (s .delivered r y || t y)) (s .delivered) r (λ m. s .delivered r m || t m) r (λ _. refl) (λ d. absurd (d refl))

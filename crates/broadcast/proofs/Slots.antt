@@ -25,9 +25,9 @@ module _ (n quorum p q : ℕ) (absent absent′ : ℕ) (Waits Waits′ : ℕ →
   closed-along e t u waits inside outside w = record {
     pending = waits;
     marks = λ x a. let b = inside x a in
-        quorum-mono n quorum (marks′ (b .item)) (λ f. absent′) (marks x) (λ f. absent) (λ f l h. omega (arith, h, e, b .same f l)) (w .marks (b .item) (b .member));
+        quorum-mono n quorum (marks′ (b .item)) (λ f. absent′) (marks x) (λ f. absent) (λ f l h. omega (arith, b .same f l)) (w .marks (b .item) (b .member));
     before = λ x y a g d. let b = inside x a in let c = outside y g d in
-        quorum-mono n quorum (marks′ (b .item)) (marks′ (c .item)) (marks x) (marks y) (λ f l h. omega (arith, h, b .same f l, c .same f l))
+        quorum-mono n quorum (marks′ (b .item)) (marks′ (c .item)) (marks x) (marks y) (λ f l h. omega (arith, b .same f l, c .same f l))
         (w .before (b .item) (c .item) (b .member) (c .waits) (c .member));
   }
 

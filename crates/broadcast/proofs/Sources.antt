@@ -34,14 +34,14 @@ module _ (k : System) where
   }
     where
       kept : (y : ℕ) → Reader s y → Reader (append s c m) y
-      kept y b = record { who = b .who; beyond = omega (arith, b .beyond, position-kept k s c m new (sender y) y (omega (arith, b .beyond, read-top (b .who) (sender y)))) }
+      kept y b = record { who = b .who; beyond = omega (arith, position-kept k s c m new (sender y) y (omega (arith, read-top (b .who) (sender y)))) }
 
   module _ (s : State) (r o : ℕ) where
     fifoDeliver-sourced : Sourced s → Sourced (fifoDeliver s r o)
     unfolding fifoDeliver
     fifoDeliver-sourced a = record {
       reader = λ f y p q. let b = a .reader f y p q in
-          record { who = b .who; beyond = read-case s r o (λ p. s .position (sender y) y < p) (b .who) (sender y) (λ _ _. omega (arith, b .beyond)) (λ _. b .beyond) };
+          record { who = b .who; beyond = read-case s r o (λ p. s .position (sender y) y < p) (b .who) (sender y) (λ _ _. omega arith) (λ _. b .beyond) };
     }
 
     read-now : (m : ℕ) → s .position o m ≡ s .read r o → o ≡ sender m → Reader (fifoDeliver s r o) m
@@ -64,7 +64,7 @@ module _ (k : System) where
 
         read-top′ : (r' o' : ℕ) → fifoDeliver s r o .read r' o' ≤ top
         read-top′ r' o' = read-case s r o (λ p. p ≤ top) r' o'
-            (λ d e. rw (d, e) (omega (arith, w .unread, v .readable-length o, v .logs .length-top o))) (λ _. read-top r' o')
+            (λ d e. rw (d, e) (omega (arith, v .readable-length o, v .logs .length-top o))) (λ _. read-top r' o')
 
         -- the entry stands in the log of its sender, who reads it now, or in another's
         source : Reader (fifoDeliver s r o) m

@@ -32,7 +32,7 @@ module _ (k : System) where
 
   precedes-asymmetric : (P : ℕ → ℕ → ℕ) (x y : ℕ) → Precedes P x y → Precedes P y x → ⊥
   precedes-asymmetric P x y a b =
-      let w = meet n (λ f. ltb (P f x) (P f y)) (λ f. ltb (P f y) (P f x)) (omega (arith, k .quorums-meet)) in
+      let w = meet n (λ f. ltb (P f x) (P f y)) (λ f. ltb (P f y) (P f x)) (omega arith) in
       let f = w .which in
       omega (arith, ltb-true (P f x) (P f y) (w .first), ltb-true (P f y) (P f x) (w .second))
 

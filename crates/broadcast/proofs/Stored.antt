@@ -39,7 +39,7 @@ module _ (k : System) (s : State) (a : All k s) (r o m : ℕ) (w : MayRead k s r
     where
       same : forward k s r m .position o y ≡ forward k s r m .read r o → y ≡ m
       same q = let g = forwarded k s a r o m w in let z = g .invariant in
-          z .logs .distinct o y m (omega (arith, g .unread, z .readable-length o, z .logs .length-top o)) (q ∙ sym (g .next))
+          z .logs .distinct o y m (omega (arith, z .readable-length o, z .logs .length-top o)) (q ∙ sym (g .next))
 
   receive-mark-new : mark k S r m o ≡ s .read r o
   unfolding append
@@ -95,7 +95,7 @@ module _ (k : System) (slots : ℕ) (name : ℕ → ℕ) (K K' : ℕ → ℕ →
   module _ (v : Invariant k s) (c m : ℕ) (w : MayBroadcast k s c m) where
     nowhere : (f : ℕ) → s .position f m ≡ top
     nowhere f = elim (decLt (s .position f m) top) [
-      | yes h ↦ absurd (omega (arith, w .new, rw (w .own) at (v .logs .sent f m h)))
+      | yes h ↦ absurd (omega (arith, rw (w .own) at (v .logs .sent f m h)))
       | no h ↦ omega (arith, v .logs .position-top f m)
     ]
 

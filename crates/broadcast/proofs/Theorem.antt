@@ -43,10 +43,10 @@ module _ (k : System) where
   pub no-overtaking : (s : State) → All k s → (i x m : ℕ) → s .delivered i x ≡ true → s .position (sender x) m < s .position (sender x) x → s .delivered i m ≡ true
   no-overtaking s a i x m d h = by-contradiction (s .delivered i m) (λ e.
       let v = a .invariant in
-      let o = count-found n (λ f. ltb (s .position f x) (s .position f m)) (omega (arith, k .quorums-meet, v .stable i .precedes x m d e)) in
+      let o = count-found n (λ f. ltb (s .position f x) (s .position f m)) (omega (arith, v .stable i .precedes x m d e)) in
       let f = o .which in
       let l = ltb-true (s .position f x) (s .position f m) (o .passes) in
-      omega (arith, l, v .logs .causal f x m (omega (arith, l, v .logs .position-top f m)) h))
+      omega (arith, v .logs .causal f x m (omega (arith, v .logs .position-top f m)) h))
 
   -- so the test by the highest number delivered of a sender is right
   pub passed-over : (s : State) → All k s → (i x m : ℕ) → s .delivered i x ≡ true → sender x ≡ sender m
@@ -59,7 +59,8 @@ module _ (k : System) where
   ]
 
   -- a message sent after one moment and delivered at a later one: all that was delivered anywhere at the first is delivered there
-  pub later-contains : (s u : State) → All k s → Run k s u → (i j m : ℕ) → s .position (sender m) m ≡ top → u .delivered j m ≡ true → Subset (s .delivered i) (u .delivered j)
+  pub later-contains : (s u : State) → All k s → Run k s u → (i j m : ℕ) → s .position (sender m) m ≡ top → u .delivered j m ≡ true
+      → Subset (s .delivered i) (u .delivered j)
   later-contains s u a p i j m e d = elim (containment s u a p i j) [
     | inl w ↦ w
     | inr w ↦ absurd (omega (arith, delivered-sent s a i m (w .each m d)))
@@ -73,7 +74,7 @@ module _ (k : System) where
         let p = v .logged r m h in
         elim (ℕ-discrete r (sender m)) [
           | yes d ↦ rw (sym d) (omega (arith, v .logs .position-length r m p, v .running-readable r on))
-          | no d ↦ let z = a .sourced .reader r m p d in omega (arith, z .beyond, v .read-readable (z .who) (sender m))
+          | no d ↦ let z = a .sourced .reader r m p d in omega (arith, v .read-readable (z .who) (sender m))
         ]
 
     running-marked : (y f : ℕ) → s .position r y < top → f < n → s .running f ≡ true → mark k s r y f < top

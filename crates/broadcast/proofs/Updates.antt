@@ -23,12 +23,14 @@ update-case Q f c v x h d = update-case₂ (λ a _. Q a) f f c v v x h d
 pub update-other : {A : Type 0} (f : ℕ → A) (c : ℕ) (v : A) (x : ℕ) → x ≢ c → update f c v x ≡ f x
 update-other f c v x d = update-case (λ a. a ≡ f x) f c v x (λ e. absurd (d e)) (λ _. refl)
 
-pub updateAt-case : (Q : ℕ → Type 0) (f : ℕ → ℕ → ℕ) (c d v x y : ℕ) → (x ≡ c → y ≡ d → Q v) → ((x ≡ c → y ≡ d → ⊥) → Q (f x y)) → Q (updateAt f c d v x y)
+pub updateAt-case : (Q : ℕ → Type 0) (f : ℕ → ℕ → ℕ) (c d v x y : ℕ) → (x ≡ c → y ≡ d → Q v) → ((x ≡ c → y ≡ d → ⊥) → Q (f x y))
+    → Q (updateAt f c d v x y)
 unfolding updateAt
 updateAt-case Q f c d v x y h g = update-case (λ row. Q (row y)) f c (update (f c) d v) x
     (λ e. update-case Q (f c) d v y (λ e'. h e e') (λ n. rw (← e) (g (λ _ e'. n e'))))
     (λ n. g (λ e _. n e))
 
-pub read-case : (s : State) (r o : ℕ) (Q : ℕ → Type 0) (i f : ℕ) → (i ≡ r → f ≡ o → Q (suc (s .read i f))) → ((i ≡ r → f ≡ o → ⊥) → Q (s .read i f)) → Q (fifoDeliver s r o .read i f)
+pub read-case : (s : State) (r o : ℕ) (Q : ℕ → Type 0) (i f : ℕ) → (i ≡ r → f ≡ o → Q (suc (s .read i f))) → ((i ≡ r → f ≡ o → ⊥) → Q (s .read i f))
+    → Q (fifoDeliver s r o .read i f)
 unfolding fifoDeliver
 read-case s r o Q i f h g = updateAt-case Q (s .read) r o (suc (s .read r o)) i f (λ a b. rw (← a, ← b) (h a b)) g

@@ -25,7 +25,7 @@ module _ (n quorum absent : ℕ) (Pending : ℕ → Type 0) (mark : ℕ → ℕ 
     pub largest : (u : ℕ → Bool) → ClosedSet u → Subset u t
 
 module _ (k : System) (s : State) (i : ℕ) where
-  -- what i has marked of m: the position in f's log, where i has read that far or is itself m's sender and f
+  -- what i knows of m's position in f's log: i has read it there, or is f and m's sender; otherwise top
   unfoldable pub mark : ℕ → ℕ → ℕ
   mark m f =
       cond (ltb (s .position f m) (s .read i f) || (eqb f i && eqb (k .sender m) i))

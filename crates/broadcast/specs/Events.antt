@@ -29,7 +29,7 @@ module _ (k : System) (s : State) where
     pub process : c < k .n
     pub running : s .running c ≡ true
     pub fits : l ≤ s .readable c
-    pub keeps-read : (r : ℕ) → s .read r c ≤ l
+    pub keeps-read : (r : ℕ) → r < k .n → s .read r c ≤ l
 
   pub data Event : State → Type 0 where
     broadcasts : (c m : ℕ) → MayBroadcast c m → Event (append s c m)
@@ -49,6 +49,6 @@ module _ (k : System) (s : State) where
   pub record AllRead : Type 0 where
     pub to-end : (r o : ℕ) → r < k .n → o < k .n → s .running r ≡ true → s .read r o ≡ s .readable o
 
-  -- m was sent, and its sender's log was not cut before it
+  -- m was sent, and no crash cut it off its sender's log
   abbrev pub Remains : ℕ → Type 0
   Remains m = s .position (k .sender m) m < s .readable (k .sender m)

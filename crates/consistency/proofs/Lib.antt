@@ -1,0 +1,5 @@
+pub mod Decimal
+pub mod Reader
+pub mod Steps
+pub mod FileRuns
+pub mod ReadableNames
