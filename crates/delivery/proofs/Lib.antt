@@ -1,0 +1,2 @@
+pub mod Matrix
+pub mod Removal

@@ -1,0 +1,69 @@
+-- `before_count` counts the controllers that have a smaller number for the first. Assumes nothing.
+use mathlib.Core.Path.{_≡_}
+use mathlib.Core.Logic.{⊎-elim}
+use Prim.Native.Nat.{_-_, _≤_, min}
+use native.Mathlib.Omega.{arith}
+use lib.Dec.{ltb}
+use lib.ListN.{getD}
+use borrow.Author.Tests.{lt-ltb, le-ltb}
+use Rattle.lists.specs.Below
+use Rattle.lists.proofs.Loops.{count-start, count-yes, count-no, count-end}
+use Rattle.model.specs.Tables.{mark}
+use Rattle.model.specs.Delivery.{beforeCount}
+use borrow.Author.Needs.{needs}
+use Rattle.delivery.proofs.before_count.Statement.{statement}
+use Rattle.delivery.proofs.before_count.Tie as tie
+
+abbrev Inv-loop : tie.InvT-loop
+Inv-loop n first second end count₀ f₀ count f = (f ≤ end) × (end ≡ min n 7) × (count ≤ f) × (count ≡ Below.count f (λ g. ltb ((getD first g (record { 0 = 0 })) .0) ((getD second g (record { 0 = 0 })) .0)))
+
+abbrev μ-loop : tie.MeasureT-loop
+μ-loop n first second end count₀ f₀ count f = end - f
+
+clipped-requires : tie.Need-clipped-requires Inv-loop μ-loop
+clipped-requires c κs = search needs
+
+loop-holds : tie.Need-loop-holds Inv-loop μ-loop
+loop-holds c = (search needs, c .clipped .ensures, search needs, count-start _)
+
+element-copy-out-if1 : tie.Need-element-copy-out-if1 Inv-loop μ-loop
+element-copy-out-if1 c = search needs
+
+element-copy-out-if1-2 : tie.Need-element-copy-out-if1-2 Inv-loop μ-loop
+element-copy-out-if1-2 c = search needs
+
+add-count : tie.Need-add-count Inv-loop μ-loop
+add-count c = search needs
+
+add-f : tie.Need-add-f Inv-loop μ-loop
+add-f c = search needs
+
+loop-less : tie.Need-loop-less Inv-loop μ-loop
+loop-less c = search needs
+
+loop-again : tie.Need-loop-again Inv-loop μ-loop
+loop-again c = 
+    ⊎-elim
+    (λ w. (omega arith, search needs, omega arith, count-yes _ _ _ _ (lt-ltb _ _ (w .0 .taken)) (c .before .before .loop .inv .3) (w .1)))
+    (λ w. (omega arith, search needs, omega arith, count-no _ _ _ _ (le-ltb _ _ (w .0 .left)) (c .before .before .loop .inv .3) (w .1)))
+    (c .if1 .came)
+
+returns : tie.Need-returns Inv-loop μ-loop
+unfolding beforeCount
+returns c = count-end _ _ _ _ (omega arith) (c .before .loop .inv .3)
+
+pub before-count-spec : {M : Type 1} → statement M
+before-count-spec =
+    tie.close
+    (tie.spec
+    Inv-loop
+    μ-loop
+    clipped-requires
+    loop-holds
+    element-copy-out-if1
+    element-copy-out-if1-2
+    add-count
+    add-f
+    loop-less
+    loop-again
+    returns)
