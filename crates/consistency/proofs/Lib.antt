@@ -3,3 +3,13 @@ pub mod Reader
 pub mod Steps
 pub mod FileRuns
 pub mod ReadableNames
+pub mod Bridge
+pub mod BridgeFacts
+pub mod BridgeMarks
+pub mod BridgeKept
+pub mod BridgeStop
+pub mod BridgeSets
+pub mod BridgeReceive
+pub mod BridgeHandover
+pub mod BridgeSend
+pub mod BridgeNext

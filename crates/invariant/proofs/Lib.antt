@@ -4,6 +4,7 @@ pub mod Sizes
 pub mod Buffering
 pub mod Delivering
 pub mod Receiving
+pub mod Highest
 pub mod Replacing
 pub mod Sending
 pub mod Stopping

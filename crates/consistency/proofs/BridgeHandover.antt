@@ -1,0 +1,158 @@
+-- An allowed handover is a legal delivery: the set that the receiver applies is the largest one of the abstract system.
+-- Assumes nothing.
+use mathlib.Core.Path.{_≡_, refl, sym, ap, _∙_}
+use mathlib.Core.Bool.{Bool, true, false, not, _&&_, _||_, or-comm}
+use mathlib.Core.Logic.{_≢_}
+use Prim.Native.Nat.{ℕ, suc, _-_, min, _≤_, _<_}
+use native.Mathlib.Omega.{arith}
+use Rattle.lists.proofs.Tests.{or-false}
+use Rattle.model.specs.Tables.{seats, capacity, absent, at, message, held, applied, withController}
+use Rattle.model.specs.Delivery.{Slots, has, applicable}
+use Rattle.model.specs.Events.{nextSlot, received, handoverSet, deliver, handover, next}
+use Rattle.model.specs.declared.Controller.{Controller}
+use Rattle.model.specs.declared.Table.{Table}
+use Rattle.model.specs.declared.Event.the-variants.{Handover}
+use Rattle.model.proofs.Allowed.{HandoverAllowed}
+use Rattle.invariant.proofs.Delivering.{delivered-entry, delivered-held, delivered-applied}
+use Rattle.invariant.proofs.Receiving.{received-good, handover-well-formed, next-slot-run}
+use Rattle.invariant.proofs.Sizes.{next-sized}
+use Rattle.broadcast.specs.State.{State, append, fifoDeliver, scdDeliver, forward, receive}
+use Rattle.broadcast.specs.Delivery.{Largest}
+use Rattle.broadcast.specs.Events.{MayRead, Event, delivers}
+use Rattle.broadcast.proofs.Updates.{read-case}
+use Rattle.broadcast.proofs.Logs.{Entry}
+use Rattle.broadcast.proofs.Invariant.{Invariant, fifoDeliver-invariant}
+use Rattle.broadcast.proofs.Legal.{forward-case, forward-entry}
+use Rattle.broadcast.proofs.Settled.{fifoDeliver-view, scdDeliver-view}
+use Rattle.broadcast.proofs.Stored.{deliver-stored}
+use Rattle.broadcast.proofs.Slots.{Slot}
+use Rattle.broadcast.proofs.Runs.{forwarded, event-kept}
+use Rattle.consistency.proofs.Bridge.{top, system, codeAt, marksOf, Shows, Related}
+use Rattle.consistency.proofs.BridgeFacts.{few, agrees}
+use Rattle.consistency.proofs.BridgeMarks.{blank-absent}
+use Rattle.consistency.proofs.BridgeKept.{Followed, update-same, same-shows, replaced-shows, append-others, append-slot-of, append-numbered}
+use Rattle.consistency.proofs.BridgeSets.{inSet, in-set-slot, in-set-at, applicable-names}
+use Rattle.consistency.proofs.BridgeReceive.{may-read, received-shows, received-running}
+
+-- THE SLOTS OF A SET LEAVE THE BUFFER
+
+module _ (n : ℕ) (t : Table) (counted : t .count ≤ capacity) (s : State) (i : ℕ) (c : Controller) (S : Slots) (d : ℕ → Bool)
+    (same : (j : ℕ) → j < t .count → d (codeAt t j) ≡ has S j) where
+  delivered-is : (y : ℕ) → scdDeliver s i d .delivered i y ≡ (s .delivered i y || d y)
+  unfolding scdDeliver
+  delivered-is y = ap (λ D. D y) (update-same (s .delivered) i (λ m. s .delivered i m || d m))
+
+  pub delivered-shows : Shows n (t .count) (codeAt t) s i c → Shows n (t .count) (codeAt t) (scdDeliver s i d) i (deliver t c S)
+  unfolding scdDeliver deliver
+  delivered-shows h = record {
+    length = h .length;
+    places = h .places;
+    running = h .running;
+    log = h .log;
+    applied-is = λ j l.
+        delivered-is (codeAt t j) ∙ rw (h .applied-is j l, same j l) (or-comm (applied c j) (has S j)) ∙ sym (delivered-applied t c S j (omega arith));
+    marks = deliver-stored (system n) (t .count) (codeAt t) (marksOf c) (marksOf (deliver t c S)) s i i d cell (h .marks);
+    absent-marks = λ j f l b e. unmarked j f l b (has S j) refl (sym (delivered-held t c S j l) ∙ e);
+  }
+    where
+      cell : (j f : ℕ) → j < t .count → f < min n seats → scdDeliver s i d .delivered i (codeAt t j) ≡ false → marksOf (deliver t c S) j f ≡ marksOf c j f
+      cell j f l b e =
+          let o = or-false (s .delivered i (codeAt t j)) (d (codeAt t j)) (sym (delivered-is (codeAt t j)) ∙ e) in
+          rw (delivered-entry t c S j (omega arith), sym (same j l) ∙ o .1) refl
+
+      unmarked : (j f : ℕ) → j < capacity → f < seats → (b : Bool) → has S j ≡ b → (not (has S j) && held c j) ≡ false → marksOf (deliver t c S) j f ≡ absent
+      unmarked j f l b true p e = rw (delivered-entry t c S j l, p) (blank-absent f b)
+      unmarked j f l b false p e = rw (delivered-entry t c S j l, p) (h .absent-marks j f l b (rw p at e))
+
+-- THE HANDOVER
+
+module _ (n : ℕ) (t : Table) (s : State) (g : Related n t s) (r o : ℕ) (reader : r < n) (owner : o < n) (a : HandoverAllowed t (suc r) (suc o)) where
+  abbrev v : Invariant (system n) s
+  v = g .all .invariant
+
+  -- the code of the message read
+  abbrev x : ℕ
+  x = codeAt t (nextSlot t (suc r) (suc o))
+
+  abbrev R : State
+  R = receive (system n) s r o x
+
+  abbrev c : Controller
+  c = received t (suc r) (suc o)
+
+  abbrev S : Slots
+  S = handoverSet t (suc r) (suc o)
+
+  abbrev u : State
+  u = scdDeliver R r (inSet t S)
+
+  w : MayRead (system n) s r o x
+  w = may-read n t s g r o reader owner a
+
+  enters : top ≤ s .position r x → Entry (system n) s r x
+  enters = forward-entry (system n) s v r o x w
+
+  received-invariant : Invariant (system n) R
+  received-invariant =
+      let f = forwarded (system n) s (g .all) r o x w in
+      fifoDeliver-invariant (system n) (forward (system n) s r x) (f .invariant) r o x (w .process) (f .next) (f .unread) (f .mine)
+
+  slot : Slot (t .count) (codeAt t) x
+  slot = record { slot = nextSlot t (suc r) (suc o); below = next-slot-run t (g .formed) (g .sized) (suc r) (suc o) a; is = refl }
+
+  slot-of : (i y : ℕ) → R .position i y < top → Slot (t .count) (codeAt t) y
+  unfolding fifoDeliver
+  slot-of = forward-case (system n) (λ z. (i y : ℕ) → z .position i y < top → Slot (t .count) (codeAt t) y) s r x
+      (λ _. g .slot-of)
+      (λ l. append-slot-of n s v r x (enters l) (t .count) (codeAt t) slot (g .slot-of))
+
+  numbered : (i : ℕ) → i < t .count → suc (R .position (message t i .sender - 1) (codeAt t i)) ≡ message t i .number .0
+  unfolding fifoDeliver
+  numbered i h = forward-case (system n) (λ z. suc (z .position (message t i .sender - 1) (codeAt t i)) ≡ message t i .number .0) s r x
+      (λ _. g .numbered i h)
+      (λ l. append-numbered n s v r x (enters l) _ _ _ (g .formed .numbers i h .1) (g .numbered i h))
+
+  set-at : (i : ℕ) → i < t .count → inSet t S (codeAt t i) ≡ has S i
+  set-at = in-set-at t S (g .formed)
+
+  largest : Largest (system n) R r (inSet t S)
+  unfolding handoverSet
+  largest =
+      let k = received-good t (g .formed) (g .sized) (suc r) (suc o) a in
+      applicable-names n (t .count) (codeAt t) c (g .formed .counted) (λ i h l. k .outside i h l .0) R r
+      (agrees n t (g .formed) R received-invariant r (suc r) c k (received-shows n t s g r o reader owner a) (received-running n t s g r o reader owner a) (slot-of r))
+      (inSet t S) (λ i h. set-at i h ∙ ap (λ z. has (applicable z (c .pending)) i) (g .size)) (in-set-slot t S)
+
+  legal : Event (system n) s u
+  legal = delivers r o x (inSet t S) w largest
+
+  others-show : (i : ℕ) → i < n → i ≢ r → Shows n (t .count) (codeAt t) u i (at t (suc i))
+  unfolding fifoDeliver scdDeliver append
+  others-show i l d =
+      same-shows n (t .count) (codeAt t) R u i y (scdDeliver-view (system n) R r (inSet t S) i d) refl (λ _. refl) refl
+      (same-shows n (t .count) (codeAt t) F R i y (fifoDeliver-view (system n) F r o i d) refl
+      (λ q. read-case F r o (λ p. p ≡ F .read i q) i q (λ e _. absurd (d e)) (λ _. refl)) refl
+      (forward-case (system n) (λ z. Shows n (t .count) (codeAt t) z i y) s r x (λ _. g .controllers i l)
+      (λ b. append-others n s v r x (enters b) (t .count) (codeAt t) i y d (g .controllers i l))))
+    where
+      y : Controller
+      y = at t (suc i)
+
+      F : State
+      F = forward (system n) s r x
+
+  handover-related : Related n (next t (Handover (suc r) (suc o))) u
+  unfolding next handover withController message scdDeliver
+  handover-related = record {
+    sized = next-sized t (Handover (suc r) (suc o)) (g .sized);
+    formed = handover-well-formed t (g .formed) (g .sized) (suc r) (suc o) a;
+    size = g .size;
+    all = event-kept (system n) s u (g .all) legal .all;
+    controllers = replaced-shows n t (g .sized) (few g) r reader (deliver t c S) u
+        (delivered-shows n t (g .formed .counted) R r c S (inSet t S) set-at (received-shows n t s g r o reader owner a)) others-show;
+    slot-of = slot-of;
+    numbered = numbered;
+  }
+
+  pub handover-followed : Followed n (next t (Handover (suc r) (suc o))) s
+  handover-followed = record { after = u; legal = legal; related = handover-related }

@@ -1,0 +1,91 @@
+-- What an event keeps: a process that knows the same shows the same controller, also where another is replaced in the table; and
+-- what a log shows that gets one message more. Assumes nothing.
+use mathlib.Core.Path.{_≡_, refl, sym, ap, _∙_}
+use mathlib.Core.Logic.{_≢_}
+use Prim.Native.Nat.{ℕ, suc, _+_, _≤_, _<_}
+use native.Mathlib.Omega.{arith}
+use native.Mathlib.Decide.{ℕ-discrete}
+use Rattle.model.specs.Tables.{seats, capacity, at, message, slotAt, withController, withEntry}
+use Rattle.model.specs.Sized.{Sized, SizedController}
+use Rattle.model.specs.declared.Controller.{Controller}
+use Rattle.model.specs.declared.Table.{Table}
+use Rattle.invariant.proofs.Stores.{at-same, at-other}
+use Rattle.invariant.proofs.Logs.{Entered, last, earlier, entered}
+use Rattle.broadcast.specs.State.{State, update, append}
+use Rattle.broadcast.specs.Events.{Event as Step}
+use Rattle.broadcast.proofs.Updates.{update-case}
+use Rattle.broadcast.proofs.Logs.{Entry, appended, unchanged, position-after, position-kept, grow-case}
+use Rattle.broadcast.proofs.Invariant.{Invariant}
+use Rattle.broadcast.proofs.Settled.{SameView, append-view}
+use Rattle.broadcast.proofs.Slots.{Slot}
+use Rattle.consistency.proofs.Bridge.{top, system, codeAt, Shows, Related}
+
+-- a legal event of the abstract system whose state shows the table after an event
+pub record Followed (n : ℕ) (t : Table) (s : State) : Type 0 where
+  pub after : State
+  pub legal : Step (system n) s after
+  pub related : Related n t after
+
+pub update-same : {A : Type 0} (f : ℕ → A) (c : ℕ) (b : A) → update f c b c ≡ b
+update-same f c b = update-case (λ a. a ≡ b) f c b c (λ _. refl) (λ d. absurd (d refl))
+
+module _ (n slots : ℕ) (name : ℕ → ℕ) (s u : State) (i : ℕ) (c : Controller) where
+  pub same-shows : SameView (system n) s u i → u .readable i ≡ s .readable i → ((o : ℕ) → u .read i o ≡ s .read i o) → u .running i ≡ s .running i
+      → Shows n slots name s i c → Shows n slots name u i c
+  same-shows e readable read running h = record {
+    length = readable ∙ h .length;
+    places = λ o l. read o ∙ h .places o l;
+    running = running ∙ h .running;
+    log = λ p l. e .position _ ∙ h .log p l;
+    applied-is = λ j l. e .delivered (name j) ∙ h .applied-is j l;
+    marks = record { stored = λ j l d f b. h .marks .stored j l (sym (e .delivered (name j)) ∙ d) f b ∙ ap suc (sym (e .mark-same (name j) f)) };
+    absent-marks = h .absent-marks;
+  }
+
+module _ (n : ℕ) (t : Table) (z : Sized t) (few : n ≤ seats) (r : ℕ) (process : r < n) (x : Controller) (u : State) where
+  pub replaced-shows : Shows n (t .count) (codeAt t) u r x → ((i : ℕ) → i < n → i ≢ r → Shows n (t .count) (codeAt t) u i (at t (suc i)))
+      → (i : ℕ) → i < n → Shows n (withController t (suc r) x .count) (codeAt (withController t (suc r) x)) u i (at (withController t (suc r) x) (suc i))
+  unfolding withController message
+  replaced-shows new old i h = go (ℕ-discrete i r)
+    where
+      go : Dec (i ≡ r) → Shows n (withController t (suc r) x .count) (codeAt (withController t (suc r) x)) u i (at (withController t (suc r) x) (suc i))
+      go (yes e) = rw (e, at-same t (suc r) x z (omega arith)) new
+      go (no d) = rw (at-other t (suc r) (suc i) x (omega arith) (omega arith) (omega arith)) (old i h d)
+
+-- A LOG GETS ONE MESSAGE MORE
+
+module _ (n : ℕ) (s : State) (c m : ℕ) (new : s .position c m ≡ top) where
+  pub append-readable : append s c m .readable c ≡ suc (s .readable c)
+  unfolding append
+  append-readable = update-same (s .readable) c (suc (s .readable c))
+
+  pub append-position : append s c m .position c m ≡ s .length c
+  append-position = elim (position-after (system n) s c m new c m) [ appended _ _ _ e ↦ e | unchanged d _ ↦ absurd (d refl refl) ]
+
+  -- slot j, which holds m, ends the log of controller x
+  pub append-log : (x : Controller) → SizedController x → x .length < capacity → s .length c ≡ x .length → (name : ℕ → ℕ) (j : ℕ) → name j ≡ m
+      → ((p : ℕ) → p < x .length → s .position c (name (slotAt x p)) ≡ p)
+      → (p : ℕ) → p < x .length + 1 → append s c m .position c (name (slotAt (withEntry x j) p)) ≡ p
+  append-log x z room l name j is log p h = go (entered x j z room p h)
+    where
+      go : Entered x j p → append s c m .position c (name (slotAt (withEntry x j) p)) ≡ p
+      go (last b e) = rw (e, is) (append-position ∙ l ∙ sym b)
+      go (earlier b e) = rw e (position-kept (system n) s c m new c (name (slotAt x p)) (omega (arith, log p b)) ∙ log p b)
+
+module _ (n : ℕ) (s : State) (v : Invariant (system n) s) (c m : ℕ) (w : Entry (system n) s c m) where
+  pub append-others : (slots : ℕ) (name : ℕ → ℕ) (i : ℕ) (x : Controller) → i ≢ c → Shows n slots name s i x → Shows n slots name (append s c m) i x
+  unfolding append
+  append-others slots name i x d h =
+      same-shows n slots name s (append s c m) i x (append-view (system n) s v c m w i d)
+      (grow-case (system n) s c m (λ a _. a ≡ s .readable i) i (λ e. absurd (d e)) (λ _. refl)) (λ o. refl) refl h
+
+  pub append-slot-of : (slots : ℕ) (name : ℕ → ℕ) → Slot slots name m → ((i y : ℕ) → s .position i y < top → Slot slots name y)
+      → (i y : ℕ) → append s c m .position i y < top → Slot slots name y
+  append-slot-of slots name new old i y l = elim (position-after (system n) s c m (w .new) i y) [
+    | appended _ e _ _ ↦ rw e new
+    | unchanged _ e ↦ old i y (omega arith)
+  ]
+
+  -- a message's place in its sender's log
+  pub append-numbered : (f y k : ℕ) → k ≤ capacity → suc (s .position f y) ≡ k → suc (append s c m .position f y) ≡ k
+  append-numbered f y k l e = omega (arith, position-kept (system n) s c m (w .new) f y (omega arith))
