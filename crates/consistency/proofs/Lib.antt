@@ -13,3 +13,14 @@ pub mod BridgeReceive
 pub mod BridgeHandover
 pub mod BridgeSend
 pub mod BridgeNext
+pub mod Names
+pub mod SlotNames
+pub mod Ledger
+pub mod LedgerChanges
+pub mod LedgerStop
+pub mod PassedOver
+pub mod LedgerHandover
+pub mod LedgerSend
+pub mod LedgerNext
+pub mod Sums
+pub mod Moments

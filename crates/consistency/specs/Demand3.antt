@@ -9,7 +9,7 @@ use lib.ListN.{length, getD, take, drop}
 use lib.IntN.{ℤ, pos, _+ℤ_, _-ℤ_}
 use lib.Dec.{eqb, ltb}
 use Rattle.lists.specs.Below.{count}
-use Rattle.model.specs.Tables.{messageNumber, noName}
+use Rattle.model.specs.Tables.{messageNumber, noName, Named}
 use Rattle.model.specs.Records.{kind, word, behind, decode}
 use Rattle.model.specs.Calls.{EventAnswer, Outcome, event, look}
 use Rattle.model.specs.Runs.{RunOutcome}
@@ -180,10 +180,6 @@ amounts xs [] = pos 0
 amounts xs (m ∷ ms) = amountOf xs m +ℤ amounts xs ms
 
 -- THE CLAIM
-
-pub record Named (n c : ℕ) : Type 0 where
-  pub low : 0 < c
-  pub high : c ≤ n
 
 abbrev pub Contains : List Name → List Name → Type 0
 Contains xs ys = (m : Name) → has m ys ≡ true → has m xs ≡ true

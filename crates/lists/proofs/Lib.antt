@@ -3,3 +3,4 @@ pub mod Below
 pub mod Search
 pub mod Build
 pub mod Loops
+pub mod Grow

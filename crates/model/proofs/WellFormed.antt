@@ -4,15 +4,11 @@ use mathlib.Core.Path.{_≡_}
 use mathlib.Core.Bool.{true, false, _||_}
 use mathlib.Core.Logic.{_⊎_}
 use Prim.Native.Nat.{ℕ, _≤_, _<_}
+pub use Rattle.model.specs.Tables.{Named}
 use Rattle.model.specs.Tables.{seats, capacity, absent, yes?, at, message, slotAt, place, entry, held, mark, applied, highest}
 use Rattle.model.specs.WellFormed.{inLog, greatestApplied, fairAmount}
 use Rattle.model.specs.declared.Controller.{Controller}
 use Rattle.model.specs.declared.Table.{Table}
-
--- a name of one of n controllers
-pub record Named (n c : ℕ) : Type 0 where
-  pub low : 0 < c
-  pub high : c ≤ n
 
 -- "marks are absent or 1 to 64"
 abbrev pub GoodMark : ℕ → Type 0

@@ -1,6 +1,6 @@
 -- The table: its limits, what stands in it, and how one part of it is replaced.
 -- Words: a controller is a process, a log its fifo-broadcast, pending its buffer, applied what it has scd-delivered.
-use Prim.Native.Nat.{ℕ, zero, suc, _+_, _-_}
+use Prim.Native.Nat.{ℕ, zero, suc, _+_, _-_, _≤_, _<_}
 use mathlib.Core.Bool.{Bool}
 use mathlib.Core.List.{List, [], _∷_}
 use lib.ListN.{getD, set, replicate}
@@ -22,6 +22,11 @@ seats = 7
 
 abbrev pub capacity : ℕ
 capacity = 64
+
+-- a controller's name, of n
+pub record Named (n c : ℕ) : Type 0 where
+  pub low : 0 < c
+  pub high : c ≤ n
 
 -- greater than every forward number, and not less than itself
 abbrev pub absent : ℕ

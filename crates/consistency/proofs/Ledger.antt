@@ -1,0 +1,126 @@
+-- The ledger and the table say the same: the record of it, the names that a ledger knows as slots of the table, and the start.
+-- Assumes nothing.
+use mathlib.Core.Path.{_≡_, refl, sym, ap, _∙_}
+use mathlib.Core.Bool.{true, not}
+use mathlib.Core.List.{[], map}
+use Prim.Native.Nat.{ℕ, _-_, _≤_, _<_}
+use native.Mathlib.Nat.{not-suc-le-zero}
+use native.Mathlib.Omega.{arith}
+use lib.ListN.{getD-replicate}
+use lib.IntN.{ℤ, pos, _-ℤ_}
+use Rattle.lists.specs.Build.{tabulateFrom, tabulate}
+use Rattle.lists.proofs.Tests.{and-right, contradiction}
+use Rattle.lists.proofs.Grow.{map-tabulate}
+use Rattle.model.specs.Tables.{seats, yes?, at, message, place, slotAt, applied, idle, fresh, withController}
+use Rattle.model.specs.Delivery.{Slots, has as member}
+use Rattle.model.specs.Events.{nameOf, namesOf}
+use Rattle.model.specs.Sized.{Sized}
+use Rattle.model.specs.WellFormed.{inLog}
+use Rattle.model.specs.declared.Name.{Name}
+use Rattle.model.specs.declared.Message.{Message}
+use Rattle.model.specs.declared.Payload.{Payload}
+use Rattle.model.specs.declared.Controller.{Controller}
+use Rattle.model.specs.declared.Table.{Table}
+use Rattle.model.proofs.WellFormed.{Named, GoodController, WellFormed}
+use Rattle.invariant.proofs.Sizes.{fresh-sized}
+use Rattle.invariant.proofs.Kept.{at-fresh, fresh-well-formed}
+use Rattle.consistency.specs.Demand3.{has, Distinct, join, Sent, Ledger, start, sentNames}
+use Rattle.consistency.proofs.Names.{same-true, has-tabulate-at, has-tabulate-of, distinct-tabulate}
+use Rattle.consistency.proofs.SlotNames.{nameAt, names-at, slots-differ, logNames}
+
+-- an amount, from its two magnitudes
+abbrev pub balance : Payload → ℤ
+balance p = pos (p .added) -ℤ pos (p .withdrawn)
+
+-- what the ledger keeps of a message, and of that of slot j
+abbrev pub sentOf : Message → Sent
+sentOf m = record { name = nameOf m; payload = m .payload; amount = balance (m .payload) }
+
+abbrev pub sentAt : Table → ℕ → Sent
+sentAt t j = sentOf (message t j)
+
+-- the sender of slot j
+abbrev pub senderAt : Table → ℕ → ℕ
+senderAt t j = message t j .sender
+
+-- a slot of the run with this name
+pub record Slot (t : Table) (m : Name) : Type 0 where
+  pub which : ℕ
+  pub below : which < t .count
+  pub named : nameAt t which ≡ m
+
+pub record Recorded (n : ℕ) (t : Table) (l : Ledger) : Type 0 where
+  pub sized : Sized t
+  pub formed : WellFormed t
+  pub size : t .n ≡ n
+  pub logs : (c : ℕ) → Named n c → l .log c ≡ logNames t (at t c)
+  pub places : (r o : ℕ) → Named n r → Named n o → l .place r o ≡ place (at t r) o
+  pub runs : (c : ℕ) → Named n c → l .runs c ≡ yes? (at t c .running)
+  pub sent : l .sent ≡ tabulate (t .count) (sentAt t)
+  -- a running sender's log has all its messages
+  pub own : (j : ℕ) → j < t .count → yes? (at t (senderAt t j) .running) ≡ true → inLog (at t (senderAt t j)) j ≡ true
+  -- cut off is what its sender's log lacks
+  pub cut : (j : ℕ) → j < t .count → has (nameAt t j) (l .cut) ≡ not (inLog (at t (senderAt t j)) j)
+  pub cut-sent : (m : Name) → has m (l .cut) ≡ true → Slot t m
+  pub applies : (c : ℕ) → Named n c → (j : ℕ) → j < t .count → has (nameAt t j) (join (l .sets c)) ≡ applied (at t c) j
+  pub applied-sent : (c : ℕ) (m : Name) → has m (join (l .sets c)) ≡ true → Slot t m
+  pub once : (c : ℕ) → Distinct (join (l .sets c))
+  pub unnamed : (c : ℕ) → (Named n c → ⊥) → l .sets c ≡ []
+
+-- NAMES AS SLOTS
+
+pub log-slot : (t : Table) (i : ℕ) (x : Controller) → GoodController t i x → (m : Name) → has m (logNames t x) ≡ true → Slot t m
+unfolding logNames
+log-slot t i x g m e =
+    let o = has-tabulate-at (λ k. nameAt t (slotAt x k)) m (x .length) e in
+    record { which = slotAt x (o .which); below = g .log-run (o .which) (o .below); named = sym (same-true m _ (o .passes)) }
+
+pub names-slot : (t : Table) (S : Slots) (m : Name) → has m (namesOf t S) ≡ true → Slot t m
+names-slot t S m e =
+    let o = names-at t S m e in
+    record { which = o .which; below = o .below; named = sym (same-true m _ (and-right (member S (o .which)) _ (o .passes))) }
+
+pub slot-replaced : (t : Table) (c : ℕ) (x : Controller) (m : Name) → Slot t m → Slot (withController t c x) m
+unfolding withController message
+slot-replaced t c x m s = record { which = s .which; below = s .below; named = s .named }
+
+module _ (n : ℕ) (t : Table) (l : Ledger) (r : Recorded n t l) where
+  sent-names : sentNames l ≡ tabulate (t .count) (nameAt t)
+  sent-names = ap (map (λ (m : Sent). m .name)) (r .sent) ∙ map-tabulate (λ (m : Sent). m .name) (t .count) (sentAt t)
+
+  pub slot-sent : (m : Name) → Slot t m → has m (sentNames l) ≡ true
+  slot-sent m s = ap (has m) sent-names ∙ has-tabulate-of (nameAt t) m (t .count) (s .which) (s .below) (s .named)
+
+  pub sent-slot : (m : Name) → has m (sentNames l) ≡ true → Slot t m
+  sent-slot m e =
+      let o = has-tabulate-at (nameAt t) m (t .count) (sym (ap (has m) sent-names) ∙ e) in
+      record { which = o .which; below = o .below; named = sym (same-true m (nameAt t (o .which)) (o .passes)) }
+
+  -- whatever an event answers was sent before it
+  pub names-sent : (S : Slots) (m : Name) → has m (namesOf t S) ≡ true → has m (sentNames l) ≡ true
+  names-sent S m e = slot-sent m (names-slot t S m e)
+
+  -- no name is sent twice
+  pub distinct-sent : Distinct (sentNames l)
+  distinct-sent = rw sent-names (distinct-tabulate (nameAt t) (t .count) (λ i j h k. slots-differ t (r .formed) i j h (omega arith) (omega arith)))
+
+-- THE START
+
+pub start-recorded : (n : ℕ) → 0 < n → n ≤ seats → Recorded n (fresh n) start
+unfolding fresh idle start has Distinct join logNames tabulate tabulateFrom
+start-recorded n low high = record {
+  sized = fresh-sized n;
+  formed = fresh-well-formed n low high;
+  size = refl;
+  logs = λ c h. rw (at-fresh n c (omega arith));
+  places = λ r o h k. rw (at-fresh n r (omega arith)) (sym (getD-replicate {A = ℕ} seats (o - 1) 0 0 (omega arith)));
+  runs = λ c h. rw (at-fresh n c (omega arith));
+  sent = refl;
+  own = λ j h. absurd (not-suc-le-zero h);
+  cut = λ j h. absurd (not-suc-le-zero h);
+  cut-sent = λ m e. contradiction e refl;
+  applies = λ c h j k. absurd (not-suc-le-zero k);
+  applied-sent = λ c m e. contradiction e refl;
+  once = λ c. tt;
+  unnamed = λ c h. refl;
+}

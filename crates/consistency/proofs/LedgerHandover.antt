@@ -1,0 +1,196 @@
+-- The ledger and the table say the same after an accepted handover, on a table where what is passed over was applied.
+-- Assumes nothing.
+use mathlib.Core.Path.{_≡_, refl, sym, ap, ap₂, _∙_}
+use mathlib.Core.Bool.{Bool, true, false, not, _||_, cond}
+use mathlib.Core.Logic.{inl, inr}
+use mathlib.Core.List.{List, [], _∷_, _++_, append-nil, append-assoc}
+use Prim.Native.Nat.{ℕ, _+_, _-_, _<_}
+use native.Mathlib.Omega.{arith}
+use lib.ListN.{getD}
+use lib.Dec.{leb}
+use borrow.Author.Tests.{leb-false}
+use Rattle.lists.proofs.Tests.{cond-case, cond-true, cond-false, or-cases, or-left, or-right, refuted, contradiction}
+use Rattle.model.specs.Tables.{seats, yes?, at, message, place, held, applied, highest, noName, withController, withEntry, withRead}
+use Rattle.model.specs.Delivery.{has as member}
+use Rattle.model.specs.Sized.{Sized}
+use Rattle.model.specs.Events.{nextSlot, received, handoverSet, deliver, namesOf, handover, next}
+use Rattle.model.specs.WellFormed.{inLog}
+use Rattle.model.specs.declared.Name.{Name}
+use Rattle.model.specs.declared.Controller.{Controller}
+use Rattle.model.specs.declared.Table.{Table}
+use Rattle.model.specs.declared.Event.the-variants.{Handover}
+use Rattle.model.proofs.WellFormed.{Named, GoodController, WellFormed}
+use Rattle.model.proofs.Allowed.{HandoverAllowed}
+use Rattle.invariant.proofs.Stores.{seated, at-sized, read-place, read-place-other, forward-case}
+use Rattle.invariant.proofs.Sizes.{read-sized}
+use Rattle.invariant.proofs.Logs.{log-shorter}
+use Rattle.invariant.proofs.Delivering.{delivered-applied}
+use Rattle.invariant.proofs.Receiving.{applied-number, next-slot-run, receiver-good}
+use Rattle.invariant.proofs.Counter.{received-applied, applied-new}
+use Rattle.consistency.specs.Demand3.{has, Distinct, join, put, Ledger, carried}
+use Rattle.consistency.proofs.Names.{has-append, distinct-append}
+use Rattle.consistency.proofs.SlotNames.{nameAt, logNames, log-at, log-entered, has-log, has-names, distinct-names}
+use Rattle.consistency.proofs.PassedOver.{PassedOver}
+use Rattle.consistency.proofs.Ledger.{senderAt, Slot, Recorded, names-slot, slot-replaced}
+use Rattle.consistency.proofs.LedgerChanges.{put-case, at-case, at-kept, put-at}
+
+join-last : (ss : List (List Name)) (s : List Name) → join (ss ++ (s ∷ [])) ≡ join ss ++ s
+unfolding join
+join-last [] s = append-nil s
+join-last (x ∷ ss) s = rw (join-last ss s, append-assoc)
+
+-- READING
+
+-- where the receiver reads, and that it runs
+received-same : (t : Table) (r o : ℕ) → (received t r o .read ≡ withRead (at t r) o .read) × (received t r o .running ≡ at t r .running)
+unfolding received
+received-same t r o =
+    forward-case (λ (x : Controller). (x .read ≡ withRead (at t r) o .read) × (x .running ≡ at t r .running))
+    (withRead (at t r) o) (message t (nextSlot t r o)) (nextSlot t r o) o (place (at t r) o + 1)
+    (λ _. (refl, refl)) (λ _ _. (refl, refl)) (λ _ _. (refl, refl))
+
+-- the receiver after it has applied
+abbrev receiverAfter : Table → ℕ → ℕ → Controller
+receiverAfter t r o = deliver t (received t r o) (handoverSet t r o)
+
+module _ (t : Table) (l : Ledger) (k : Recorded (t .n) t l) (r o : ℕ) (a : HandoverAllowed t r o) (p : PassedOver t) where
+  good : GoodController t r (at t r)
+  good = k .formed .controllers r (a .receiver)
+
+  at-seat : {d : ℕ} → Named (t .n) d → Named seats d
+  at-seat = seated (k .formed .few)
+
+  entry-run : nextSlot t r o < t .count
+  entry-run = next-slot-run t (k .formed) (k .sized) r o a
+
+  abbrev passed : Bool
+  passed = leb (message t (nextSlot t r o) .number .0) (highest (at t r) (message t (nextSlot t r o) .sender))
+
+  unapplied : passed ≡ false → applied (at t r) (nextSlot t r o) ≡ false
+  unapplied above = refuted (applied (at t r) (nextSlot t r o)) (λ e. omega (
+    arith,
+    applied-number t r (at t r) good (nextSlot t r o) entry-run (k .formed .senders (nextSlot t r o) entry-run) e,
+    leb-false (message t (nextSlot t r o) .number .0) (highest (at t r) (message t (nextSlot t r o) .sender)) above,
+  ))
+
+  in-log : inLog (at t r) (nextSlot t r o) ≡ (held (at t r) (nextSlot t r o) || applied (at t r) (nextSlot t r o))
+  in-log = good .exact (a .running) (nextSlot t r o) entry-run
+
+  log-read : logNames t (received t r o) ≡ cond (inLog (at t r) (nextSlot t r o)) (logNames t (at t r)) (logNames t (at t r) ++ (nameAt t (nextSlot t r o) ∷ []))
+  unfolding received logNames
+  log-read =
+      forward-case (λ (x : Controller). logNames t x ≡ cond (inLog (at t r) (nextSlot t r o)) (logNames t (at t r)) (logNames t (at t r) ++ (nameAt t (nextSlot t r o) ∷ [])))
+      (withRead (at t r) o) (message t (nextSlot t r o)) (nextSlot t r o) o (place (at t r) o + 1)
+      (λ e. sym (cond-true _ _ (in-log ∙ or-right (held (at t r) (nextSlot t r o)) (p .was-applied r o a e))))
+      (λ _ e. sym (cond-true _ _ (in-log ∙ or-left _ e)))
+      (λ above e. new (in-log ∙ rw (e, unapplied above) refl))
+    where
+      new : inLog (at t r) (nextSlot t r o) ≡ false
+          → logNames t (withEntry (withRead (at t r) o) (nextSlot t r o))
+          ≡ cond (inLog (at t r) (nextSlot t r o)) (logNames t (at t r)) (logNames t (at t r) ++ (nameAt t (nextSlot t r o) ∷ []))
+      new lacks =
+          log-entered t (withRead (at t r) o) (nextSlot t r o) (read-sized (at t r) o (at-sized t r (k .sized) (at-seat (a .receiver))))
+          (omega (arith, log-shorter t r (at t r) good (nextSlot t r o) entry-run lacks, k .formed .counted))
+          ∙ sym (cond-false _ _ lacks)
+
+  -- the entry's name, and whether the receiver's log has it
+  entry-name : getD (l .log o) (l .place r o) noName ≡ nameAt t (nextSlot t r o)
+  unfolding nextSlot
+  entry-name = rw (k .logs o (a .owner), k .places r o (a .receiver) (a .owner)) (log-at t (at t o) (place (at t r) o) (a .unread))
+
+  log-after : cond (has (getD (l .log o) (l .place r o) noName) (l .log r)) (l .log r) (l .log r ++ (getD (l .log o) (l .place r o) noName ∷ []))
+      ≡ logNames t (receiverAfter t r o)
+  unfolding deliver logNames
+  log-after = rw (entry-name, k .logs r (a .receiver), has-log t (k .formed) (at t r) (good .log-run) (nextSlot t r o) entry-run) (sym log-read)
+
+  -- the receiver's log only grows
+  log-grows : (j : ℕ) → j < t .count → inLog (at t r) j ≡ true → inLog (receiverAfter t r o) j ≡ true
+  unfolding deliver logNames
+  log-grows j h e =
+      sym (has-log t (k .formed) (receiverAfter t r o) (receiver-good t (k .formed) (k .sized) r o a .log-run) j h)
+      ∙ ap (has (nameAt t j)) log-read
+      ∙ cond-case (λ (xs : List Name). has (nameAt t j) xs ≡ true) (inLog (at t r) (nextSlot t r o)) (logNames t (at t r)) _ (λ _. old)
+      (λ _. has-append (nameAt t j) (logNames t (at t r)) _ ∙ or-left _ old)
+    where
+      old : has (nameAt t j) (logNames t (at t r)) ≡ true
+      old = has-log t (k .formed) (at t r) (good .log-run) j h ∙ e
+
+  -- the receiver runs, so its log has all its messages
+  own-receiver : (j : ℕ) → j < t .count → senderAt t j ≡ r → inLog (at t r) j ≡ true
+  own-receiver j h e = rw e at (k .own j h (rw e (a .running)))
+
+  uncut : (j : ℕ) → j < t .count → senderAt t j ≡ r → has (nameAt t j) (l .cut) ≡ not (inLog (receiverAfter t r o) j)
+  uncut j h e = k .cut j h ∙ rw (e, own-receiver j h e, log-grows j h (own-receiver j h e))
+
+  place-after : (q : ℕ) → Named (t .n) q → put (l .place r) o (l .place r o + 1) q ≡ place (receiverAfter t r o) q
+  unfolding deliver
+  place-after q h =
+      put-case (λ (x : ℕ). x ≡ place (withRead (at t r) o) q) (l .place r) o (l .place r o + 1) q
+      (λ e. rw (e, k .places r o (a .receiver) (a .owner)) (sym (read-place (at t r) o (at-sized t r (k .sized) (at-seat (a .receiver))) (at-seat (a .owner)))))
+      (λ d. k .places r q (a .receiver) h ∙ sym (read-place-other (at t r) o q (at-seat (a .owner)) (at-seat h) d))
+      ∙ ap (λ (xs : List ℕ). getD xs (q - 1) 0) (sym (received-same t r o .0))
+
+  -- THE SET APPLIED
+
+  abbrev answer : List Name
+  answer = namesOf t (handoverSet t r o)
+
+  applied-slot : (m : Name) → has m (join (l .sets r ++ (answer ∷ []))) ≡ true → Slot t m
+  applied-slot m e =
+      let q = or-cases (has m (join (l .sets r))) (has m answer) (sym (has-append m (join (l .sets r)) answer) ∙ sym (ap (has m) (join-last (l .sets r) answer)) ∙ e) in
+      elim q [ inl x ↦ k .applied-sent r m x | inr x ↦ names-slot t (handoverSet t r o) m x ]
+
+  applied-after : (j : ℕ) → j < t .count → has (nameAt t j) (join (l .sets r ++ (answer ∷ []))) ≡ applied (receiverAfter t r o) j
+  applied-after j h =
+      ap (has (nameAt t j)) (join-last (l .sets r) answer)
+      ∙ has-append (nameAt t j) (join (l .sets r)) answer
+      ∙ ap₂ _||_ (k .applies r (a .receiver) j h) (has-names t (k .formed) (handoverSet t r o) j h)
+      ∙ or-comm (applied (at t r) j) (member (handoverSet t r o) j)
+      ∙ ap (λ (xs : List ℕ). member (handoverSet t r o) j || yes? (getD xs j 0)) (sym (received-applied t r o))
+      ∙ sym (delivered-applied t (received t r o) (handoverSet t r o) j (omega (arith, k .formed .counted)))
+    where
+      or-comm : (x y : Bool) → (x || y) ≡ (y || x)
+      or-comm true true = refl
+      or-comm true false = refl
+      or-comm false true = refl
+      or-comm false false = refl
+
+  once-after : Distinct (join (l .sets r ++ (answer ∷ [])))
+  once-after =
+      rw (join-last (l .sets r) answer)
+      (distinct-append (join (l .sets r)) answer (k .once r) (distinct-names t (k .formed) (handoverSet t r o)) (λ m e. refuted (has m answer) (new m (k .applied-sent r m e) e)))
+    where
+      new : (m : Name) → Slot t m → has m (join (l .sets r)) ≡ true → has m answer ≡ true → ⊥
+      new m f e q =
+          let e′ = rw (← f .named) at e in
+          let q′ = rw (← f .named) at q in
+          contradiction (sym (k .applies r (a .receiver) (f .which) (f .below)) ∙ e′)
+          (applied-new t (k .formed) (k .sized) r o a (f .which) (f .below) (sym (has-names t (k .formed) (handoverSet t r o) (f .which) (f .below)) ∙ q′))
+
+  module _ (s : List ℕ) (z : Sized (next t (Handover r o))) (v : WellFormed (next t (Handover r o))) where
+    pub handover-recorded : Recorded (t .n) (next t (Handover r o)) (carried l s (Handover r o) answer)
+    unfolding next handover deliver carried withController message logNames
+    handover-recorded = record {
+      sized = z;
+      formed = v;
+      size = refl;
+      logs = λ d h. put-at t r _ (k .sized) (at-seat (a .receiver)) d (at-seat h) (λ xs y. xs ≡ logNames t y) (l .log) _ log-after (k .logs d h);
+      places = λ d q h.
+          put-at t r _ (k .sized) (at-seat (a .receiver)) d (at-seat h) (λ f y. Named (t .n) q → f q ≡ place y q) (l .place) _ (place-after q) (k .places d q h);
+      runs = λ d h. k .runs d h ∙ sym (at-kept t r _ (k .sized) (at-seat (a .receiver)) d (at-seat h) (λ y. yes? (y .running)) (ap (λ f. yes? f) (received-same t r o .1)));
+      sent = k .sent;
+      own = λ j h.
+          at-case t r _ (k .sized) (at-seat (a .receiver)) (senderAt t j) (at-seat (k .formed .senders j h))
+          (λ y. yes? (y .running) ≡ true → inLog y j ≡ true) (λ e _. log-grows j h (own-receiver j h e)) (λ _. k .own j h);
+      cut = λ j h.
+          at-case t r _ (k .sized) (at-seat (a .receiver)) (senderAt t j) (at-seat (k .formed .senders j h))
+          (λ y. has (nameAt t j) (l .cut) ≡ not (inLog y j))
+          (uncut j h) (λ _. k .cut j h);
+      cut-sent = λ m e. slot-replaced t r _ m (k .cut-sent m e);
+      applies = λ d h j. put-at t r _ (k .sized) (at-seat (a .receiver)) d (at-seat h)
+          (λ ss y. j < t .count → has (nameAt t j) (join ss) ≡ applied y j) (l .sets) _ (applied-after j) (k .applies d h j);
+      applied-sent = λ d m. put-case (λ (ss : List (List Name)). has m (join ss) ≡ true → Slot (withController t r (receiverAfter t r o)) m) (l .sets) r _ d
+          (λ _ e. slot-replaced t r _ m (applied-slot m e)) (λ _ e. slot-replaced t r _ m (k .applied-sent d m e));
+      once = λ d. put-case (λ (ss : List (List Name)). Distinct (join ss)) (l .sets) r _ d (λ _. once-after) (λ _. k .once d);
+      unnamed = λ d f. put-case (λ (ss : List (List Name)). ss ≡ []) (l .sets) r _ d (λ e. absurd (f (rw e (a .receiver)))) (λ _. k .unnamed d f);
+    }

@@ -1,0 +1,85 @@
+-- The amount in an accepted record is that of the message sent, and every accepted event keeps the ledger and the table saying
+-- the same. Assumes nothing.
+use mathlib.Core.Path.{_≡_, refl, sym, ap, subst, _∙_}
+use mathlib.Core.Bool.{Bool, true, false, cond, false≢true}
+use mathlib.Core.List.{List}
+use Prim.Native.Nat.{ℕ, zero, suc, _+_, _-_, _<_}
+use native.Mathlib.Omega.{arith}
+use lib.IntN.{pos, negℤ, _+ℤ_, _-ℤ_, +ℤ-idr, +ℤ-assoc, +ℤ-invr, negℤ-+ℤ, pos-+ℤ-pos}
+use lib.Dec.{eqb, ltb}
+use Rattle.model.specs.Tables.{report, sync}
+use Rattle.model.specs.Records.{byte, kind, word, amount, decode}
+use Rattle.model.specs.Events.{next, appliedBy, namesOf}
+use Rattle.model.specs.Questions.{firstNo, eventQuestions}
+use Rattle.model.specs.WellFormed.{magnitude, fairAmount}
+use Rattle.model.specs.declared.Payload.{Payload}
+use Rattle.model.specs.declared.Table.{Table}
+use Rattle.model.specs.declared.Event.{Event}
+use Rattle.model.specs.declared.Event.the-variants.{Send, Handover, Stop}
+use Rattle.model.proofs.Allowed.{send-allowed, handover-allowed, stop-allowed}
+use Rattle.invariant.proofs.Sizes.{next-sized}
+use Rattle.invariant.proofs.Kept.{next-well-formed}
+use Rattle.consistency.specs.Demand3.{Ledger, twos, amountIn, carried}
+use Rattle.consistency.proofs.PassedOver.{PassedOver}
+use Rattle.consistency.proofs.Ledger.{balance, Recorded}
+use Rattle.consistency.proofs.LedgerSend.{send-recorded}
+use Rattle.consistency.proofs.LedgerHandover.{handover-recorded}
+use Rattle.consistency.proofs.LedgerStop.{stop-recorded}
+
+-- AMOUNTS
+
+minus-sum : (x y : ℕ) → pos x -ℤ pos (x + y) ≡ pos 0 -ℤ pos y
+minus-sum x y =
+    ap (λ k. pos x +ℤ negℤ k) (sym (pos-+ℤ-pos x y))
+    ∙ ap (λ k. pos x +ℤ k) (negℤ-+ℤ (pos x) (pos y))
+    ∙ sym (+ℤ-assoc (pos x) (negℤ (pos x)) (negℤ (pos y)))
+    ∙ ap (λ k. k +ℤ negℤ (pos y)) (+ℤ-invr (pos x))
+
+positive : (w : ℕ) → fairAmount (report 0 w) ≡ true → 0 < w
+unfolding fairAmount magnitude
+positive zero e = absurd (false≢true e)
+positive (suc w) e = omega arith
+
+-- two's complement, whatever the bytes: a number of 65,536 or more is no amount
+twos-amount : (x : ℕ) → fairAmount (amount x) ≡ true → twos x ≡ balance (amount x)
+unfolding twos amount
+twos-amount x = go (ltb x 32768)
+  where
+    go : (b : Bool) → fairAmount (cond b (report x 0) (report 0 (65536 - x))) ≡ true
+        → cond b (pos x) (pos x -ℤ pos 65536) ≡ balance (cond b (report x 0) (report 0 (65536 - x)))
+    go true e = sym (+ℤ-idr (pos x))
+    go false e =
+        let h = positive (65536 - x) e in
+        let q : x + (65536 - x) ≡ 65536 = omega arith in
+        subst (λ y. pos x -ℤ pos y ≡ pos 0 -ℤ pos (65536 - x)) q (minus-sum x (65536 - x))
+
+pub decoded-amount : (s : List ℕ) (c : ℕ) (p : Payload) → decode s ≡ Send c p → fairAmount p ≡ true → amountIn s ≡ balance p
+unfolding decode amountIn
+decoded-amount s c p = go (eqb (kind s) 1) (eqb (kind s) 2) (eqb (kind s) 3)
+  where
+    go : (a b d : Bool)
+        → cond a (Send (byte s 2) (amount (word s 3))) (cond b (Send (byte s 2) sync) (cond d (Handover (byte s 2) (byte s 3)) (Stop (byte s 2) (word s 3)))) ≡ Send c p
+        → fairAmount p ≡ true → cond a (twos (word s 3)) (pos 0) ≡ balance p
+    go true b d e f = let q : amount (word s 3) ≡ p = cc in rw (← q) (twos-amount (word s 3) (rw q f))
+    go false true d e f = let q : sync ≡ p = cc in rw (← q)
+    go false false true e f = let q : _≡_ {A = ℕ} 0 1 = cc in absurd (omega arith)
+    go false false false e f = let q : _≡_ {A = ℕ} 0 1 = cc in absurd (omega arith)
+
+-- EVENTS
+
+module _ (t : Table) (l : Ledger) (k : Recorded (t .n) t l) (p : PassedOver t) (s : List ℕ) where
+  event-recorded : (e : Event) → decode s ≡ e → firstNo (eventQuestions t e) ≡ 0 → Recorded (t .n) (next t e) (carried l s e (namesOf t (appliedBy t e)))
+  unfolding appliedBy
+  event-recorded (Send c y) d q =
+      let a = send-allowed t c y q in
+      send-recorded t l k c y a s (decoded-amount s c y d (a .amount)) _ (next-sized t (Send c y) (k .sized)) (next-well-formed t (Send c y) (k .sized) (k .formed) q)
+  event-recorded (Handover r o) d q =
+      handover-recorded t l k r o (handover-allowed t r o q) p s (next-sized t (Handover r o) (k .sized)) (next-well-formed t (Handover r o) (k .sized) (k .formed) q)
+  event-recorded (Stop c i) d q =
+      stop-recorded t l k c i (stop-allowed t c i q) s _ (next-sized t (Stop c i) (k .sized)) (next-well-formed t (Stop c i) (k .sized) (k .formed) q)
+
+pub next-recorded : (n : ℕ) (t : Table) (l : Ledger) → Recorded n t l → PassedOver t → (s : List ℕ) → firstNo (eventQuestions t (decode s)) ≡ 0
+    → Recorded n (next t (decode s)) (carried l s (decode s) (namesOf t (appliedBy t (decode s))))
+next-recorded n t l k p s q =
+    subst (λ m. Recorded m (next t (decode s)) (carried l s (decode s) (namesOf t (appliedBy t (decode s))))) (k .size)
+    (event-recorded t l (subst (λ m. Recorded m t l) (sym (k .size)) k) p s (decode s) refl q)
