@@ -24,3 +24,4 @@ pub mod LedgerSend
 pub mod LedgerNext
 pub mod Sums
 pub mod Moments
+pub mod Theorem
