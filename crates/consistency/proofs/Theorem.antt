@@ -14,17 +14,18 @@ use lib.IntN.{ℤ, pos}
 use lib.Dec.{eqb, leb, ltb}
 use borrow.Author.Tests.{eqb-true, eqb-false, ltb-true, leb-true, lt-ltb, le-leb}
 use Rattle.lists.specs.Below.{count}
-use Rattle.lists.proofs.Tests.{cond-case, contradiction, and-left, and-right}
+use Rattle.lists.proofs.Tests.{cond-case, bool-eq, and-left, and-right}
 use Rattle.lists.proofs.Below.{count-ext}
 use Rattle.model.specs.Sized.{Sized}
 use Rattle.model.specs.Tables.{seats, yes?, at, message, place, applied as appliedAt, fresh, blankTable, Named}
-use Rattle.model.specs.Events.{next, appliedBy, namesOf, total}
+use Rattle.model.specs.Events.{next, appliedBy, namesOf, weigh, total}
 use Rattle.model.specs.Records.{byte, behind, decode}
 use Rattle.model.specs.WellFormed.{named, wellFormed, inLog}
 use Rattle.model.specs.Questions.{ask, firstNo, lentTable, controllerCount, fileQuestions, stepQuestions}
 use Rattle.model.specs.Calls.{EventAnswer, Outcome, accepted, refused, settled, step, event, freshTable, look}
 use Rattle.model.specs.Runs.{RunOutcome, fileRun}
 use Rattle.model.specs.declared.Name.{Name}
+use Rattle.model.specs.declared.Payload.{Payload}
 use Rattle.model.specs.declared.Table.{Table}
 use Rattle.model.specs.declared.FreshAnswer.{FreshAnswer}
 use Rattle.model.specs.declared.LookAnswer.{LookAnswer}
@@ -33,7 +34,8 @@ use Rattle.model.proofs.WellFormed.{WellFormed}
 use Rattle.model.proofs.Tested.{named-at, named-of, facts, tested}
 use Rattle.model.proofs.Allowed.{no-no}
 use Rattle.invariant.proofs.Sizes.{fresh-sized}
-use Rattle.invariant.proofs.Kept.{fresh-well-formed, step-kept}
+use Rattle.invariant.proofs.Kept.{fresh-well-formed, step-kept, event-number-step}
+use Rattle.invariant.proofs.Refusals.{step-number-range}
 use Rattle.broadcast.specs.State.{State, fresh as freshState}
 use Rattle.broadcast.specs.Delivery.{Subset}
 use Rattle.broadcast.specs.Events.{Comparable}
@@ -43,7 +45,7 @@ use Rattle.consistency.proofs.Bridge.{top, system, codeAt, code-injecti
 use Rattle.consistency.proofs.BridgeFacts.{few, shown, applied-delivered, delivered-slot, remains-logged, all-read, quorum-runs}
 use Rattle.consistency.proofs.SlotNames.{nameAt, length-log}
 use Rattle.consistency.proofs.Ledger.{Slot, Recorded, names-sent}
-use Rattle.consistency.proofs.Sums.{look-amounts, has-remaining, remaining-slot, look-remaining}
+use Rattle.consistency.proofs.Sums.{weights, weights-weigh, same-members-same-weights, look-amounts, has-remaining, remaining-slot, distinct-remaining, look-remaining}
 use Rattle.consistency.proofs.Steps.{Accepted, Along, Accepts, played, tableAfter as tableAfterSteps, step-number, invariant-along}
 use Rattle.consistency.proofs.FileRuns.{NamesReadable, file-run-whole, file-entries}
 use Rattle.consistency.proofs.ReadableNames.{well-formed-readable}
@@ -239,6 +241,39 @@ module _ (n : ℕ) (low : 0 < n) (high : n ≤ seats) (head : List Entry) (c : C
         extended T (take i calls) r
         ∙ ap (λ (x : LookAnswer). transcript T (take i calls) ++ (looked r x ∷ [])) (ending-shows (moment-called i) e r h on);
   }
+
+  -- Every table of the list is well formed, so that question 4 refuses nothing in it.
+  pub tables-well-formed : (i : ℕ) → wellFormed (tableAt (fresh n) (take i (head ++ transcript T calls))) ≡ true
+  unfolding entries
+  tables-well-formed i = tested _ (moment-at i .related .formed)
+
+  pub never-4 : (before after : List Entry) (s w : List ℕ) (a : EventAnswer) → head ++ transcript T calls ≡ before ++ (answered s w a ∷ after) → a .number ≢ 4
+  unfolding entries Gives
+  never-4 before after s w a q z =
+      let t = tableAt (fresh n) before in
+      let m = moment-of before (answered s w a ∷ after) q in
+      let e : a .number ≡ firstNo (stepQuestions t s (length w))
+      = ap (λ (x : EventAnswer). x .number) (gives-at before after (answered s w a) q)
+      ∙ (ap (λ (o : Outcome). o .answer .number) (event-number-step t s (length w) (tested t (m .related .formed))) ∙ step-number t s (length w)) in
+      elim (step-number-range t s (length w)) [ inl k ↦ absurd (omega arith) | inr k ↦ absurd (omega arith) ]
+
+  -- FOR ANY WEIGHT of a message, a number that its payload gives: the two figures of the demand are those of what is added and what
+  -- is withdrawn. What was applied weighs what the table computes, and at the ending it weighs what remains.
+  pub any-weight : (v : Payload → ℕ) (i d : ℕ) → Named n d
+      → weights v (ledger (take i (head ++ transcript T calls)) .sent) (applied (ledger (take i (head ++ transcript T calls))) d)
+      ≡ weigh v (tableAt (fresh n) (take i (head ++ transcript T calls))) d
+  unfolding entries
+  any-weight v i d h = let m = moment-at i in weights-weigh n _ _ (m .recorded) v d h
+
+  pub any-weight-ending : (v : Payload → ℕ) (i : ℕ) → ReadOut n (ledger (take i (head ++ transcript T calls)))
+      → (r : ℕ) → Named n r → ledger (take i (head ++ transcript T calls)) .runs r ≡ true
+      → weights v (ledger (take i (head ++ transcript T calls)) .sent) (applied (ledger (take i (head ++ transcript T calls))) r)
+      ≡ weights v (ledger (take i (head ++ transcript T calls)) .sent) (remaining (ledger (take i (head ++ transcript T calls))))
+  unfolding entries
+  any-weight-ending v i e r h on =
+      let m = moment-at i in
+      let f = moment-ending m e r h on in
+      same-members-same-weights n _ _ (m .recorded) v _ _ (m .recorded .once r) (distinct-remaining n _ _ (m .recorded)) (λ x. bool-eq _ _ (f x .0) (f x .1))
 
 -- DEMAND 3
 

@@ -11,4 +11,5 @@ pub mod Stopping
 pub mod Kept
 pub mod Counter
 pub mod Bounds
+pub mod Refusals
 pub mod Listing

@@ -1,7 +1,7 @@
 -- No file's listing passes 13,888 bytes: each of 7 controllers applies each of 64 messages once, and a message takes at most 31
 -- bytes of lines. So question 16 never refuses where the listing has that room. Assumes nothing.
 use mathlib.Core.Path.{_≡_, refl, sym, ap, _∙_}
-use mathlib.Core.Logic.{_≢_}
+use mathlib.Core.Logic.{_≢_, inl, inr}
 use mathlib.Core.Bool.{Bool, true, false, not, cond}
 use mathlib.Core.List.{List, [], _∷_, _++_}
 use Prim.Native.Nat.{ℕ, zero, suc, _+_, _-_, _*_, _/_, _%_, _≤_, _<_}
@@ -33,6 +33,7 @@ use Rattle.model.proofs.Tested.{facts, tested}
 use Rattle.model.proofs.Allowed.{no-no, step-asked, handover-allowed}
 use Rattle.invariant.proofs.Sizes.{next-sized, fresh-sized}
 use Rattle.invariant.proofs.Kept.{next-well-formed, fresh-well-formed}
+use Rattle.invariant.proofs.Refusals.{step-number-range}
 use Rattle.invariant.proofs.Counter.{weigh-receiver, weigh-kept}
 
 -- LINES
@@ -148,25 +149,8 @@ deliveries-next t (Stop c k) z w q = omega (arith, quiet-deliveries t (Stop c k)
 
 -- THE RUN
 
--- no question has number k
-abbrev Without : ℕ → List Question → Type 0
-Without k [] = Unit {0}
-Without k (q ∷ qs) = (q .number ≢ k) × Without k qs
-
-first-without : (k : ℕ) (qs : List Question) → k ≢ 0 → Without k qs → firstNo qs ≢ k
-unfolding firstNo
-first-without k [] z w = λ e. z (sym e)
-first-without k (q ∷ qs) z w = cond-case (λ x. x ≢ k) (q .yes) (firstNo qs) (q .number) (λ _. first-without k qs z (w .1)) (λ _. w .0)
-
-step-without : (t : Table) (s : List ℕ) (room : ℕ) (e : Event) → Without 16 (recordQuestions s ++ (eventQuestions t e ++ (scratchRoom room ∷ [])))
-unfolding recordQuestions eventQuestions scratchRoom
-step-without t s room (Send c p) = (omega arith, (omega arith, (omega arith, (omega arith, (omega arith, (omega arith, (omega arith, (omega arith, (omega arith, tt)))))))))
-step-without t s room (Handover r o) = (omega arith, (omega arith, (omega arith, (omega arith, (omega arith, (omega arith, (omega arith, tt)))))))
-step-without t s room (Stop c k) = (omega arith, (omega arith, (omega arith, (omega arith, (omega arith, (omega arith, (omega arith, tt)))))))
-
 refusal-not-16 : (t : Table) (s : List ℕ) (room : ℕ) → firstNo (stepQuestions t s room) ≢ 16
-unfolding stepQuestions
-refusal-not-16 t s room = first-without 16 _ (omega arith) (step-without t s room (decode s))
+refusal-not-16 t s room e = elim (step-number-range t s room) [ inl z ↦ absurd (omega arith) | inr z ↦ absurd (omega arith) ]
 
 -- what a step answers: a refusal that is not 16, or the names of what it applied
 record Stepped (t : Table) (s : List ℕ) (o : Outcome) : Type 0 where

@@ -1,0 +1,36 @@
+-- The numbers that a step can give: 0, or 5 to 15. Assumes nothing.
+use mathlib.Core.Path.{_≡_, refl}
+use mathlib.Core.Logic.{_⊎_, inl, inr}
+use mathlib.Core.Bool.{Bool, true, false, cond}
+use mathlib.Core.List.{List, [], _∷_, _++_}
+use Prim.Native.Nat.{ℕ, _≤_}
+use native.Mathlib.Omega.{arith}
+use Rattle.lists.proofs.Tests.{cond-case}
+use Rattle.model.specs.Records.{decode}
+use Rattle.model.specs.Questions.{Question, firstNo, recordQuestions, eventQuestions, scratchRoom, stepQuestions}
+use Rattle.model.specs.declared.Table.{Table}
+use Rattle.model.specs.declared.Event.{Event}
+use Rattle.model.specs.declared.Event.the-variants.{Send, Handover, Stop}
+
+abbrev pub StepNumber : ℕ → Type 0
+StepNumber k = (5 ≤ k) × (k ≤ 15)
+
+-- every question has such a number
+abbrev Numbers : List Question → Type 0
+Numbers [] = Unit {0}
+Numbers (q ∷ qs) = StepNumber (q .number) × Numbers qs
+
+first-number : (qs : List Question) → Numbers qs → (firstNo qs ≡ 0) ⊎ StepNumber (firstNo qs)
+unfolding firstNo
+first-number [] w = inl refl
+first-number (q ∷ qs) w = cond-case (λ k. (k ≡ 0) ⊎ StepNumber k) (q .yes) (firstNo qs) (q .number) (λ _. first-number qs (w .1)) (λ _. inr (w .0))
+
+step-numbers : (t : Table) (s : List ℕ) (room : ℕ) (e : Event) → Numbers (recordQuestions s ++ (eventQuestions t e ++ (scratchRoom room ∷ [])))
+unfolding recordQuestions eventQuestions scratchRoom
+step-numbers t s room (Send c p) = omega arith
+step-numbers t s room (Handover r o) = omega arith
+step-numbers t s room (Stop c k) = omega arith
+
+pub step-number-range : (t : Table) (s : List ℕ) (room : ℕ) → (firstNo (stepQuestions t s room) ≡ 0) ⊎ StepNumber (firstNo (stepQuestions t s room))
+unfolding stepQuestions
+step-number-range t s room = first-number _ (step-numbers t s room (decode s))
