@@ -1,36 +1,33 @@
 -- At every moment of a list of calls the table, the ledger and a state of the abstract system say the same.
 -- Assumes nothing.
 use mathlib.Core.Path.{_≡_, refl, sym, ap, subst, _∙_}
-use mathlib.Core.Bool.{Bool, true, false, cond}
+use mathlib.Core.Bool.{cond}
 use mathlib.Core.List.{List, [], _∷_, _++_}
-use Prim.Native.Nat.{ℕ, zero, suc, _+_, _-_, _≤_, _<_}
+use Prim.Native.Nat.{ℕ, _-_, _≤_, _<_}
 use native.Mathlib.Omega.{arith}
-use lib.ListN.{length, take, drop}
+use lib.ListN.{length}
 use lib.Dec.{eqb}
-use borrow.Author.Tests.{eqb-true, eqb-false}
+use borrow.Author.Tests.{eqb-true}
 use Rattle.lists.proofs.Tests.{cond-case}
-use Rattle.model.specs.Tables.{seats, at, message, applied, fresh}
+use Rattle.model.specs.Tables.{seats, fresh}
 use Rattle.model.specs.Events.{next, appliedBy, namesOf}
 use Rattle.model.specs.Records.{decode}
-use Rattle.model.specs.WellFormed.{wellFormed}
 use Rattle.model.specs.Questions.{firstNo, eventQuestions, stepQuestions}
-use Rattle.model.specs.Calls.{EventAnswer, Outcome, accepted, refused, settled, step, event, look}
+use Rattle.model.specs.Calls.{Outcome, accepted, refused, settled, step, event, look}
 use Rattle.model.specs.declared.Name.{Name}
 use Rattle.model.specs.declared.Table.{Table}
-use Rattle.model.specs.declared.LookAnswer.{LookAnswer}
-use Rattle.model.proofs.WellFormed.{Named, WellFormed}
+use Rattle.model.proofs.WellFormed.{Named}
 use Rattle.model.proofs.Tested.{tested}
 use Rattle.model.proofs.Allowed.{step-asked}
 use Rattle.invariant.proofs.Kept.{event-number-step}
 use Rattle.broadcast.specs.State.{State, fresh as freshState}
 use Rattle.broadcast.specs.Events.{Run, start as stays, then}
 use Rattle.broadcast.proofs.Theorem.{passed-over}
-use Rattle.consistency.specs.Demand3.{Call, single, panel, Entry, answered, looked, listed, transcript, setOf, Ledger, start, carried, after, ledgerFrom, ledger}
+use Rattle.consistency.specs.Demand3.{Call, single, panel, Entry, answered, looked, listed, transcript, Ledger, start, carried, after, ledgerFrom}
 use Rattle.consistency.proofs.Bridge.{top, system, codeAt, Related}
-use Rattle.consistency.proofs.BridgeFacts.{few, sender-named, applied-delivered, code-owner}
-use Rattle.consistency.proofs.BridgeKept.{Followed}
+use Rattle.consistency.proofs.BridgeFacts.{applied-delivered, code-owner}
 use Rattle.consistency.proofs.BridgeNext.{fresh-related, next-related}
-use Rattle.consistency.proofs.PassedOver.{PassedOver, Gapless, gapless-passed-over}
+use Rattle.consistency.proofs.PassedOver.{Gapless, gapless-passed-over}
 use Rattle.consistency.proofs.Ledger.{Recorded, start-recorded}
 use Rattle.consistency.proofs.LedgerNext.{next-recorded}
 

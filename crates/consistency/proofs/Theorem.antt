@@ -4,32 +4,29 @@ use mathlib.Core.Path.{_≡_, refl, sym, ap, ap₂, subst, _∙_}
 use mathlib.Core.Logic.{_≢_, _⊎_, inl, inr, _↔_}
 use mathlib.Core.Bool.{Bool, true, false, _&&_, cond, false≢true}
 use mathlib.Core.List.{List, [], _∷_, _++_}
-use Prim.Native.Nat.{ℕ, zero, suc, _+_, _-_, _*_, _≤_, _<_}
-use native.Mathlib.Nat.{le-total}
+use Prim.Native.Nat.{ℕ, zero, suc, _-_, _*_, _≤_, _<_}
 use native.Mathlib.Omega.{arith}
 use native.Mathlib.Decide.{decLt}
 use lib.ListN.{length, take, drop, take-append-drop}
 use lib.Seq.{take-take}
-use lib.IntN.{ℤ, pos}
+use lib.IntN.{ℤ}
 use lib.Dec.{eqb, leb, ltb}
-use borrow.Author.Tests.{eqb-true, eqb-false, ltb-true, leb-true, lt-ltb, le-leb}
+use borrow.Author.Tests.{eqb-true, ltb-true, leb-true}
 use Rattle.lists.specs.Below.{count}
 use Rattle.lists.proofs.Tests.{cond-case, bool-eq, and-left, and-right}
 use Rattle.lists.proofs.Below.{count-ext}
 use Rattle.model.specs.Sized.{Sized}
-use Rattle.model.specs.Tables.{seats, yes?, at, message, place, applied as appliedAt, fresh, blankTable, Named}
-use Rattle.model.specs.Events.{next, appliedBy, namesOf, weigh, total}
+use Rattle.model.specs.Tables.{seats, yes?, at, message, place, applied as appliedAt, fresh, Named}
+use Rattle.model.specs.Events.{next, appliedBy, weigh, total}
 use Rattle.model.specs.Records.{byte, behind, decode}
 use Rattle.model.specs.WellFormed.{named, wellFormed, inLog}
-use Rattle.model.specs.Questions.{ask, firstNo, lentTable, controllerCount, fileQuestions, stepQuestions}
+use Rattle.model.specs.Questions.{firstNo, lentTable, controllerCount, fileQuestions, stepQuestions}
 use Rattle.model.specs.Calls.{EventAnswer, Outcome, accepted, refused, settled, step, event, freshTable, look}
 use Rattle.model.specs.Runs.{RunOutcome, fileRun}
 use Rattle.model.specs.declared.Name.{Name}
 use Rattle.model.specs.declared.Payload.{Payload}
 use Rattle.model.specs.declared.Table.{Table}
-use Rattle.model.specs.declared.FreshAnswer.{FreshAnswer}
 use Rattle.model.specs.declared.LookAnswer.{LookAnswer}
-use Rattle.model.specs.declared.RunAnswer.{RunAnswer}
 use Rattle.model.proofs.WellFormed.{WellFormed}
 use Rattle.model.proofs.Tested.{named-at, named-of, facts, tested}
 use Rattle.model.proofs.Allowed.{no-no}
@@ -38,18 +35,17 @@ use Rattle.invariant.proofs.Kept.{fresh-well-formed, step-kept, event-number-st
 use Rattle.invariant.proofs.Refusals.{step-number-range}
 use Rattle.broadcast.specs.State.{State, fresh as freshState}
 use Rattle.broadcast.specs.Delivery.{Subset}
-use Rattle.broadcast.specs.Events.{Comparable}
 use Rattle.broadcast.proofs.Theorem.{containment, ending}
-use Rattle.consistency.specs.Demand3.{has, Distinct, join, Call, single, panel, Entry, answered, looked, listed, transcript, setOf, Ledger, start, after, ledgerFrom, ledger, applied, sentNames, remaining, amounts, Contains, ReadOut, Consistent, fileEntries}
+use Rattle.consistency.specs.Demand3.{has, join, Call, single, panel, Entry, answered, looked, listed, transcript, setOf, Ledger, start, after, ledger, applied, sentNames, remaining, amounts, Contains, ReadOut, Consistent, fileEntries}
 use Rattle.consistency.proofs.Bridge.{top, system, codeAt, code-injective, Related}
 use Rattle.consistency.proofs.BridgeFacts.{few, shown, applied-delivered, delivered-slot, remains-logged, all-read, quorum-runs}
 use Rattle.consistency.proofs.SlotNames.{nameAt, length-log}
-use Rattle.consistency.proofs.Ledger.{Slot, Recorded, names-sent}
+use Rattle.consistency.proofs.Ledger.{Recorded, names-sent}
 use Rattle.consistency.proofs.Sums.{weights, weights-weigh, same-members-same-weights, look-amounts, has-remaining, remaining-slot, distinct-remaining, look-remaining}
 use Rattle.consistency.proofs.Steps.{Accepted, Along, Accepts, played, tableAfter as tableAfterSteps, step-number, invariant-along}
 use Rattle.consistency.proofs.FileRuns.{NamesReadable, file-run-whole, file-entries}
 use Rattle.consistency.proofs.ReadableNames.{well-formed-readable}
-use Rattle.consistency.proofs.Moments.{Took, Gives, Course, tableAfter, tableAt, transcript-course, course-append, course-first, course-rest, table-append, ledger-append, Moment, first-moment, moment-after, restarted}
+use Rattle.consistency.proofs.Moments.{Took, Gives, Course, tableAfter, tableAt, transcript-course, course-append, course-first, course-rest, ledger-append, Moment, first-moment, moment-after, restarted}
 
 -- CONTAINMENT
 
@@ -59,8 +55,8 @@ code-name t u w v i j li lj e =
     let a = w .senders i li in
     let b = v .senders j lj in
     let q = code-injective (message t i .sender) (message t i .number .0) (message u j .sender) (message u j .number .0)
-        (record { low = a .low; high = omega (arith, a .high, w .few) }) (record { low = b .low; high = omega (arith, b .high, v .few) })
-        (w .numbers i li .0) (w .numbers i li .1) (v .numbers j lj .0) (v .numbers j lj .1) e in
+    (record { low = a .low; high = omega (arith, a .high, w .few) }) (record { low = b .low; high = omega (arith, b .high, v .few) })
+    (w .numbers i li .0) (w .numbers i li .1) (v .numbers j lj .0) (v .numbers j lj .1) e in
     ap₂ (λ (c k : ℕ). record { sender = c; number = record { 0 = k } }) (q .0) (q .1)
 
 module _ {n : ℕ} {t u : Table} {l k : Ledger} {s r : State} (g : Related n t s) (p : Recorded n t l) (h : Related n u r) (q : Recorded n u k) where
@@ -157,13 +153,13 @@ module _ {n : ℕ} {s₀ : State} {t : Table} {l : Ledger} (m : Moment n s₀ t 
   moment-ending : (x : Name) → (has x (applied l r) ≡ true) ↔ (has x (remaining l) ≡ true)
   moment-ending x = (
     (λ a.
-    let o = p .applied-sent r x a in
-    let a′ : has (nameAt t (o .which)) (applied l r) ≡ true = rw (o .named) a in
-    rw (o .named) at (has-remaining n t l p (o .which) (o .below) ∙ slot-ending (o .which) (o .below) .0 (sym (p .applies r h (o .which) (o .below)) ∙ a′))),
+        let o = p .applied-sent r x a in
+        let a′ : has (nameAt t (o .which)) (applied l r) ≡ true = rw (o .named) a in
+        rw (o .named) at (has-remaining n t l p (o .which) (o .below) ∙ slot-ending (o .which) (o .below) .0 (sym (p .applies r h (o .which) (o .below)) ∙ a′))),
     (λ a.
-    let o = remaining-slot n t l p x a in
-    let a′ : has (nameAt t (o .which)) (remaining l) ≡ true = rw (o .named) a in
-    rw (o .named) at (p .applies r h (o .which) (o .below) ∙ slot-ending (o .which) (o .below) .1 (sym (has-remaining n t l p (o .which) (o .below)) ∙ a′))),
+        let o = remaining-slot n t l p x a in
+        let a′ : has (nameAt t (o .which)) (remaining l) ≡ true = rw (o .named) a in
+        rw (o .named) at (p .applies r h (o .which) (o .below) ∙ slot-ending (o .which) (o .below) .1 (sym (has-remaining n t l p (o .which) (o .below)) ∙ a′))),
   )
 
   ending-shows : look t r ≡ record { number = 0; total = amounts (l .sent) (remaining l) }
@@ -317,8 +313,7 @@ played-course zero t s room a = (tt, refl)
 played-course (suc k) t s room a =
     let q = step-table t s room (a .0) in
     let r = played-course k (step t s room .table) (behind s) room (a .1) in
-    let es = played k (step t s room .table) (behind s) room in
-    (
+    let es = played k (step t s room .table) (behind s) room in (
       (step-took t s room (a .0), subst (λ u. Course u es) q (r .0)),
       subst (λ u. tableAt u es ≡ tableAfterSteps k (step t s room .table) (behind s) room) q (r .1),
     )

@@ -1,9 +1,9 @@
 -- Demand 3, in the words of document 01's section "The list of demand 3": one claim about a whole list of calls, read from
 -- the calls' arguments and answers. That it holds of every list is proofs/Theorem.antt.
-use Prim.Native.Nat.{ℕ, zero, suc, _+_, _-_, _*_, _≤_, _<_}
+use Prim.Native.Nat.{ℕ, zero, suc, _+_, _-_, _*_, _<_}
 use mathlib.Core.Path.{_≡_}
 use mathlib.Core.Logic.{_⊎_, _↔_}
-use mathlib.Core.Bool.{Bool, true, false, not, _&&_, _||_, cond}
+use mathlib.Core.Bool.{Bool, true, false, _&&_, _||_, cond}
 use mathlib.Core.List.{List, [], _∷_, _++_, map}
 use lib.ListN.{length, getD, take, drop}
 use lib.IntN.{ℤ, pos, _+ℤ_, _-ℤ_}
@@ -11,7 +11,7 @@ use lib.Dec.{eqb, ltb}
 use Rattle.lists.specs.Below.{count}
 use Rattle.model.specs.Tables.{messageNumber, noName, Named}
 use Rattle.model.specs.Records.{kind, word, behind, decode}
-use Rattle.model.specs.Calls.{EventAnswer, Outcome, event, look}
+use Rattle.model.specs.Calls.{EventAnswer, event, look}
 use Rattle.model.specs.Runs.{RunOutcome}
 use Rattle.model.specs.declared.Name.{Name}
 use Rattle.model.specs.declared.Payload.{Payload}
@@ -19,7 +19,6 @@ use Rattle.model.specs.declared.Table.{Table}
 use Rattle.model.specs.declared.Event.{Event}
 use Rattle.model.specs.declared.Event.the-variants.{Send, Handover, Stop}
 use Rattle.model.specs.declared.LookAnswer.{LookAnswer}
-use Rattle.model.specs.declared.RunAnswer.{RunAnswer}
 
 -- NAMES
 

@@ -1,7 +1,7 @@
 -- The matrix of line 16's relation in the scratch area: what a turn of the loops that fill it keeps, and what clearing leaves.
 -- Assumes nothing.
 use mathlib.Core.Path.{_≡_, refl, sym, ap, _∙_}
-use mathlib.Core.Bool.{Bool, true, false}
+use mathlib.Core.Bool.{true, false}
 use mathlib.Core.List.{List}
 use Prim.Native.Nat.{ℕ, _+_, _*_, _≤_, _<_}
 use native.Mathlib.Decide.{decLt}
@@ -31,9 +31,9 @@ module _ (n : ℕ) (P : List Pending) where
     ahead = λ y h. getD-set-other m (i * 64 + k) y x 0 (omega arith) ∙ r .ahead y h;
     behind = λ y h. getD-set-other m (i * 64 + k) y x 0 (omega arith) ∙ r .behind y h;
     flags =
-      below-more _ k
-      (λ t h q. ap yes? (getD-set-other m (i * 64 + k) (i * 64 + t) x 0 (omega arith)) ∙ r .flags t h q)
-      (λ q. ap yes? (getD-set-same m (i * 64 + k) x 0 (omega (arith, r .size))) ∙ e);
+        below-more _ k
+        (λ t h q. ap yes? (getD-set-other m (i * 64 + k) (i * 64 + t) x 0 (omega arith)) ∙ r .flags t h q)
+        (λ q. ap yes? (getD-set-same m (i * 64 + k) x 0 (omega (arith, r .size))) ∙ e);
   }
 
   pub row-skipped : (i k : ℕ) (s m : List ℕ) → RowFilled n P i k s m → yes? (entry P k .held) ≡ false → RowFilled n P i (k + 1) s m

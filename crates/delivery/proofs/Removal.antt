@@ -1,10 +1,10 @@
 -- The loop of line 16: each removal is one that the definition allows and makes the set smaller, and where none is left the
 -- set is the one that is applied. Assumes nothing.
 use mathlib.Core.Path.{_≡_, refl, sym, ap, subst, _∙_}
-use mathlib.Core.Bool.{Bool, true, false, not, _&&_, _||_, true≢false}
+use mathlib.Core.Bool.{Bool, true, false, not, _&&_, _||_}
 use mathlib.Core.Logic.{_⊎_, inl, inr, ⊎-elim}
 use mathlib.Core.List.{List}
-use Prim.Native.Nat.{ℕ, _≤_, _<_}
+use Prim.Native.Nat.{ℕ, _<_}
 use native.Mathlib.Decide.{ℕ-discrete}
 use native.Mathlib.Omega.{arith}
 use borrow.Author.Tests.{not-true, not-false}
@@ -14,10 +14,10 @@ use Rattle.lists.specs.Below.{count}
 use Rattle.lists.proofs.Tests.{and-left, and-right, contradiction}
 use Rattle.lists.proofs.Below.{Within, count-le, count-eq}
 use Rattle.lists.proofs.Build.{length-tabulate, getD-tabulate, tabulate-self}
-use Rattle.model.specs.Tables.{capacity, yes?, entry}
+use Rattle.model.specs.Tables.{capacity}
 use Rattle.model.specs.Delivery.{Slots, has, largest, applicable}
 use Rattle.model.specs.declared.Pending.{Pending}
-use Rattle.model.proofs.Largest.{Closed, Largest, largest-is, largest-unique, Reached, candidates, removal, reached-size, reached-fit, removals-end, inBuffer, candidate, precedes}
+use Rattle.model.proofs.Largest.{Closed, largest-is, largest-unique, Reached, candidates, removal, reached-size, reached-fit, removals-end, inBuffer, candidate, precedes}
 use Rattle.delivery.specs.Apply
 use Rattle.delivery.specs.Apply.{flag, Flags, others}
 
@@ -28,28 +28,28 @@ module _
     (same-held : (s : ℕ) → s < N → held s ≡ held′ s)
     (same-fit : (s : ℕ) → s < N → (held s && fit s) ≡ (held′ s && fit′ s))
     (same-before : (s t : ℕ) → s < N → t < N → (held s && fit s) ≡ true → held t ≡ true → before s t ≡ before′ s t)
-    where
-  closed-there : (S : Slots) → Closed N held fit before S → Closed N held′ fit′ before′ S
-  closed-there S c = record {
-    chosen = λ s h m. sym (same-fit s h) ∙ c .chosen s h m;
-    first = λ s t hs ht m h q.
-        let h′ = same-held t ht ∙ h in
-        sym (same-before s t hs ht (c .chosen s hs m) h′) ∙ c .first s t hs ht m h′ q;
-  }
+  where
+    closed-there : (S : Slots) → Closed N held fit before S → Closed N held′ fit′ before′ S
+    closed-there S c = record {
+      chosen = λ s h m. sym (same-fit s h) ∙ c .chosen s h m;
+      first = λ s t hs ht m h q.
+          let h′ = same-held t ht ∙ h in
+          sym (same-before s t hs ht (c .chosen s hs m) h′) ∙ c .first s t hs ht m h′ q;
+    }
 
-  closed-back : (S : Slots) → Closed N held′ fit′ before′ S → Closed N held fit before S
-  closed-back S c = record {
-    chosen = λ s h m. same-fit s h ∙ c .chosen s h m;
-    first = λ s t hs ht m h q.
-        same-before s t hs ht (same-fit s hs ∙ c .chosen s hs m) h ∙ c .first s t hs ht m (sym (same-held t ht) ∙ h) q;
-  }
+    closed-back : (S : Slots) → Closed N held′ fit′ before′ S → Closed N held fit before S
+    closed-back S c = record {
+      chosen = λ s h m. same-fit s h ∙ c .chosen s h m;
+      first = λ s t hs ht m h q.
+          same-before s t hs ht (same-fit s hs ∙ c .chosen s hs m) h ∙ c .first s t hs ht m (sym (same-held t ht) ∙ h) q;
+    }
 
-  largest-same : largest N held fit before ≡ largest N held′ fit′ before′
-  largest-same =
-      let l = largest-is N held fit before in
-      largest-unique N held′ fit′ before′ _ _
-      (record { size = l .size; closed = closed-there _ (l .closed); contains = λ R c. l .contains R (closed-back R c) })
-      (largest-is N held′ fit′ before′)
+    largest-same : largest N held fit before ≡ largest N held′ fit′ before′
+    largest-same =
+        let l = largest-is N held fit before in
+        largest-unique N held′ fit′ before′ _ _
+        (record { size = l .size; closed = closed-there _ (l .closed); contains = λ R c. l .contains R (closed-back R c) })
+        (largest-is N held′ fit′ before′)
 
 -- THE LOOP
 
@@ -82,9 +82,9 @@ module _ (m : List ℕ) (C O S W : Slots) (r : Removing m C O S W) where
   pub removed-fewer : (s : ℕ) → s < capacity → has S s ≡ true → count capacity (has (set S s false)) < count capacity (has S)
   removed-fewer s h p =
       let w : Within capacity (has (set S s false)) (has S) =
-          λ k hk e. ⊎-elim (λ q. rw q p) (λ q. sym q ∙ e) (without s k h) in
+      λ k hk e. ⊎-elim (λ q. rw q p) (λ q. sym q ∙ e) (without s k h) in
       let d : count capacity (has (set S s false)) ≡ count capacity (has S) → ⊥ =
-          λ q. contradiction (count-eq capacity (has (set S s false)) (has S) w q s h p) (gone s h) in
+      λ q. contradiction (count-eq capacity (has (set S s false)) (has S) w q s h p) (gone s h) in
       omega (arith, count-le capacity (has (set S s false)) (has S) w, d)
 
   removed-rest : (s t : ℕ) → s < capacity → t < capacity → has S s ≡ true
@@ -93,6 +93,7 @@ module _ (m : List ℕ) (C O S W : Slots) (r : Removing m C O S W) where
     where
       member : (has C s || has O s) ≡ true
       member = and-left (has C s || has O s) (has C s) (reached-fit _ _ _ _ (r .left) s hs p)
+
       go : Dec (t ≡ s) → has (set W s true) t ≡ (not (has (set S s false) t) && (has C t || has O t))
       go (yes e) = rw (e, gone s hs, member) (getD-set-same W s true false (omega (arith, r .size)))
       go (no d) = getD-set-other W s t true false d ∙ r .rest t ht ∙ rw (getD-set-other S s t false false d)
@@ -102,8 +103,8 @@ module _ (m : List ℕ) (C O S W : Slots) (r : Removing m C O S W) where
       let w = sym (r .rest t ht) ∙ and-left (has W t) (not (flag m s t)) b in
       record {
         left =
-          removal s t hs ht p (and-right (not (has S t)) (has C t || has O t) w) (not-true (has S t) (and-left (not (has S t)) (has C t || has O t) w))
-          (not-true (flag m s t) (and-right (has W t) (not (flag m s t)) b)) (r .left);
+            removal s t hs ht p (and-right (not (has S t)) (has C t || has O t) w) (not-true (has S t) (and-left (not (has S t)) (has C t || has O t) w))
+            (not-true (flag m s t) (and-right (has W t) (not (flag m s t)) b)) (r .left);
         size = length-set W s true ∙ r .size;
         rest = λ k h. removed-rest s k hs h p;
       }
@@ -138,8 +139,8 @@ module _ (n : ℕ) (P : List Pending) (C O : Slots) (c : C ≡ Apply.candidates 
   unfolding Apply.candidates others
   removing-start m = record {
     left =
-      subst (λ X. Reached capacity (λ s. has C s || has O s) (has C) (flag m) X)
-      (tabulate-self C false capacity _ (ap length c ∙ length-tabulate capacity _) (λ k h. absorbs (has C k) (has O k))) candidates;
+        subst (λ X. Reached capacity (λ s. has C s || has O s) (has C) (flag m) X)
+        (tabulate-self C false capacity _ (ap length c ∙ length-tabulate capacity _) (λ k h. absorbs (has C k) (has O k))) candidates;
     size = ap length o ∙ length-tabulate capacity _;
     rest = λ t h. let e = ap (λ X. has X t) o ∙ getD-tabulate capacity _ false t h in e ∙ ap (λ b. not (has C t) && b) (sym (has-either t h));
   }
@@ -152,4 +153,4 @@ module _ (n : ℕ) (P : List Pending) (C O : Slots) (c : C ≡ Apply.candidates 
       ∙ largest-same capacity (λ s. has C s || has O s) (has C) (inBuffer n P) (candidate n P) (flag m) (precedes n P) has-either
       (λ s h. absorbs (has C s) (has O s) ∙ has-candidate s h)
       (λ s t hs ht p q.
-          f s t hs ht (sym (has-either s hs) ∙ and-left (has C s || has O s) (has C s) p) (sym (has-either t ht) ∙ q))
+      f s t hs ht (sym (has-either s hs) ∙ and-left (has C s || has O s) (has C s) p) (sym (has-either t ht) ∙ q))

@@ -7,7 +7,6 @@ ghost use Rattle.model.specs.Tables.{yes?};
 ghost use Rattle.model.specs.Delivery.{majority, markCount, beforeCount, goesBefore, applicable};
 ghost use Rattle.model.specs.Calls.{cleared};
 ghost use Rattle.delivery.specs.Apply.{candidate, candidates, others, Flags, RowFilled, RowsFilled, Applied};
-
 use model::ForwardNumber;
 use model::Pending;
 use model::Table;
@@ -96,11 +95,7 @@ fn candidates(n: usize, pending: [Pending; 64]) -> [bool; 64]
 fn flag(n: usize, p: Pending, q: Pending) -> u8
     ensures { λ r. ⌜ yes? r ≡ goesBefore n p q ⌝ }
 {
-    if goes_before(n, p, q) {
-        1
-    } else {
-        0
-    }
+    if goes_before(n, p, q) { 1 } else { 0 }
 }
 
 // Row i of the matrix: whether slot i goes before each slot in the buffer.

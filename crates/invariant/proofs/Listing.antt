@@ -1,8 +1,8 @@
 -- No file's listing passes 13,888 bytes: each of 7 controllers applies each of 64 messages once, and a message takes at most 31
 -- bytes of lines. So question 16 never refuses where the listing has that room. Assumes nothing.
-use mathlib.Core.Path.{_≡_, refl, sym, ap, _∙_}
+use mathlib.Core.Path.{_≡_, refl, ap, _∙_}
 use mathlib.Core.Logic.{_≢_, inl, inr}
-use mathlib.Core.Bool.{Bool, true, false, not, cond}
+use mathlib.Core.Bool.{Bool, true, false, cond}
 use mathlib.Core.List.{List, [], _∷_, _++_}
 use Prim.Native.Nat.{ℕ, zero, suc, _+_, _-_, _*_, _/_, _%_, _≤_, _<_}
 use native.Mathlib.Omega.{arith}
@@ -14,22 +14,19 @@ use borrow.Author.Tests.{eqb-true, leb-true, le-leb, ltb-true}
 use Rattle.lists.specs.Below.{count, sum}
 use Rattle.lists.proofs.Tests.{cond-case, and-left, and-right}
 use Rattle.lists.proofs.Below.{sum-ext, sum-bound}
-use Rattle.model.specs.Tables.{seats, capacity, at, message, fresh, withController, withMessage}
+use Rattle.model.specs.Tables.{seats, at, message, fresh, withController, withMessage}
 use Rattle.model.specs.Delivery.{Slots, has}
 use Rattle.model.specs.Events.{send, handover, handoverSet, next, appliedBy, weigh, total, insert, earlier, namesBelow, namesOf, nameOf}
-use Rattle.model.specs.Records.{byte, decode, behind}
+use Rattle.model.specs.Records.{byte, decode}
 use Rattle.model.specs.Sized.{Sized}
-use Rattle.model.specs.WellFormed.{wellFormed}
-use Rattle.model.specs.Questions.{Question, ask, firstNo, controllerCount, fileQuestions, eventQuestions, recordQuestions, scratchRoom, stepQuestions, lineFits}
-use Rattle.model.specs.Calls.{EventAnswer, Outcome, receiver, accepted, refused, settled, step}
+use Rattle.model.specs.Questions.{ask, firstNo, controllerCount, fileQuestions, eventQuestions, stepQuestions, lineFits}
+use Rattle.model.specs.Calls.{Outcome, receiver, accepted, refused, settled, step}
 use Rattle.model.specs.Runs.{digits, decimal, signed, listed, line, lineOf, Progress, records, progress}
 use Rattle.model.specs.declared.Name.{Name}
-use Rattle.model.specs.declared.Payload.{Payload}
 use Rattle.model.specs.declared.Table.{Table}
 use Rattle.model.specs.declared.Event.{Event}
 use Rattle.model.specs.declared.Event.the-variants.{Send, Handover, Stop}
-use Rattle.model.proofs.WellFormed.{Named, WellFormed}
-use Rattle.model.proofs.Tested.{facts, tested}
+use Rattle.model.proofs.WellFormed.{WellFormed}
 use Rattle.model.proofs.Allowed.{no-no, step-asked, handover-allowed}
 use Rattle.invariant.proofs.Sizes.{next-sized, fresh-sized}
 use Rattle.invariant.proofs.Kept.{next-well-formed, fresh-well-formed}
@@ -58,15 +55,29 @@ listed-length : (ms : List Name) → length (listed ms) ≤ 12 * length ms
 unfolding listed
 listed-length [] = omega arith
 listed-length (m ∷ ms) =
-    omega (arith, length-append (32 ∷ decimal (m .sender)) ((46 ∷ decimal (m .number .0)) ++ listed ms),
-    length-append (46 ∷ decimal (m .number .0)) (listed ms), decimal-length (m .sender), decimal-length (m .number .0), listed-length ms)
+    omega (
+      arith,
+      length-append (32 ∷ decimal (m .sender)) ((46 ∷ decimal (m .number .0)) ++ listed ms),
+      length-append (46 ∷ decimal (m .number .0)) (listed ms),
+      decimal-length (m .sender),
+      decimal-length (m .number .0),
+      listed-length ms,
+    )
 
 line-length : (e c : ℕ) (x : ℤ) (ms : List Name) → length (line e c x ms) ≤ 19 + 12 * length ms
 unfolding line
 line-length e c x ms =
-    omega (arith, length-append (decimal e) ((32 ∷ decimal c) ++ ((32 ∷ signed x) ++ (listed ms ++ (10 ∷ [])))),
-    length-append (32 ∷ decimal c) ((32 ∷ signed x) ++ (listed ms ++ (10 ∷ []))), length-append (32 ∷ signed x) (listed ms ++ (10 ∷ [])),
-    length-append (listed ms) (10 ∷ []), decimal-length e, decimal-length c, signed-length x, listed-length ms)
+    omega (
+      arith,
+      length-append (decimal e) ((32 ∷ decimal c) ++ ((32 ∷ signed x) ++ (listed ms ++ (10 ∷ [])))),
+      length-append (32 ∷ decimal c) ((32 ∷ signed x) ++ (listed ms ++ (10 ∷ []))),
+      length-append (32 ∷ signed x) (listed ms ++ (10 ∷ [])),
+      length-append (listed ms) (10 ∷ []),
+      decimal-length e,
+      decimal-length c,
+      signed-length x,
+      listed-length ms,
+    )
 
 lineOf-length : (e c : ℕ) (x : ℤ) (ms : List Name) → length (lineOf e c x ms) ≤ 31 * length ms
 unfolding lineOf
@@ -82,9 +93,17 @@ deliveries t = sum (t .n) (λ i. weigh (λ p. 1) t (suc i))
 deliveries-bound : (t : Table) → WellFormed t → deliveries t ≤ 448
 unfolding deliveries weigh
 deliveries-bound t w =
-    omega (arith, sum-bound (t .n) (λ i. weigh (λ p. 1) t (suc i)) 64
-    (λ i h. omega (arith, w .counted, sum-bound (t .count) (λ s. cond (Rattle.model.specs.Tables.applied (at t (suc i)) s) 1 0) 1
-    (λ s l. cond-case (λ x. x ≤ 1) (Rattle.model.specs.Tables.applied (at t (suc i)) s) 1 0 (λ _. omega arith) (λ _. omega arith)))), w .few)
+    omega (
+      arith,
+      sum-bound (t .n) (λ i. weigh (λ p. 1) t (suc i)) 64
+          (λ i h. omega (
+            arith,
+            w .counted,
+            sum-bound (t .count) (λ s. cond (Rattle.model.specs.Tables.applied (at t (suc i)) s) 1 0) 1
+                (λ s l. cond-case (λ x. x ≤ 1) (Rattle.model.specs.Tables.applied (at t (suc i)) s) 1 0 (λ _. omega arith) (λ _. omega arith)),
+          )),
+      w .few,
+    )
 
 insert-length : (x : Name) (ys : List Name) → length (insert x ys) ≡ suc (length ys)
 unfolding insert

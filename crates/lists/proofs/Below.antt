@@ -1,16 +1,16 @@
 -- Laws of `all`, `count`, `distinct`, `sum` and `greatest` over the numbers below a bound. Assumes nothing.
 use mathlib.Core.Path.{_≡_, refl, sym, ap, ap₂, _∙_}
-use mathlib.Core.Bool.{Bool, true, false, not, _&&_, _||_, false≢true}
-use mathlib.Core.Logic.{_≢_, _⊎_, inl, inr}
+use mathlib.Core.Bool.{Bool, true, false, not, _||_, false≢true}
+use mathlib.Core.Logic.{_≢_}
 use Prim.Native.Nat.{ℕ, zero, suc, _+_, _*_, max, _≤_, _<_}
 use native.Mathlib.Nat.{not-suc-le-zero}
 use native.Mathlib.Numerals.{add-one}
 use native.Mathlib.Omega.{arith}
-use native.Mathlib.Decide.{ℕ-discrete, decLt}
+use native.Mathlib.Decide.{ℕ-discrete}
 use lib.Dec.{eqb, ltb}
 use borrow.Author.Tests.{lt-ltb, eq-eqb, ne-eqb, not-true}
 use Rattle.lists.specs.Below.{tally, count, all, distinct, sum, greatest}
-use Rattle.lists.proofs.Tests.{and-left, and-right, both, below-suc, contradiction}
+use Rattle.lists.proofs.Tests.{and-left, and-right, both, below-suc}
 
 -- ALL
 

@@ -7,13 +7,10 @@ use mathlib.Core.List.{List, [], _∷_, _++_, map}
 use lib.Dec.{eqb}
 use lib.IntN.{ℤ, pos, negsuc}
 use Rattle.model.specs.Tables.{fresh}
-use Rattle.model.specs.Calls.{EventAnswer, Outcome, step, event, freshTable, look}
-use Rattle.model.specs.Runs.{Progress, RunOutcome, progress, fileRun}
+use Rattle.model.specs.Calls.{EventAnswer, step, event, freshTable, look}
+use Rattle.model.specs.Runs.{progress, fileRun}
 use Rattle.model.specs.declared.Name.{Name}
 use Rattle.model.specs.declared.Table.{Table}
-use Rattle.model.specs.declared.FreshAnswer.{FreshAnswer}
-use Rattle.model.specs.declared.LookAnswer.{LookAnswer}
-use Rattle.model.specs.declared.RunAnswer.{RunAnswer}
 use Rattle.model.proofs.Computed.{computed}
 
 -- RECORDS

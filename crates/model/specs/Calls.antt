@@ -1,6 +1,6 @@
 -- What each call answers and leaves: the single event, the fresh table, the panel look.
-use Prim.Native.Nat.{ℕ, zero, suc}
-use mathlib.Core.Bool.{Bool, true, false, cond}
+use Prim.Native.Nat.{ℕ}
+use mathlib.Core.Bool.{Bool, false, cond}
 use mathlib.Core.List.{List, [], _∷_}
 use lib.ListN.{length, replicate}
 use lib.IntN.{ℤ, pos}
@@ -10,7 +10,7 @@ use Rattle.model.specs.Tables.{capacity, noName, fresh, blankTable}
 use Rattle.model.specs.Events.{next, appliedBy, namesOf, finishes, total}
 use Rattle.model.specs.Records.{behind, decode}
 use Rattle.model.specs.WellFormed.{named}
-use Rattle.model.specs.Questions.{Question, ask, firstNo, controllerCount, lentTable, stepQuestions}
+use Rattle.model.specs.Questions.{ask, firstNo, controllerCount, lentTable, stepQuestions}
 use Rattle.model.specs.declared.Name.{Name}
 use Rattle.model.specs.declared.Table.{Table}
 use Rattle.model.specs.declared.Event.{Event}

@@ -1,6 +1,6 @@
 -- The records of a run file: a length byte, a kind byte, fields; and the event that a record names.
-use Prim.Native.Nat.{ℕ, zero, suc, _+_, _-_, _*_}
-use mathlib.Core.Bool.{Bool, cond}
+use Prim.Native.Nat.{ℕ, _+_, _-_, _*_}
+use mathlib.Core.Bool.{cond}
 use mathlib.Core.List.{List, [], _∷_}
 use lib.ListN.{getD, drop}
 use lib.Dec.{eqb, ltb}

@@ -1,6 +1,6 @@
 -- A run file: its listing, byte for byte, and what the file run answers and leaves.
 use Prim.Native.Nat.{ℕ, zero, suc, _+_, _-_, _/_, _%_}
-use mathlib.Core.Bool.{Bool, true, false, cond}
+use mathlib.Core.Bool.{cond}
 use mathlib.Core.List.{List, [], _∷_, _++_}
 use lib.ListN.{length, drop}
 use lib.IntN.{ℤ, pos, negsuc}
@@ -9,8 +9,8 @@ use Rattle.lists.specs.Build.{overlay}
 use Rattle.model.specs.Tables.{fresh, blankTable}
 use Rattle.model.specs.Events.{total}
 use Rattle.model.specs.Records.{byte, decode}
-use Rattle.model.specs.Questions.{Question, ask, firstNo, fileQuestions, lineFits}
-use Rattle.model.specs.Calls.{EventAnswer, Outcome, step, receiver, cleared}
+use Rattle.model.specs.Questions.{ask, firstNo, fileQuestions, lineFits}
+use Rattle.model.specs.Calls.{step, receiver, cleared}
 use Rattle.model.specs.declared.Name.{Name}
 use Rattle.model.specs.declared.Table.{Table}
 use Rattle.model.specs.declared.RunAnswer.{RunAnswer}

@@ -1,6 +1,6 @@
 -- Question 4: the table is well formed. Each clause stands for the words of document 01 above it.
-use Prim.Native.Nat.{ℕ, zero, suc, _+_, _-_}
-use mathlib.Core.Bool.{Bool, true, false, not, _&&_, _||_, Bool·beq, cond}
+use Prim.Native.Nat.{ℕ, suc}
+use mathlib.Core.Bool.{Bool, not, _&&_, _||_, Bool·beq, cond}
 use lib.Dec.{eqb, leb, ltb}
 use Rattle.lists.specs.Below.{count, all, distinct, greatest}
 use Rattle.model.specs.Tables.{seats, capacity, absent, yes?, at, message, slotAt, place, entry, held, mark, applied, highest}

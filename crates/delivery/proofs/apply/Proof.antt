@@ -21,7 +21,7 @@ same-length : tie.Need-same-length
 same-length c = omega arith
 
 returns-2 : tie.Need-returns-2
-returns-2 c = 
+returns-2 c =
     applied-with-room _ _ _ _ _ _ (c .before .before .before .before .before .before .before .before .before .before .if1 .left) (c .before .before .before .before .before .before .before .before .fill .ensures) (c .before .before .before .before .settle .ensures) (c .before .before .clear .ensures)
 
 pub apply-spec : {M : Type 1} → statement M

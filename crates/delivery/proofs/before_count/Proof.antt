@@ -8,7 +8,6 @@ use lib.ListN.{getD}
 use borrow.Author.Tests.{lt-ltb, le-ltb}
 use Rattle.lists.specs.Below
 use Rattle.lists.proofs.Loops.{count-start, count-yes, count-no, count-end}
-use Rattle.model.specs.Tables.{mark}
 use Rattle.model.specs.Delivery.{beforeCount}
 use borrow.Author.Needs.{needs}
 use Rattle.delivery.proofs.before_count.Statement.{statement}
@@ -42,7 +41,7 @@ loop-less : tie.Need-loop-less Inv-loop μ-loop
 loop-less c = search needs
 
 loop-again : tie.Need-loop-again Inv-loop μ-loop
-loop-again c = 
+loop-again c =
     ⊎-elim
     (λ w. (omega arith, search needs, omega arith, count-yes _ _ _ _ (lt-ltb _ _ (w .0 .taken)) (c .before .before .loop .inv .3) (w .1)))
     (λ w. (omega arith, search needs, omega arith, count-no _ _ _ _ (le-ltb _ _ (w .0 .left)) (c .before .before .loop .inv .3) (w .1)))

@@ -36,13 +36,14 @@ loop-less : tie.Need-loop-less Inv-loop μ-loop
 loop-less c = search needs
 
 loop-again : tie.Need-loop-again Inv-loop μ-loop
-loop-again c =
-    ( search needs
-    , search needs
-    , ⊎-elim
+loop-again c = (
+  search needs,
+  search needs,
+  ⊎-elim
       (λ w. rw (w .5) (rows-stored _ _ _ _ _ _ (omega arith) (c .before .before .before .loop .inv .2) (w .2 .ensures)))
       (λ w. rw (w .1) (rows-skipped _ _ _ _ _ (c .before .before .before .loop .inv .2) (le-ltb _ _ (w .0 .left))))
-      (c .if1 .came))
+      (c .if1 .came),
+)
 
 same-length : tie.Need-same-length Inv-loop μ-loop
 same-length c = search needs

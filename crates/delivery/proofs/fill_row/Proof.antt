@@ -1,10 +1,10 @@
 -- `fill_row` fills one row of the matrix. Assumes nothing.
-use mathlib.Core.Path.{_≡_, refl, sym, _∙_}
+use mathlib.Core.Path.{_≡_}
 use mathlib.Core.Logic.{⊎-elim}
 use Prim.Native.Nat.{_-_, _≤_, _<_}
 use native.Mathlib.Omega.{arith}
 use borrow.Author.Tests.{le-ltb}
-use lib.ListN.{length, length-set}
+use lib.ListN.{length}
 use Rattle.model.specs.Tables.{entry}
 use Rattle.delivery.specs.Apply.{RowFilled}
 use Rattle.delivery.proofs.Matrix.{row-start, row-stored, row-skipped}
@@ -52,14 +52,15 @@ loop-less : tie.Need-loop-less Inv-loop μ-loop
 loop-less c = search needs
 
 loop-again : tie.Need-loop-again Inv-loop μ-loop
-loop-again c =
-    ( search needs
-    , search needs
-    , search needs
-    , ⊎-elim
+loop-again c = (
+  search needs,
+  search needs,
+  search needs,
+  ⊎-elim
       (λ w. rw (w .2) (row-stored _ _ _ _ _ _ _ (omega arith) (omega arith) (omega arith) (c .before .before .before .loop .inv .3) (w .1 .ensures)))
       (λ w. rw (w .1) (row-skipped _ _ _ _ _ _ (c .before .before .before .loop .inv .3) (le-ltb _ _ (w .0 .left))))
-      (c .if1 .came))
+      (c .if1 .came),
+)
 
 same-length : tie.Need-same-length Inv-loop μ-loop
 same-length c = search needs

@@ -20,7 +20,7 @@ abbrev μ-loop2 : tie.MeasureT-loop2
 μ-loop2 n flags members₀ others₀ s t₀ members others t = 64 - t
 
 abbrev Inv-loop : tie.InvT-loop
-Inv-loop n flags members₀ others₀ s₀ members others s = 
+Inv-loop n flags members₀ others₀ s₀ members others s =
     (s ≤ 64) × (members ≡ members₀) × (others ≡ others₀) × ((k : ℕ) → k < s → has members₀ k ≡ true → (t : ℕ) → t < 64 → barred flags others₀ k t ≡ false)
 
 abbrev μ-loop : tie.MeasureT-loop
@@ -104,13 +104,14 @@ loop-less c = search needs
 loop-again : tie.Need-loop-again Inv-loop2 μ-loop2 Inv-loop μ-loop Inv-again μ-again
 loop-again c =
     let same = c .before .before .loop .inv .1 in
-    let same-others = c .before .before .loop .inv .2 in
-    ( search needs
-    , ⊎-elim (λ w. w .3 ∙ w .1 .inv .1 ∙ same) (λ w. w .1 ∙ same) (c .if1 .came)
-    , ⊎-elim (λ w. w .4 ∙ w .1 .inv .2 ∙ same-others) (λ w. w .2 ∙ same-others) (c .if1 .came)
-    , below-more _ _ (c .before .before .loop .inv .3)
-      (λ p t h. rw (← same-others)
-      (⊎-elim (λ w. w .1 .inv .3 t (omega arith)) (λ w. contradiction p (rw same at (w .0 .left))) (c .if1 .came))))
+    let same-others = c .before .before .loop .inv .2 in (
+      search needs,
+      ⊎-elim (λ w. w .3 ∙ w .1 .inv .1 ∙ same) (λ w. w .1 ∙ same) (c .if1 .came),
+      ⊎-elim (λ w. w .4 ∙ w .1 .inv .2 ∙ same-others) (λ w. w .2 ∙ same-others) (c .if1 .came),
+      below-more _ _ (c .before .before .loop .inv .3)
+          (λ p t h. rw (← same-others)
+          (⊎-elim (λ w. w .1 .inv .3 t (omega arith)) (λ w. contradiction p (rw same at (w .0 .left))) (c .if1 .came))),
+    )
 
 returns : tie.Need-returns Inv-loop2 μ-loop2 Inv-loop μ-loop Inv-again μ-again
 returns c =
