@@ -1,0 +1,6 @@
+pub mod Decimals
+pub mod Storing
+pub mod Signs
+pub mod Names
+pub mod Lines
+pub mod Writing

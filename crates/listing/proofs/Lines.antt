@@ -1,0 +1,71 @@
+-- Laws of a line: its parts and its length. Assumes nothing.
+use mathlib.Core.Path.{_≡_, refl, sym, ap, _∙_}
+use mathlib.Core.List.{List, [], _∷_, _++_, append-assoc}
+use Prim.Native.Nat.{ℕ, zero, suc, _+_, min, _≤_, _<_}
+use native.Mathlib.Omega.{arith}
+use native.Mathlib.Decide.{decLt}
+use lib.ListN.{length, take, length-append, length-take}
+use lib.Seq.{take-all}
+use lib.IntN.{ℤ, pos, negsuc}
+use Rattle.model.specs.Runs.{decimal, signed, listed, line, lineOf, header, footer}
+use Rattle.model.specs.declared.Name.{Name}
+use Rattle.listing.proofs.Decimals.{decimal-bound}
+
+pub signed-bound : (x : ℤ) → length (signed x) ≤ 6
+unfolding signed
+signed-bound (pos n) = omega (arith, decimal-bound n)
+signed-bound (negsuc n) = omega (arith, decimal-bound (suc n))
+
+regroup : (a b k s l z : List ℕ) → ((((a ++ b) ++ k) ++ s) ++ l) ++ z ≡ a ++ (b ++ ((k ++ s) ++ (l ++ z)))
+regroup a b k s l z = simp append-assoc
+
+module _ (e c : ℕ) (x : ℤ) (ms : List Name) where
+  -- the parts, as they are stored one after the other
+  pub line-parts : ((((decimal e ++ (32 ∷ decimal c)) ++ (32 ∷ [])) ++ signed x) ++ listed ms) ++ (10 ∷ []) ≡ line e c x ms
+  unfolding line
+  line-parts = regroup (decimal e) (32 ∷ decimal c) (32 ∷ []) (signed x) (listed ms) (10 ∷ [])
+
+  pub length-line : length (line e c x ms) ≡ length (decimal e) + length (decimal c) + length (signed x) + length (listed ms) + 3
+  unfolding line
+  length-line =
+      omega (arith, length-append (decimal e) ((32 ∷ decimal c) ++ ((32 ∷ signed x) ++ (listed ms ++ (10 ∷ [])))), length-append (32 ∷ decimal c) ((32 ∷ signed x) ++ (listed ms ++ (10 ∷ []))), length-append (32 ∷ signed x) (listed ms ++ (10 ∷ [])), length-append (listed ms) (10 ∷ []))
+
+line-of : (e c : ℕ) (x : ℤ) (ms : List Name) → 0 < length ms → line e c x ms ≡ lineOf e c x ms
+unfolding lineOf
+line-of e c x [] h = absurd (omega arith)
+line-of e c x (m ∷ ms) h = refl
+
+-- the line of as many of the names as there are
+pub line-of-clipped : (e c : ℕ) (x y : ℤ) (ms : List Name) (k size : ℕ) → y ≡ x → length ms ≡ 64 → k ≡ min size 64 → (k ≡ 0 → ⊥)
+    → line e c y (take k ms) ≡ lineOf e c x (take size ms)
+line-of-clipped e c x y ms k size q l h d =
+    let same : take k ms ≡ take size ms = go (decLt size 64) in
+    rw (q, same) (line-of e c x (take size ms) (omega (arith, ap length same, length-take k ms)))
+  where
+    go : Dec (size < 64) → take k ms ≡ take size ms
+    go (yes p) = let e : k ≡ size = omega arith in ap (λ (n : ℕ). take n ms) e
+    go (no p) = take-all k ms (omega arith) ∙ sym (take-all size ms (omega arith))
+
+-- an empty set has no line
+pub no-line : (e c : ℕ) (x : ℤ) (ms : List Name) (k size : ℕ) → k ≡ min size 64 → k ≡ 0 → [] ≡ lineOf e c x (take size ms)
+unfolding lineOf
+no-line e c x ms k zero h z = refl
+no-line e c x ms k (suc size) h z = absurd (omega arith)
+
+-- THE LINES AROUND THE LISTING
+
+pub header-parts : (n : ℕ) → ((99 ∷ 111 ∷ 110 ∷ 116 ∷ 114 ∷ 111 ∷ 108 ∷ 108 ∷ 101 ∷ 114 ∷ 115 ∷ 32 ∷ []) ++ decimal n) ++ (10 ∷ []) ≡ header n
+unfolding header
+header-parts n = refl
+
+pub length-header : (n : ℕ) → length (header n) ≡ length (decimal n) + 13
+unfolding header
+length-header n = omega (arith, length-append (decimal n) (10 ∷ []))
+
+pub footer-parts : (e k : ℕ) → (((101 ∷ 110 ∷ 100 ∷ 32 ∷ []) ++ decimal e) ++ (32 ∷ decimal k)) ++ (10 ∷ []) ≡ footer e k
+unfolding footer
+footer-parts e k = simp append-assoc
+
+pub length-footer : (e k : ℕ) → length (footer e k) ≡ length (decimal e) + length (decimal k) + 6
+unfolding footer
+length-footer e k = omega (arith, length-append (decimal e) ((32 ∷ decimal k) ++ (10 ∷ [])), length-append (32 ∷ decimal k) (10 ∷ []))

@@ -1,0 +1,21 @@
+-- Laws of question 16: a line that was stored, and a line that does not fit. Assumes nothing.
+use mathlib.Core.Path.{_∙_}
+use mathlib.Core.List.{List}
+use Prim.Native.Nat.{ℕ, _≤_, _<_}
+use native.Mathlib.Nat.{zero-add}
+use borrow.Author.Tests.{le-leb, lt-leb}
+use lib.ListN.{length}
+use Rattle.model.specs.Questions.{firstNo, lineFits}
+use Rattle.listing.specs.Writing.{putAnswer, tailAfter, Wrote, Stored}
+use Rattle.listing.proofs.Storing.{stored-overlay}
+
+pub fitting-written : {x s t : List ℕ} {k : ℕ} → length x ≤ length s → Stored x s 0 t k → Wrote x s t (record { number = 0; written = k })
+unfolding putAnswer tailAfter firstNo lineFits
+fitting-written {x} {s} {t} {k} h p = record {
+  answer = rw (le-leb (length x) (length s) h, p .place ∙ zero-add (length x));
+  tail = rw (le-leb (length x) (length s) h) (p .bytes ∙ stored-overlay s x h);
+}
+
+pub too-long-refused : (x s : List ℕ) → length s < length x → Wrote x s s (record { number = 16; written = 0 })
+unfolding putAnswer tailAfter firstNo lineFits
+too-long-refused x s h = record { answer = rw (lt-leb (length x) (length s) h); tail = rw (lt-leb (length x) (length s) h) }

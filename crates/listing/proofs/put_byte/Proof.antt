@@ -1,0 +1,21 @@
+-- `put_byte` stores a byte. Assumes nothing.
+use Rattle.listing.specs.Writing.{stored}
+use borrow.Author.Needs.{needs}
+use Rattle.listing.proofs.put_byte.Statement.{statement}
+use Rattle.listing.proofs.put_byte.Tie as tie
+
+slice-write-tail : tie.Need-slice-write-tail
+slice-write-tail c = search needs
+
+add-result : tie.Need-add-result
+add-result c = search needs
+
+same-length : tie.Need-same-length
+same-length c = search needs
+
+returns : tie.Need-returns
+unfolding stored
+returns c = search needs
+
+pub put-byte-spec : {M : Type 1} → statement M
+put-byte-spec = tie.close (tie.spec slice-write-tail add-result same-length returns)

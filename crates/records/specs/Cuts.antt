@@ -1,0 +1,31 @@
+-- Question 5: the record that the bytes begin with is cut off, or is not there whole.
+use Prim.Native.Nat.{ℕ}
+use mathlib.Core.Bool.{Bool, cond}
+use mathlib.Core.List.{List, [], _∷_}
+use lib.ListN.{length}
+use lib.Dec.{ltb}
+use Rattle.model.specs.Records.{size, behind}
+use Rattle.model.specs.Questions.{ask, firstNo}
+use Rattle.records.specs.declared.Cut.{Cut}
+use Rattle.records.specs.declared.Cut.the-variants.{Whole, Short}
+
+-- the length byte and all the bytes it counts are there
+unfoldable pub whole : List ℕ → Bool
+whole s = ltb (size s) (length s)
+
+-- what the cutter finds: the number of question 5, or 0, and how many bytes follow the length byte, 0 if refused
+pub record Found : Type 0 where
+  pub number : ℕ
+  pub size : ℕ
+
+unfoldable pub cut : List ℕ → Found
+cut s = record { number = firstNo (ask 5 (whole s) ∷ []); size = cond (whole s) (size s) 0 }
+
+-- the same as each case of the cutter's answer gives it
+unfoldable pub found : Cut → Found
+found (Whole k) = record { number = 0; size = k }
+found Short = record { number = 5; size = 0 }
+
+-- what is left behind a whole record; all the bytes where the record is not whole
+unfoldable pub remaining : List ℕ → List ℕ
+remaining s = cond (whole s) (behind s) s

@@ -1,0 +1,149 @@
+// The record cutter and the decoder: what the bytes of a run file say, before any table is asked.
+use model::Event;
+use model::Payload;
+ghost use mathlib.Core.Path.{_≡_};
+ghost use Prim.Native.Nat.{_<_};
+ghost use mathlib.Core.Bool.{_&&_};
+ghost use lib.Dec.{leb, ltb};
+ghost use lib.ListN.{drop};
+ghost use Rattle.model.specs.Records.{byte, word, sizeOf, amount, decode};
+ghost use Rattle.model.specs.Questions.{firstNo, recordQuestions};
+ghost use Rattle.records.specs.Cuts.{cut, found, remaining};
+
+// The record at the head of the bytes is whole, and so many bytes follow its length byte; or it is not.
+pub enum Cut {
+    Whole(usize),
+    Short,
+}
+
+// A byte; 0 past the end.
+pub fn byte_at(bytes: &[u8], i: usize) -> u8
+    ensures { λ r. ⌜ r ≡ byte (now (bytes .entry)) i ⌝ }
+{
+    if i < bytes.len() {
+        return bytes[i];
+    }
+    0
+}
+
+// Cuts off the record at the head of the bytes.
+pub fn cut_record(bytes: &[u8]) -> Cut
+    ensures { λ r. ⌜ found r ≡ cut (now (bytes .entry)) ⌝ }
+{
+    let size = byte_at(bytes, 0) as usize;
+    if size < bytes.len() {
+        return Cut::Whole(size);
+    }
+    Cut::Short
+}
+
+// The part after the bytes used; empty where more are named than there are.
+pub fn rest(bytes: &[u8], used: usize) -> &[u8]
+    ensures { λ r. ⌜ now r ≡ drop used (now (bytes .entry)) ⌝ }
+{
+    let have = bytes.len();
+    if used <= have {
+        return &bytes[used..];
+    }
+    &bytes[have..]
+}
+
+// What is left behind the record at the head of the bytes; all of them where that record is not whole.
+pub fn behind(bytes: &[u8]) -> &[u8]
+    ensures { λ r. ⌜ now r ≡ remaining (now (bytes .entry)) ⌝ }
+{
+    let Cut::Whole(size) = cut_record(bytes) else {
+        return bytes;
+    };
+    rest(bytes, size + 1)
+}
+
+// The lengths of the kinds 1 report, 2 sync, 3 handover, 4 stop.
+const SIZES: [usize; 5] = [0, 4, 2, 3, 4];
+
+// The length of a record of a kind; 0 for what is no kind.
+fn size_of_kind(kind: u8) -> usize
+    ensures { λ r. ⌜ r ≡ sizeOf kind ⌝ }
+{
+    if kind < 5 {
+        return SIZES[kind as usize];
+    }
+    0
+}
+
+// Question 6, of a record of so many bytes: there is a kind, from 1 to 4.
+fn has_kind(size: usize, kind: u8) -> bool
+    ensures { λ r. ⌜ r ≡ (ltb 0 size && (ltb 0 kind && leb kind 4)) ⌝ }
+{
+    if size == 0 {
+        return false;
+    }
+    0 < kind && kind <= 4
+}
+
+// The first no of questions 5 to 7; 0 if there is none.
+pub fn shape(bytes: &[u8]) -> u8
+    ensures { λ r. ⌜ r ≡ firstNo (recordQuestions (now (bytes .entry))) ⌝ }
+{
+    let Cut::Whole(size) = cut_record(bytes) else {
+        return 5;
+    };
+    let kind = byte_at(bytes, 1);
+    if !has_kind(size, kind) {
+        return 6;
+    }
+    let due = size_of_kind(kind);
+    if size == due { 0 } else { 7 }
+}
+
+// Two bytes, the high one first.
+fn word_at(bytes: &[u8], i: usize) -> u16
+    requires { ⌜ i < 4 ⌝ }
+    ensures { λ r. ⌜ r ≡ word (now (bytes .entry)) i ⌝ }
+{
+    let high = byte_at(bytes, i) as u16;
+    let low = byte_at(bytes, i + 1) as u16;
+    high * 256 + low
+}
+
+// A report of the amount that two bytes in two's complement name.
+fn amount_of(x: u16) -> Payload
+    ensures { λ r. ⌜ r ≡ amount x ⌝ }
+{
+    if x < 32768 {
+        return Payload::report(x, 0);
+    }
+    Payload::report(0, 65535 - x + 1)
+}
+
+const HANDOVER: u8 = 3;
+
+// The event of a record of kind 1 to 4 and of that kind's length.
+pub fn decode_record(bytes: &[u8]) -> Event
+    ensures { λ r. ⌜ r ≡ decode (now (bytes .entry)) ⌝ }
+{
+    let kind = byte_at(bytes, 1);
+    let first = byte_at(bytes, 2);
+    if kind == Payload::REPORT {
+        return Event::Send {
+            sender: first,
+            payload: amount_of(word_at(bytes, 3)),
+        };
+    }
+    if kind == Payload::SYNC {
+        return Event::Send {
+            sender: first,
+            payload: Payload::sync(),
+        };
+    }
+    if kind == HANDOVER {
+        return Event::Handover {
+            receiver: first,
+            owner: byte_at(bytes, 3),
+        };
+    }
+    Event::Stop {
+        controller: first,
+        kept: word_at(bytes, 3) as usize,
+    }
+}
