@@ -2,7 +2,6 @@
 -- set is the one that is applied. Assumes nothing.
 use mathlib.Core.Path.{_≡_, refl, sym, ap, subst, _∙_}
 use mathlib.Core.Bool.{Bool, true, false, not, _&&_, _||_}
-use mathlib.Core.Logic.{_⊎_, inl, inr, ⊎-elim}
 use mathlib.Core.List.{List}
 use Prim.Native.Nat.{ℕ, _<_}
 use native.Mathlib.Decide.{ℕ-discrete}
@@ -21,35 +20,40 @@ use Rattle.model.proofs.Largest.{Closed, largest-is, largest-unique, Reached, c
 use Rattle.delivery.specs.Apply
 use Rattle.delivery.specs.Apply.{flag, Flags, others}
 
--- THE SAME SET: largest depends on the candidates, what is held, and the relation from a candidate to what is held
+-- THE SAME SET: what is largest depends on the candidates, on what is held, and on the relation from the first to the second
 
-module _
-    (N : ℕ) (held fit held′ fit′ : ℕ → Bool) (before before′ : ℕ → ℕ → Bool)
-    (same-held : (s : ℕ) → s < N → held s ≡ held′ s)
-    (same-fit : (s : ℕ) → s < N → (held s && fit s) ≡ (held′ s && fit′ s))
-    (same-before : (s t : ℕ) → s < N → t < N → (held s && fit s) ≡ true → held t ≡ true → before s t ≡ before′ s t)
-  where
-    closed-there : (S : Slots) → Closed N held fit before S → Closed N held′ fit′ before′ S
-    closed-there S c = record {
-      chosen = λ s h m. sym (same-fit s h) ∙ c .chosen s h m;
-      first = λ s t hs ht m h q.
-          let h′ = same-held t ht ∙ h in
-          sym (same-before s t hs ht (c .chosen s hs m) h′) ∙ c .first s t hs ht m h′ q;
-    }
+record Alike (N : ℕ) (held fit : ℕ → Bool) (before : ℕ → ℕ → Bool) (held′ fit′ : ℕ → Bool) (before′ : ℕ → ℕ → Bool) : Type 0 where
+  same-held : (s : ℕ) → s < N → held s ≡ held′ s
+  same-fit : (s : ℕ) → s < N → (held s && fit s) ≡ (held′ s && fit′ s)
+  same-before : (s t : ℕ) → s < N → t < N → (held s && fit s) ≡ true → held t ≡ true → before s t ≡ before′ s t
 
-    closed-back : (S : Slots) → Closed N held′ fit′ before′ S → Closed N held fit before S
-    closed-back S c = record {
-      chosen = λ s h m. same-fit s h ∙ c .chosen s h m;
-      first = λ s t hs ht m h q.
-          same-before s t hs ht (same-fit s hs ∙ c .chosen s hs m) h ∙ c .first s t hs ht m (sym (same-held t ht) ∙ h) q;
-    }
+module _ (N : ℕ) (held fit : ℕ → Bool) (before : ℕ → ℕ → Bool) (held′ fit′ : ℕ → Bool) (before′ : ℕ → ℕ → Bool) where
+  alike-sym : Alike N held fit before held′ fit′ before′ → Alike N held′ fit′ before′ held fit before
+  alike-sym a = record {
+    same-held = λ s h. sym (a .same-held s h);
+    same-fit = λ s h. sym (a .same-fit s h);
+    same-before = λ s t hs ht p q. sym (a .same-before s t hs ht (a .same-fit s hs ∙ p) (a .same-held t ht ∙ q));
+  }
 
-    largest-same : largest N held fit before ≡ largest N held′ fit′ before′
-    largest-same =
-        let l = largest-is N held fit before in
-        largest-unique N held′ fit′ before′ _ _
-        (record { size = l .size; closed = closed-there _ (l .closed); contains = λ R c. l .contains R (closed-back R c) })
-        (largest-is N held′ fit′ before′)
+  closed-alike : Alike N held fit before held′ fit′ before′ → (S : Slots) → Closed N held fit before S → Closed N held′ fit′ before′ S
+  closed-alike a S c = record {
+    chosen = λ s h m. sym (a .same-fit s h) ∙ c .chosen s h m;
+    first = λ s t hs ht m h q.
+        let h′ = a .same-held t ht ∙ h in
+        sym (a .same-before s t hs ht (c .chosen s hs m) h′) ∙ c .first s t hs ht m h′ q;
+  }
+
+largest-alike : (N : ℕ) (held fit : ℕ → Bool) (before : ℕ → ℕ → Bool) (held′ fit′ : ℕ → Bool) (before′ : ℕ → ℕ → Bool)
+    → Alike N held fit before held′ fit′ before′ → largest N held fit before ≡ largest N held′ fit′ before′
+largest-alike N held fit before held′ fit′ before′ a =
+    let l = largest-is N held fit before in
+    largest-unique N held′ fit′ before′ _ _
+    (record {
+      size = l .size;
+      closed = closed-alike N held fit before held′ fit′ before′ a _ (l .closed);
+      contains = λ R c. l .contains R (closed-alike N held′ fit′ before′ held fit before (alike-sym N held fit before held′ fit′ before′ a) R c);
+    })
+    (largest-is N held′ fit′ before′)
 
 -- THE LOOP
 
@@ -69,20 +73,19 @@ absorbs false true = refl
 absorbs false false = refl
 
 module _ (m : List ℕ) (C O S W : Slots) (r : Removing m C O S W) where
-  without : (s k : ℕ) → s < capacity → (k ≡ s) ⊎ (has (set S s false) k ≡ has S k)
-  without s k h = go (ℕ-discrete k s)
+  removed-within : (s : ℕ) → has S s ≡ true → Within capacity (has (set S s false)) (has S)
+  removed-within s p k h e = go (ℕ-discrete k s)
     where
-      go : Dec (k ≡ s) → (k ≡ s) ⊎ (has (set S s false) k ≡ has S k)
-      go (yes e) = inl e
-      go (no d) = inr (getD-set-other S s k false false d)
+      go : Dec (k ≡ s) → has S k ≡ true
+      go (yes q) = rw q p
+      go (no d) = sym (getD-set-other S s k false false d) ∙ e
 
   gone : (s : ℕ) → s < capacity → has (set S s false) s ≡ false
   gone s h = getD-set-same S s false false (omega (arith, reached-size _ _ _ _ (r .left)))
 
   pub removed-fewer : (s : ℕ) → s < capacity → has S s ≡ true → count capacity (has (set S s false)) < count capacity (has S)
   removed-fewer s h p =
-      let w : Within capacity (has (set S s false)) (has S) =
-      λ k hk e. ⊎-elim (λ q. rw q p) (λ q. sym q ∙ e) (without s k h) in
+      let w = removed-within s p in
       let d : count capacity (has (set S s false)) ≡ count capacity (has S) → ⊥ =
       λ q. contradiction (count-eq capacity (has (set S s false)) (has S) w q s h p) (gone s h) in
       omega (arith, count-le capacity (has (set S s false)) (has S) w, d)
@@ -150,7 +153,10 @@ module _ (n : ℕ) (P : List Pending) (C O : Slots) (c : C ≡ Apply.candidates 
   unfolding applicable
   settled m S W f r g =
       none-barred m C O S W r g
-      ∙ largest-same capacity (λ s. has C s || has O s) (has C) (inBuffer n P) (candidate n P) (flag m) (precedes n P) has-either
-      (λ s h. absorbs (has C s) (has O s) ∙ has-candidate s h)
-      (λ s t hs ht p q.
-      f s t hs ht (sym (has-either s hs) ∙ and-left (has C s || has O s) (has C s) p) (sym (has-either t ht) ∙ q))
+      ∙ largest-alike capacity (λ s. has C s || has O s) (has C) (flag m) (inBuffer n P) (candidate n P) (precedes n P)
+      (record {
+        same-held = has-either;
+        same-fit = λ s h. absorbs (has C s) (has O s) ∙ has-candidate s h;
+        same-before = λ s t hs ht p q.
+            f s t hs ht (sym (has-either s hs) ∙ and-left (has C s || has O s) (has C s) p) (sym (has-either t ht) ∙ q);
+      })

@@ -1,0 +1,13 @@
+-- A table made of its parts, and one of which only some parts are given, for the clauses of the well-formed test that read
+-- no other.
+use Prim.Native.Nat.{ℕ}
+use mathlib.Core.List.{List, []}
+use Rattle.model.specs.declared.Message.{Message}
+use Rattle.model.specs.declared.Controller.{Controller}
+use Rattle.model.specs.declared.Table.{Table}
+
+abbrev pub whole : ℕ → ℕ → List Message → List Controller → Table
+whole n k M C = record { n = n; count = k; messages = M; controllers = C }
+
+abbrev pub part : ℕ → ℕ → List Message → Table
+part n k M = whole n k M []
