@@ -1,0 +1,114 @@
+-- A set applied one message at a time, in the order of the slots, is applied as one. Assumes nothing.
+use mathlib.Core.Path.{_≡_, refl, sym, ap, _∙_}
+use mathlib.Core.Bool.{true, false, cond}
+use Prim.Native.Nat.{ℕ, suc, _+_, _-_, max, _≤_, _<_}
+use native.Mathlib.Numerals.{add-one}
+use native.Mathlib.Omega.{arith}
+use lib.ListN.{length, getD, set}
+use borrow.Author.Tests.{eq-eqb, ne-eqb}
+use Rattle.lists.specs.Below.{greatest}
+use Rattle.lists.specs.Build.{tabulate, over}
+use Rattle.lists.proofs.Tests.{cond-true, cond-false, refuted}
+use Rattle.lists.proofs.Below.{greatest-last}
+use Rattle.lists.proofs.Build.{getD-tabulate, tabulate-ext, tabulate-self, over-more}
+use Rattle.lists.proofs.Stores.{over-same, over-enough, set-tabulate}
+use Rattle.model.specs.Tables.{seats, capacity, message, entry, highest, blank, none, noPending, messageNumber, withDelivered}
+use Rattle.model.specs.Delivery.{Slots, has}
+use Rattle.model.specs.Events.{numberOf, highestIn, deliver}
+use Rattle.model.specs.declared.MessageNumber.{MessageNumber}
+use Rattle.model.specs.declared.Pending.{Pending}
+use Rattle.model.specs.declared.Message.{Message}
+use Rattle.model.specs.declared.Controller.{Controller}
+use Rattle.model.specs.declared.Table.{Table}
+use Rattle.events.specs.Conditions.{OfRun}
+use Rattle.events.specs.Applying.{withApplied}
+
+-- NUMBERS
+
+greatest-more : (k : ℕ) (f : ℕ → ℕ) → greatest (k + 1) f ≡ max (greatest k f) (f k)
+unfolding greatest
+greatest-more k f = rw add-one
+
+own-number : (m : Message) → 0 < m .sender → numberOf (suc (m .sender - 1)) m ≡ m .number .0
+unfolding numberOf
+own-number m low = cond-true (m .number .0) 0 (eq-eqb (m .sender) (suc (m .sender - 1)) (omega arith))
+
+other-number : (x : ℕ) (m : Message) → (m .sender ≡ x → ⊥) → numberOf x m ≡ 0
+unfolding numberOf
+other-number x m d = cond-false (m .number .0) 0 (ne-eqb (m .sender) x d)
+
+-- A SET APPLIED UP TO A SLOT
+
+module _ (t : Table) (c : Controller) (S : Slots) where
+  abbrev pub buffer : ℕ → Pending
+  buffer s = cond (has S s) blank (entry (c .pending) s)
+
+  abbrev pub marks : ℕ → ℕ
+  marks s = cond (has S s) 1 (getD (c .applied) s 0)
+
+  -- the number of slot s for sender x, 0 for a slot that is no member
+  abbrev pub member : ℕ → ℕ → ℕ
+  member x s = cond (has S s) (numberOf x (message t s)) 0
+
+  abbrev pub numbers : ℕ → ℕ → MessageNumber
+  numbers k x = messageNumber (max (highest c (suc x)) (greatest k (member (suc x))))
+
+  -- the members below k are applied
+  unfoldable pub partly : ℕ → Controller
+  partly k = withDelivered c (over buffer k (c .pending)) (over marks k (c .applied)) (tabulate seats (numbers k))
+
+  pub partly-none : length (c .highest) ≡ seats → c ≡ partly 0
+  unfolding partly over greatest
+  partly-none l = ap (λ H. withDelivered c (c .pending) (c .applied) H) (sym (tabulate-self (c .highest) none seats (numbers 0) l (λ x h. ap messageNumber (start x))))
+    where
+      start : (x : ℕ) → max (highest c (suc x)) 0 ≡ getD (c .highest) x none .0
+      start x = let q : suc x - 1 ≡ x = omega arith in omega (arith, ap (λ (j : ℕ). getD (c .highest) j none .0) q)
+
+  -- a slot that is no member
+  pub partly-skip : (k : ℕ) → has S k ≡ false → (x : Controller) → x ≡ partly k → x ≡ partly (k + 1)
+  unfolding partly
+  partly-skip k out x e =
+      rw (
+        over-same buffer (c .pending) noPending k (cond-false blank (entry (c .pending) k) out),
+        over-same marks (c .applied) 0 k (cond-false 1 (getD (c .applied) k 0) out),
+        tabulate-ext seats (numbers (k + 1)) (numbers k) none (λ y h.
+            ap (λ (z : ℕ). messageNumber (max (highest c (suc y)) z)) (greatest-last k (member (suc y)) (cond-false (numberOf (suc y) (message t k)) 0 out))),
+      ) e
+
+  -- the highest numbers after a member
+  raised : (k : ℕ) → has S k ≡ true → 0 < message t k .sender → message t k .sender ≤ seats
+      → set (tabulate seats (numbers k)) (message t k .sender - 1)
+      (messageNumber (max (getD (tabulate seats (numbers k)) (message t k .sender - 1) none .0) (message t k .number .0)))
+      ≡ tabulate seats (numbers (k + 1))
+  raised k m low high =
+      let x = message t k .sender in
+      let top : (y : ℕ) → greatest (k + 1) (member y) ≡ max (greatest k (member y)) (numberOf y (message t k)) =
+      λ y. greatest-more k (member y) ∙ ap (max (greatest k (member y))) (cond-true (numberOf y (message t k)) 0 m) in
+      set-tabulate seats (numbers k) (numbers (k + 1)) none (x - 1) _ (omega arith)
+      (rw (getD-tabulate seats (numbers k) none (x - 1) (omega arith)) (ap messageNumber (omega (arith, top (suc (x - 1)), own-number (message t k) low))))
+      (λ y h d. ap messageNumber (omega (arith, top (suc y), other-number (suc y) (message t k) (λ q. d (omega arith)))))
+
+  -- a member
+  pub partly-more : (k : ℕ) → has S k ≡ true → 0 < message t k .sender → message t k .sender ≤ seats
+      → (x y : Controller) → x ≡ partly k → y ≡ withApplied x (message t k) k → y ≡ partly (k + 1)
+  unfolding partly withApplied
+  partly-more k m low high x y e f =
+      f ∙ rw (
+        e,
+        over-more buffer k (c .pending) _ blank refl (sym (cond-true blank (entry (c .pending) k) m)),
+        over-more marks k (c .applied) _ 1 refl (sym (cond-true 1 (getD (c .applied) k 0) m)),
+        raised k m low high,
+      )
+
+  pub partly-end : length (c .pending) ≡ capacity → length (c .applied) ≡ capacity → t .count ≤ capacity → OfRun t S
+      → (k : ℕ) (x : Controller) → k ≡ t .count → x ≡ partly k → x ≡ deliver t c S
+  unfolding partly deliver highestIn
+  partly-end lp la h run k x p e =
+      e ∙ rw (
+        p,
+        over-enough buffer (c .pending) noPending (t .count) capacity h lp (λ i l. cond-false blank (entry (c .pending) i) (out i l)),
+        over-enough marks (c .applied) 0 (t .count) capacity h la (λ i l. cond-false 1 (getD (c .applied) i 0) (out i l)),
+      )
+    where
+      out : (i : ℕ) → t .count ≤ i → has S i ≡ false
+      out i l = refuted (has S i) (λ m. omega (arith, run i m))

@@ -1,0 +1,4 @@
+pub mod Answers
+pub mod Controllers
+pub mod Signed
+pub mod Weights

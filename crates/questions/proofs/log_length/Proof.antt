@@ -1,0 +1,29 @@
+-- `log_length` is the length of the controller's log. Assumes nothing.
+use mathlib.Core.Path.{_≡_}
+use lib.ListN.{length, length-map}
+use borrow.Author.Needs.{needs}
+use Rattle.model.specs.Tables.{at}
+use Rattle.questions.proofs.Controllers.{at-past}
+use Rattle.questions.proofs.log_length.Statement.{statement}
+use Rattle.questions.proofs.log_length.Tie as tie
+
+index-requires : tie.Need-index-requires
+index-requires c κs = search needs
+
+returns : tie.Need-returns
+returns c =
+    let l : length (c .before .before .args .t1 .controllers) ≡ 7 = simp length-map at (c .before .before .good .0 .1 .1 .1 .1 .1 .0 .1 .0 .1) in
+    rw (at-past (c .before .before .args .t1) _ _ l (c .before .index .ensures) (c .if1 .taken))
+
+mul-x : tie.Need-mul-x
+mul-x c = search needs
+
+element-copy-out-x : tie.Need-element-copy-out-x
+element-copy-out-x c = search needs
+
+returns-2 : tie.Need-returns-2
+unfolding at
+returns-2 c = rw (c .before .before .index .ensures)
+
+pub log-length-spec : {M : Type 1} → statement M
+log-length-spec = tie.close (tie.spec index-requires returns mul-x element-copy-out-x returns-2)
