@@ -18,8 +18,11 @@ unfolding at
 at-past t c i l e h = List·getD-eq-default (t .controllers) noController (omega arith)
 
 -- nothing is read past the last
-pub place-past : (controllers : List Controller) (o k r : ℕ) → length controllers ≡ 7 → 7 ≤ r → leb (getD (getD controllers r noController .read) o 0) k ≡ true
-place-past controllers o k r l h = let e : getD controllers r noController ≡ noController = List·getD-eq-default controllers noController (omega arith) in rw e (le-leb 0 k (omega arith))
+pub place-past : (controllers : List Controller) (o k r : ℕ) → length controllers ≡ 7 → 7 ≤ r
+    → leb (getD (getD controllers r noController .read) o 0) k ≡ true
+place-past controllers o k r l h =
+    let e : getD controllers r noController ≡ noController = List·getD-eq-default controllers noController (omega arith) in
+    rw e (le-leb 0 k (omega arith))
 
 index-suc : (r : ℕ) → suc r - 1 ≡ r
 index-suc r = omega arith

@@ -25,8 +25,9 @@ own-past pending b j l h = rw (past pending noPending j l h)
 pub member-past : (members : List Bool) (b : Bool) (j : ℕ) → length members ≡ 64 → 64 ≤ j → (has members j && b) ≡ false
 member-past members b j l h = rw (past members false j l h)
 
-pub term-past : (w : Payload → ℕ) (applied : List ℕ) (messages : List Message) (j : ℕ) → length applied ≡ 64 → 64 ≤ j → term w applied messages j ≡ 0
-term-past w applied messages j l h = rw (past applied 0 j l h)
+pub term-past : (applied : List ℕ) → length applied ≡ 64 → (w : Payload → ℕ) (messages : List Message) (j : ℕ) → 64 ≤ j
+    → term w applied messages j ≡ 0
+term-past applied l w messages j h = rw (past applied 0 j l h)
 
 module _ (w : Payload → ℕ) (t : Table) (c : ℕ) where
   pub weigh-none : at t c ≡ noController → 0 ≡ weigh w t c

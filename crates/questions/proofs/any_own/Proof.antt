@@ -16,7 +16,9 @@ use Rattle.questions.proofs.any_own.Statement.{statement}
 use Rattle.questions.proofs.any_own.Tie as tie
 
 abbrev Inv-loop : tie.InvT-loop
-Inv-loop sent c pending messages end s₀ s = (s ≤ end) × ((j : ℕ) → j < s → (yes? (entry pending j .held) && eqb (getD messages j noMessage .sender) c) ≡ false)
+Inv-loop sent c pending messages end s₀ s =
+    (s ≤ end)
+    × ((j : ℕ) → j < s → (yes? (entry pending j .held) && eqb (getD messages j noMessage .sender) c) ≡ false)
 
 abbrev μ-loop : tie.MeasureT-loop
 μ-loop sent c pending messages end s₀ s = end - s
@@ -43,7 +45,9 @@ own-requires : tie.Need-own-requires Inv-loop μ-loop
 own-requires c κs = search needs
 
 returns : tie.Need-returns Inv-loop μ-loop
-returns c = any-found _ _ (c .before .before .before .before .before .loop .s) (omega arith) (sym (c .before .own .ensures) ∙ c .if1 .taken)
+returns c =
+    any-found _ _ (c .before .before .before .before .before .loop .s) (omega arith)
+    (sym (c .before .own .ensures) ∙ c .if1 .taken)
 
 add-s : tie.Need-add-s Inv-loop μ-loop
 add-s c = search needs
@@ -52,12 +56,33 @@ loop-less : tie.Need-loop-less Inv-loop μ-loop
 loop-less c = search needs
 
 loop-again : tie.Need-loop-again Inv-loop μ-loop
-loop-again c = (omega arith, below-more _ _ (c .before .before .before .before .before .loop .inv .1) (sym (c .before .own .ensures) ∙ c .if1 .left))
+loop-again c = (
+  omega arith,
+  below-more _ _ (c .before .before .before .before .before .loop .inv .1)
+      (sym (c .before .own .ensures) ∙ c .if1 .left),
+)
 
 returns-2 : tie.Need-returns-2 Inv-loop μ-loop
 returns-2 c =
     any-none _ _
-    (below-past _ _ 64 (c .before .before .at-most .result) (c .before .before .at-most .ensures) (λ j h. c .before .loop .inv .1 j (omega arith)) (λ j h. own-past (c .before .before .before .args .t1) _ j (c .before .before .before .good .0 .1 .0 .1) h))
+    (below-past _ _ 64 (c .before .before .at-most .result) (c .before .before .at-most .ensures) (λ j h. c .before .loop .inv .1 j (omega arith))
+    (λ j h. own-past (c .before .before .before .args .t1) _ j (c .before .before .before .good .0 .1 .0 .1) h))
 
 pub any-own-spec : {M : Type 1} → statement M
-any-own-spec = tie.close (tie.spec Inv-loop μ-loop at-most-requires loop-holds mul-own array-copy-out-own mul-own-2 array-copy-out-own-2 own-requires returns add-s loop-less loop-again returns-2)
+any-own-spec =
+    tie.close
+    (tie.spec
+    Inv-loop
+    μ-loop
+    at-most-requires
+    loop-holds
+    mul-own
+    array-copy-out-own
+    mul-own-2
+    array-copy-out-own-2
+    own-requires
+    returns
+    add-s
+    loop-less
+    loop-again
+    returns-2)

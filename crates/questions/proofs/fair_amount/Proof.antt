@@ -1,6 +1,6 @@
 -- `fair_amount` is question 9. Assumes nothing.
-use borrow.Author.Needs.{needs}
 use mathlib.Core.Bool.{or-false}
+use borrow.Author.Needs.{needs}
 use borrow.Author.Tests.{ne-eqb}
 use Rattle.model.specs.WellFormed.{fairAmount}
 use Rattle.questions.proofs.fair_amount.Statement.{statement}

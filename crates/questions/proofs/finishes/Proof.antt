@@ -18,7 +18,9 @@ use Rattle.questions.proofs.finishes.Statement.{statement}
 use Rattle.questions.proofs.finishes.Tie as tie
 
 abbrev Inv-loop : tie.InvT-loop
-Inv-loop c members messages end s₀ s = (s ≤ end) × ((j : ℕ) → j < s → (has members j && (eqb (getD messages j noMessage .payload .kind) 2 && eqb (getD messages j noMessage .sender) c)) ≡ false)
+Inv-loop c members messages end s₀ s =
+    (s ≤ end)
+    × ((j : ℕ) → j < s → (has members j && (eqb (getD messages j noMessage .payload .kind) 2 && eqb (getD messages j noMessage .sender) c)) ≡ false)
 
 abbrev μ-loop : tie.MeasureT-loop
 μ-loop c members messages end s₀ s = end - s
@@ -43,7 +45,9 @@ finishing-requires c κs = search needs
 
 returns : tie.Need-returns Inv-loop μ-loop
 unfolding finishes message
-returns c = any-found _ _ (c .before .before .before .before .loop .s) (omega arith) (sym (c .before .finishing .ensures) ∙ c .if1 .taken)
+returns c =
+    any-found _ _ (c .before .before .before .before .loop .s) (omega arith)
+    (sym (c .before .finishing .ensures) ∙ c .if1 .taken)
 
 add-s : tie.Need-add-s Inv-loop μ-loop
 add-s c = search needs
@@ -52,7 +56,11 @@ loop-less : tie.Need-loop-less Inv-loop μ-loop
 loop-less c = search needs
 
 loop-again : tie.Need-loop-again Inv-loop μ-loop
-loop-again c = (omega arith, below-more _ _ (c .before .before .before .before .loop .inv .1) (sym (c .before .finishing .ensures) ∙ c .if1 .left))
+loop-again c = (
+  omega arith,
+  below-more _ _ (c .before .before .before .before .loop .inv .1)
+      (sym (c .before .finishing .ensures) ∙ c .if1 .left),
+)
 
 returns-2 : tie.Need-returns-2 Inv-loop μ-loop
 unfolding finishes message
@@ -62,4 +70,19 @@ returns-2 c =
     (λ j h. member-past (c .before .before .before .before .args .t2) _ j (c .before .before .before .before .good .1 .0 .1 .0 .1) h))
 
 pub finishes-spec : {M : Type 1} → statement M
-finishes-spec = tie.close (tie.spec Inv-loop μ-loop at-most-requires loop-holds array-read-finishing mul-finishing array-copy-out-finishing finishing-requires returns add-s loop-less loop-again returns-2)
+finishes-spec =
+    tie.close
+    (tie.spec
+    Inv-loop
+    μ-loop
+    at-most-requires
+    loop-holds
+    array-read-finishing
+    mul-finishing
+    array-copy-out-finishing
+    finishing-requires
+    returns
+    add-s
+    loop-less
+    loop-again
+    returns-2)

@@ -20,7 +20,9 @@ none-past-requires : tie.Need-none-past-requires
 none-past-requires c κs = search needs
 
 returns-2 : tie.Need-returns-2
-returns-2 c = keepable-of (c .before .before .before .before .before .args .t) _ _ _ _ _ (c .before .index .ensures) (c .before .before .before .before .log-length .ensures) (c .before .before .before .if1 .left) (c .none-past .ensures)
+returns-2 c =
+    keepable-of (c .before .before .before .before .before .args .t) _ _ _ _ _
+    (c .before .index .ensures) (c .before .before .before .before .log-length .ensures) (c .before .before .before .if1 .left) (c .none-past .ensures)
 
 pub keepable-spec : {M : Type 1} → statement M
 keepable-spec = tie.close (tie.spec log-length-requires returns index-requires none-past-requires returns-2)

@@ -1,6 +1,6 @@
 -- `one_sided` tests that one of two magnitudes is fair and the other is 0. Assumes nothing.
-use borrow.Author.Needs.{needs}
 use mathlib.Core.Bool.{and-true, and-false, or-false}
+use borrow.Author.Needs.{needs}
 use borrow.Author.Tests.{ne-eqb}
 use Rattle.model.specs.WellFormed.{magnitude}
 use Rattle.questions.proofs.one_sided.Statement.{statement}

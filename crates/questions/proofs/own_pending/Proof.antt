@@ -1,12 +1,11 @@
 -- `own_pending` is question 11. Assumes nothing.
-use mathlib.Core.Path.{_≡_}
+use mathlib.Core.Path.{_≡_, refl}
 use lib.ListN.{length, length-map}
 use borrow.Author.Needs.{needs}
 use Rattle.lists.proofs.Clipped.{any-none}
 use Rattle.model.specs.Tables.{at, message}
 use Rattle.model.specs.Questions.{ownPending}
 use Rattle.questions.proofs.Controllers.{at-past}
-use mathlib.Core.Path.{refl}
 use Rattle.questions.proofs.own_pending.Statement.{statement}
 use Rattle.questions.proofs.own_pending.Tie as tie
 
@@ -33,4 +32,12 @@ unfolding ownPending at message
 returns-2 c = rw (← c .before .before .before .before .before .index .ensures) (c .any-own .ensures)
 
 pub own-pending-spec : {M : Type 1} → statement M
-own-pending-spec = tie.close (tie.spec index-requires returns mul-x element-copy-out-x any-own-requires returns-2)
+own-pending-spec =
+    tie.close
+    (tie.spec
+    index-requires
+    returns
+    mul-x
+    element-copy-out-x
+    any-own-requires
+    returns-2)

@@ -32,4 +32,13 @@ unfolding at
 returns-2 c = rw (c .read-of .ensures, c .before .index2 .ensures, c .before .before .before .before .before .index .ensures)
 
 pub place-of-spec : {M : Type 1} → statement M
-place-of-spec = tie.close (tie.spec index-requires returns mul-x element-copy-out-x index-requires-2 read-of-requires returns-2)
+place-of-spec =
+    tie.close
+    (tie.spec
+    index-requires
+    returns
+    mul-x
+    element-copy-out-x
+    index-requires-2
+    read-of-requires
+    returns-2)

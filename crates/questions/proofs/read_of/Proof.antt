@@ -1,8 +1,8 @@
 -- `read_of` is a read position, 0 past the last. Assumes nothing.
 use mathlib.Core.Path.{sym}
 use native.Mathlib.Omega.{arith}
-use borrow.Author.Needs.{needs}
 use lib.ListN.{List·getD-eq-default}
+use borrow.Author.Needs.{needs}
 use Rattle.questions.proofs.read_of.Statement.{statement}
 use Rattle.questions.proofs.read_of.Tie as tie
 

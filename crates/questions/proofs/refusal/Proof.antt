@@ -31,4 +31,15 @@ returns-3 : tie.Need-returns-3
 returns-3 c = rw (c .before .before .e3 .given .1) (c .stop-refusal .ensures)
 
 pub refusal-spec : {M : Type 1} → statement M
-refusal-spec = tie.close (tie.spec enum-known-e send-refusal-requires enum-known-e-2 handover-refusal-requires enum-known-e-3 stop-refusal-requires returns returns-2 returns-3)
+refusal-spec =
+    tie.close
+    (tie.spec
+    enum-known-e
+    send-refusal-requires
+    enum-known-e-2
+    handover-refusal-requires
+    enum-known-e-3
+    stop-refusal-requires
+    returns
+    returns-2
+    returns-3)

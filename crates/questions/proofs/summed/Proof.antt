@@ -56,15 +56,45 @@ loop-less : tie.Need-loop-less Inv-loop μ-loop
 loop-less c = search needs
 
 loop-again : tie.Need-loop-again Inv-loop μ-loop
-loop-again c = (omega arith, sum-more _ _ _ _ (c .before .before .before .before .loop .inv .1) (c .before .counted .ensures .0), sum-more _ _ _ _ (c .before .before .before .before .loop .inv .2) (c .counted2 .ensures .0), omega arith, omega arith)
+loop-again c = (
+  omega arith,
+  sum-more _ _ _ _ (c .before .before .before .before .loop .inv .1) (c .before .counted .ensures .0),
+  sum-more _ _ _ _ (c .before .before .before .before .loop .inv .2) (c .counted2 .ensures .0),
+  omega arith,
+  omega arith,
+)
 
 returns : tie.Need-returns Inv-loop μ-loop
-returns c = record {
-  added = sum-past _ _ 64 (c .before .loop .s) _ (omega arith) (λ j h. term-past (λ p. p .added) (c .before .before .before .args .t1) (c .before .before .before .args .t2) j (c .before .before .before .good .0 .1 .0 .1) h) (c .before .loop .inv .1);
-  withdrawn = sum-past _ _ 64 (c .before .loop .s) _ (omega arith) (λ j h. term-past (λ p. p .withdrawn) (c .before .before .before .args .t1) (c .before .before .before .args .t2) j (c .before .before .before .good .0 .1 .0 .1) h) (c .before .loop .inv .2);
-  added-small = omega arith;
-  withdrawn-small = omega arith;
-}
+returns c =
+    record {
+      added =
+          sum-past _ _ 64 (c .before .loop .s) _ (omega arith)
+          (term-past (c .before .before .before .args .t1) (c .before .before .before .good .0 .1 .0 .1) (λ p. p .added) (c .before .before .before .args .t2))
+          (c .before .loop .inv .1);
+      withdrawn =
+          sum-past _ _ 64 (c .before .loop .s) _ (omega arith)
+          (term-past (c .before .before .before .args .t1) (c .before .before .before .good .0 .1 .0 .1) (λ p. p .withdrawn) (c .before .before .before .args .t2))
+          (c .before .loop .inv .2);
+      added-small = omega arith;
+      withdrawn-small = omega arith;
+    }
 
 pub summed-spec : {M : Type 1} → statement M
-summed-spec = tie.close (tie.spec Inv-loop μ-loop at-most-requires loop-holds array-read-flag mul-m array-copy-out-m counted-requires add-added counted-requires-2 add-withdrawn add-s loop-less loop-again returns)
+summed-spec =
+    tie.close
+    (tie.spec
+    Inv-loop
+    μ-loop
+    at-most-requires
+    loop-holds
+    array-read-flag
+    mul-m
+    array-copy-out-m
+    counted-requires
+    add-added
+    counted-requires-2
+    add-withdrawn
+    add-s
+    loop-less
+    loop-again
+    returns)

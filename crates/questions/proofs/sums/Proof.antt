@@ -1,7 +1,7 @@
 -- `sums` are both weights of what c has applied. Assumes nothing.
 use mathlib.Core.Path.{_≡_}
-use lib.ListN.{length, length-map}
 use native.Mathlib.Omega.{arith}
+use lib.ListN.{length, length-map}
 use borrow.Author.Needs.{needs}
 use Rattle.questions.proofs.Controllers.{at-past}
 use Rattle.questions.proofs.Weights.{weigh-none, weigh-of}
