@@ -1,5 +1,5 @@
 -- The three things that a controller does with an entry of a log, each from the tests that the code makes. Assumes nothing.
-use mathlib.Core.Path.{_≡_, ap, _∙_}
+use mathlib.Core.Path.{_≡_}
 use mathlib.Core.Bool.{false}
 use Prim.Native.Nat.{ℕ, _≤_, _<_}
 use native.Mathlib.Omega.{arith}
@@ -24,9 +24,9 @@ module _ (c : Controller) (m : Message) (s o k : ℕ) where
   marked h q x e = rw (lt-leb (m .number .0) (highest c (m .sender)) h, lt-ltb 0 (entry (c .pending) s .held) (omega (arith, q))) e
 
   pub buffered : highest c (m .sender) < m .number .0 → entry (c .pending) s .held ≡ 0
-      → (y x : Controller) → y ≡ withEntry c s → x ≡ withMark y s (blank .marks) o k → x ≡ forward c m s o k
+      → (x : Controller) → x ≡ withMark (withEntry c s) s (blank .marks) o k → x ≡ forward c m s o k
   unfolding forward
-  buffered h q y x d e = rw (lt-leb (m .number .0) (highest c (m .sender)) h, unheld c s q) (e ∙ ap (λ (z : Controller). withMark z s (blank .marks) o k) d)
+  buffered h q x e = rw (lt-leb (m .number .0) (highest c (m .sender)) h, unheld c s q) e
 
   pub room : Receivable c m s o k → highest c (m .sender) < m .number .0 → entry (c .pending) s .held ≡ 0 → c .length < capacity
   room r h q = r .room (lt-leb (m .number .0) (highest c (m .sender)) h) (unheld c s q)

@@ -16,8 +16,8 @@ use Rattle.model.specs.Sized.{Sized, SizedController}
 use Rattle.model.specs.declared.Pending.{Pending}
 use Rattle.model.specs.declared.Controller.{Controller}
 use Rattle.model.specs.declared.Table.{Table}
-use Rattle.model.proofs.ForwardNumber as number
-use Rattle.model.proofs.MessageNumber as sent
+use Rattle.model.proofs.ForwardNumber as forwardNumber
+use Rattle.model.proofs.MessageNumber as messageNumber
 use Rattle.model.proofs.Message as message
 use Rattle.model.proofs.Name as name
 use Rattle.model.proofs.Pending as pending
@@ -47,7 +47,7 @@ module _ (F : Field) (n : ℕ) (xs : List (F .Value)) (vs : List Val) (owned : I
 -- THE TABLE
 
 pending-sized : (p : Pending) (vs : List Val) → Is (pending.the-field .row) (pending.the-field .into p) vs → length (p .marks) ≡ seats
-pending-sized p vs g = array-length number.the-field seats (p .marks) _ (g .1 .1 .1 .0)
+pending-sized p vs g = array-length forwardNumber.the-field seats (p .marks) _ (g .1 .1 .1 .0)
 
 pub controller-sized : (c : Controller) (vs : List Val) → Is (controller.the-field .row) (controller.the-field .into c) vs → SizedController c
 controller-sized c vs g =
@@ -58,7 +58,7 @@ controller-sized c vs g =
       pending = array-length pending.the-field capacity (c .pending) _ buffer;
       marks = array-each pending.the-field capacity (c .pending) _ buffer (λ p. length (p .marks) ≡ seats) pending-sized noPending;
       applied = array-length u8-field capacity (c .applied) _ (g .1 .1 .1 .1 .1 .1 .1 .0);
-      highest = array-length sent.the-field seats (c .highest) _ (g .1 .1 .1 .1 .1 .1 .1 .1 .0);
+      highest = array-length messageNumber.the-field seats (c .highest) _ (g .1 .1 .1 .1 .1 .1 .1 .1 .0);
     }
 
 pub table-sized : (t : Table) (vs : List Val) → Is (row table.the-type) t vs → Sized t

@@ -1,4 +1,5 @@
 -- `forwarded` passes an entry over, marks it, or buffers and forwards it, as the definition does. Assumes nothing.
+use native.Mathlib.Omega.{arith}
 use borrow.Author.Needs.{needs}
 use Rattle.events.proofs.Forwarding.{passed, marked, buffered, room}
 use Rattle.events.proofs.forwarded.Statement.{statement}
@@ -28,17 +29,13 @@ with-mark-requires c κs = search needs
 returns-2 : tie.Need-returns-2
 returns-2 c = marked _ _ _ _ _ (c .before .before .before .before .before .if1 .left) (c .before .before .if2 .taken) _ (c .with-mark .ensures)
 
-of-requires : tie.Need-of-requires
-of-requires c κs = search needs
-
-with-entry-requires : tie.Need-with-entry-requires
-with-entry-requires c κs = (room _ _ _ _ _ (c .before .before .before .before .before .before .before .before .before .pre) (c .before .before .before .before .if1 .left) (c .before .if2 .left), c .before .before .before .before .before .before .before .before .before .pre .slot)
-
-with-mark-requires-2 : tie.Need-with-mark-requires-2
-with-mark-requires-2 c κs = search needs
+buffered-requires : tie.Need-buffered-requires
+buffered-requires c κs =
+    let r = c .before .before .before .before .before .before .before .before .pre in
+    (room _ _ _ _ _ r (c .before .before .before .if1 .left) (c .if2 .left), r .slot, r .owner-low, r .owner-high, omega arith)
 
 returns-3 : tie.Need-returns-3
-returns-3 c = buffered _ _ _ _ _ (c .before .before .before .before .before .before .if1 .left) (c .before .before .before .if2 .left) _ _ (c .before .with-entry .ensures) (rw (c .before .before .of .ensures) at (c .with-mark2 .ensures))
+returns-3 c = buffered _ _ _ _ _ (c .before .before .before .before .if1 .left) (c .before .if2 .left) _ (c .buffered .ensures)
 
 pub forwarded-spec : {M : Type 1} → statement M
 forwarded-spec =
@@ -52,7 +49,5 @@ forwarded-spec =
     element-copy-out-entry
     with-mark-requires
     returns-2
-    of-requires
-    with-entry-requires
-    with-mark-requires-2
+    buffered-requires
     returns-3)

@@ -2,8 +2,8 @@
 use mathlib.Core.Path.{ap}
 use native.Mathlib.Omega.{arith}
 use borrow.Author.Needs.{needs}
-use Rattle.model.specs.Events.{send}
 use Rattle.model.specs.Tables.{withMessage}
+use Rattle.model.specs.Events.{send}
 use Rattle.model.specs.declared.Controller.{Controller}
 use Rattle.events.proofs.Accepted.{sendable}
 use Rattle.events.proofs.sent.Statement.{statement}
@@ -21,34 +21,30 @@ cast-of c = let h = sendable _ _ _ (c .before .before .pre) in rw (c .before .at
 of-requires : tie.Need-of-requires
 of-requires c κs = search needs
 
+buffered-requires : tie.Need-buffered-requires
+buffered-requires c κs =
+    let h = sendable _ _ _ (c .before .before .before .pre) in
+    let e = ap (λ (x : Controller). x .length) (c .before .before .at .ensures) in
+    (omega arith, h .slot, h .sender .low, h .sender .high, omega arith)
+
 of-requires-2 : tie.Need-of-requires-2
 of-requires-2 c κs = search needs
 
-with-entry-requires : tie.Need-with-entry-requires
-with-entry-requires c κs = let h = sendable _ _ _ (c .before .before .before .before .pre) in (rw (c .before .before .before .at .ensures) (h .room), h .slot)
-
-with-mark-requires : tie.Need-with-mark-requires
-with-mark-requires c κs = let h = sendable _ _ _ (c .before .before .before .before .before .pre) in (h .slot, h .sender .low, h .sender .high, omega (arith, ap (λ (x : Controller). x .length) (c .before .before .before .before .at .ensures)))
-
-of-requires-3 : tie.Need-of-requires-3
-of-requires-3 c κs = search needs
-
-mul-t15 : tie.Need-mul-t15
-mul-t15 c = let h = sendable _ _ _ (c .before .before .before .before .before .before .before .pre) in omega arith
+mul-t12 : tie.Need-mul-t12
+mul-t12 c = let h = sendable _ _ _ (c .before .before .before .before .before .pre) in omega arith
 
 element-set-from-next : tie.Need-element-set-from-next
-element-set-from-next c = let h = sendable _ _ _ (c .before .before .before .before .before .before .before .pre) in omega arith
+element-set-from-next c = let h = sendable _ _ _ (c .before .before .before .before .before .pre) in omega arith
 
 add-next : tie.Need-add-next
-add-next c = let h = sendable _ _ _ (c .before .before .before .before .before .before .before .pre) in omega arith
+add-next c = let h = sendable _ _ _ (c .before .before .before .before .before .pre) in omega arith
 
 with-controller-requires : tie.Need-with-controller-requires
-with-controller-requires c κs = let h = sendable _ _ _ (c .before .before .before .before .before .before .before .pre) in (h .sender .low, h .sender .high)
+with-controller-requires c κs = let h = sendable _ _ _ (c .before .before .before .before .before .pre) in (h .sender .low, h .sender .high)
 
 returns : tie.Need-returns
 unfolding send withMessage
-returns c =
-    rw (c .with-controller .ensures, c .before .of3 .ensures, c .before .before .with-mark .ensures, c .before .before .before .with-entry .ensures, c .before .before .before .before .of2 .ensures, c .before .before .before .before .before .of .ensures, c .before .before .before .before .before .before .before .at .ensures)
+returns c = rw (c .with-controller .ensures, c .before .of2 .ensures, c .before .before .buffered .ensures, c .before .before .before .of .ensures, c .before .before .before .before .before .at .ensures)
 
 pub sent-spec : {M : Type 1} → statement M
 sent-spec =
@@ -58,11 +54,9 @@ sent-spec =
     add-place
     cast-of
     of-requires
+    buffered-requires
     of-requires-2
-    with-entry-requires
-    with-mark-requires
-    of-requires-3
-    mul-t15
+    mul-t12
     element-set-from-next
     add-next
     with-controller-requires
