@@ -1,0 +1,184 @@
+//! Demand 3, checked over one list of calls. It reads arguments and answers only, as document 01's section
+//! "The list of demand 3" says, and shares nothing with the reference.
+
+use std::collections::{BTreeMap, BTreeSet};
+
+/// A message: sender, number.
+pub type Name = (usize, usize);
+
+pub struct Ledger {
+    n: usize,
+    logs: Vec<Vec<Name>>,
+    /// `places[r][o]`: r's place in o's log.
+    places: Vec<Vec<usize>>,
+    running: Vec<bool>,
+    amounts: BTreeMap<Name, i64>,
+    cut_off: BTreeSet<Name>,
+    applied: Vec<BTreeSet<Name>>,
+    /// What any controller had applied at any moment, each once.
+    moments: BTreeSet<Vec<Name>>,
+    broken: Option<String>,
+}
+
+impl Ledger {
+    pub fn new(n: usize) -> Ledger {
+        Ledger {
+            n,
+            logs: vec![vec![]; n],
+            places: vec![vec![0; n]; n],
+            running: vec![true; n],
+            amounts: BTreeMap::new(),
+            cut_off: BTreeSet::new(),
+            applied: vec![BTreeSet::new(); n],
+            moments: BTreeSet::from([vec![]]),
+            broken: None,
+        }
+    }
+
+    /// What is wrong with the list so far, if anything.
+    pub fn broken(&self) -> Option<&str> {
+        self.broken.as_deref()
+    }
+
+    fn expect(&mut self, holds: bool, what: impl FnOnce() -> String) {
+        if !holds && self.broken.is_none() {
+            self.broken = Some(what());
+        }
+    }
+
+    /// An event call with its bytes and its answer.
+    pub fn event(&mut self, bytes: &[u8], number: u8, set: &[Name]) {
+        if number != 0 {
+            self.expect(set.is_empty(), || "a refused event answers a set".into());
+            return;
+        }
+        let length = bytes.get(1).and_then(|kind| [0, 4, 2, 3, 4].get(*kind as usize));
+        if length != bytes.first() || bytes.len() <= bytes[0] as usize || bytes[0] == 0 {
+            return self.expect(false, || "accepted bytes hold no record".into());
+        }
+        let c = bytes[2] as usize;
+        if c < 1 || c > self.n || (bytes[1] == 3 && (bytes[3] < 1 || bytes[3] as usize > self.n)) {
+            return self.expect(false, || "accepted bytes name no controller".into());
+        }
+        match bytes[1] {
+            1 => self.send(c, i16::from_be_bytes([bytes[3], bytes[4]]) as i64),
+            2 => self.send(c, 0),
+            3 => self.handover(c, bytes[3] as usize, set),
+            4 => self.stop(c, u16::from_be_bytes([bytes[3], bytes[4]]) as usize),
+            _ => return self.expect(false, || "accepted bytes have no kind".into()),
+        }
+        self.expect(bytes[1] == 3 || set.is_empty(), || "a set without a handover".into());
+        self.ending();
+    }
+
+    fn send(&mut self, c: usize, amount: i64) {
+        let name = (c, self.logs[c - 1].len() + 1);
+        self.logs[c - 1].push(name);
+        let new = self.amounts.insert(name, amount).is_none();
+        self.expect(new, || format!("{name:?} is sent twice"));
+    }
+
+    fn handover(&mut self, r: usize, o: usize, set: &[Name]) {
+        let place = self.places[r - 1][o - 1];
+        let Some(name) = self.logs[o - 1].get(place).copied() else {
+            return self.expect(false, || format!("an accepted handover to {r} reads past the end of log {o}"));
+        };
+        self.places[r - 1][o - 1] += 1;
+        if !self.logs[r - 1].contains(&name) {
+            self.logs[r - 1].push(name);
+        }
+        for name in set {
+            let sent = self.amounts.contains_key(name);
+            self.expect(sent, || format!("{r} applies {name:?}, which was not sent"));
+            let once = self.applied[r - 1].insert(*name);
+            self.expect(once, || format!("{r} applies {name:?} twice"));
+        }
+        if !set.is_empty() {
+            self.contained(r);
+        }
+    }
+
+    /// What r has applied now contains, or is contained in, what any controller had at any moment.
+    fn contained(&mut self, r: usize) {
+        let now = self.applied[r - 1].clone();
+        let other = self.moments.iter().find(|then| {
+            let shared = then.iter().filter(|name| now.contains(name)).count();
+            shared != then.len() && shared != now.len()
+        });
+        if let Some(then) = other {
+            let text = format!("{r} has applied {now:?}, another at some moment {then:?}");
+            self.expect(false, || text);
+        }
+        self.moments.insert(now.into_iter().collect());
+    }
+
+    fn stop(&mut self, c: usize, kept: usize) {
+        self.running[c - 1] = false;
+        let log = &mut self.logs[c - 1];
+        let gone = log.split_off(kept.min(log.len()));
+        self.cut_off.extend(gone.into_iter().filter(|name| name.0 == c));
+    }
+
+    /// The controllers at which the ending speaks of this moment; none if its condition fails.
+    pub fn ended(&self) -> Vec<usize> {
+        let runs: Vec<usize> = (1..=self.n).filter(|c| self.running[c - 1]).collect();
+        let read_all = runs.iter().all(|r| (0..self.n).all(|o| self.places[r - 1][o] == self.logs[o].len()));
+        if 2 * runs.len() > self.n && read_all {
+            runs
+        } else {
+            vec![]
+        }
+    }
+
+    fn ending(&mut self) {
+        let due: BTreeSet<Name> = self.amounts.keys().filter(|name| !self.cut_off.contains(name)).copied().collect();
+        for c in self.ended() {
+            let all = self.applied[c - 1] == due;
+            self.expect(all, || format!("the ending: {c} has not applied exactly {due:?}"));
+        }
+    }
+
+    /// A panel look with its answer. Where the ending speaks, the sum of what was applied is the ending's sum.
+    pub fn look(&mut self, c: usize, number: u8, total: i64) {
+        if number != 0 {
+            return self.expect(!self.ended().contains(&c), || format!("the ending: a look at {c} is refused"));
+        }
+        if c < 1 || c > self.n {
+            return self.expect(false, || format!("an accepted look at {c}"));
+        }
+        let sum: i64 = self.applied[c - 1].iter().filter_map(|name| self.amounts.get(name)).sum();
+        self.expect(total == sum, || format!("a look at {c} shows {total}, not {sum}"));
+    }
+
+    /// The head of a list by a file run: its accepted records as calls, with the sets of its listing.
+    pub fn file(file: &[u8], events: usize, listing: &[u8]) -> Ledger {
+        let mut ledger = Ledger::new(file[1] as usize);
+        let mut sets = BTreeMap::new();
+        for line in String::from_utf8_lossy(listing).lines() {
+            let mut fields = line.split(' ');
+            let mut number = || fields.next().and_then(|f| f.parse::<i64>().ok()).unwrap_or(-1);
+            let (event, controller, total) = (number() as usize, number() as usize, number());
+            let name = |f: &str| f.split_once('.').and_then(|(s, k)| Some((s.parse().ok()?, k.parse().ok()?)));
+            let set: Option<Vec<Name>> = fields.map(name).collect();
+            ledger.expect(set.is_some(), || format!("a line of no known form: {line}"));
+            let new = sets.insert(event, (controller, total, set.unwrap_or_default())).is_none();
+            ledger.expect(new, || format!("two lines for event {event}"));
+        }
+        let mut rest = &file[2..];
+        for event in 1..=events {
+            let (controller, total, set) = sets.remove(&event).unwrap_or((0, 0, vec![]));
+            ledger.event(rest, 0, &set);
+            if ledger.broken.is_some() {
+                return ledger;
+            }
+            if controller != 0 {
+                ledger
+                    .expect(rest[2] as usize == controller, || format!("the line of event {event} names {controller}"));
+                ledger.look(controller, 0, total);
+            }
+            rest = &rest[1 + rest[0] as usize..];
+        }
+        ledger.expect(sets.is_empty(), || "a line for an event that was not accepted".into());
+        ledger
+    }
+}
