@@ -4,3 +4,6 @@ pub mod Applying
 pub mod Lengths
 pub mod Ordering
 pub mod Listing
+pub mod Stepping
+pub mod HandingOver
+pub mod Panels

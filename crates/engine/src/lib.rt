@@ -1,0 +1,57 @@
+// The calls that others make, from Rattle, C and Rust. Each hands what it is lent to the by-value function that
+// answers it and stores what comes back. Its contract is an equation for its result and for all that it may write.
+ghost use mathlib.Core.Path.{_≡_};
+ghost use lib.ListN.{length, drop};
+ghost use Rattle.model.specs.Calls.{look, freshTable};
+ghost use Rattle.events.specs.Stepped.{stepped, scratchLeft};
+
+// One event, of the record with which the bytes begin. The result is the part of the caller's bytes that is unread.
+pub fn event<'t, 'a, 's, 'o>(
+    t: &'t mut model::Table,
+    bytes: &'a [u8],
+    scratch: &'s mut [u8],
+    answer: &'o mut model::Answer,
+) -> &'a [u8]
+    ensures { λ r. ⌜ (now (t .exit) ≡ stepped (now (t .entry)) (now (bytes .entry)) (length (now (scratch .entry))) .table)
+        × (now (answer .exit) ≡ stepped (now (t .entry)) (now (bytes .entry)) (length (now (scratch .entry))) .answer)
+        × (now r ≡ drop (stepped (now (t .entry)) (now (bytes .entry)) (length (now (scratch .entry))) .used) (now (bytes .entry)))
+        × (now (scratch .exit) ≡ scratchLeft (now (t .entry)) (now (bytes .entry)) (now (scratch .entry))) ⌝ }
+{
+    let s = events::event(*t, bytes, scratch);
+    *t = s.table;
+    *answer = s.answer;
+    records::rest(bytes, s.used)
+}
+
+// The same for callers that no reference can be handed back to: the result is how many bytes are unread.
+#[no_mangle]
+pub extern "C" fn furnacejade_event(
+    t: &mut model::Table,
+    bytes: &[u8],
+    scratch: &mut [u8],
+    answer: &mut model::Answer,
+) -> usize
+    ensures { λ r. ⌜ (r ≡ length (drop (stepped (now (t .entry)) (now (bytes .entry)) (length (now (scratch .entry))) .used) (now (bytes .entry))))
+        × (now (t .exit) ≡ stepped (now (t .entry)) (now (bytes .entry)) (length (now (scratch .entry))) .table)
+        × (now (answer .exit) ≡ stepped (now (t .entry)) (now (bytes .entry)) (length (now (scratch .entry))) .answer)
+        × (now (scratch .exit) ≡ scratchLeft (now (t .entry)) (now (bytes .entry)) (now (scratch .entry))) ⌝ }
+{
+    let left = event(t, bytes, scratch, answer);
+    left.len()
+}
+
+// The panel look at controller c.
+#[no_mangle]
+pub extern "C" fn furnacejade_look(t: &model::Table, c: usize, answer: &mut model::LookAnswer)
+    ensures { λ _. ⌜ now (answer .exit) ≡ look (now (t .entry)) c ⌝ }
+{
+    *answer = events::look_at(*t, c);
+}
+
+// The fresh table of n controllers.
+#[no_mangle]
+pub extern "C" fn furnacejade_fresh(n: usize, answer: &mut model::FreshAnswer)
+    ensures { λ _. ⌜ now (answer .exit) ≡ freshTable n ⌝ }
+{
+    *answer = events::fresh_table(n);
+}

@@ -1,0 +1,150 @@
+-- From the questions of a step, and from what an event does, to what the calls answer and leave. Assumes nothing.
+use mathlib.Core.Path.{_≡_, refl, sym, ap, _∙_}
+use mathlib.Core.Logic.{_≢_}
+use mathlib.Core.Bool.{Bool, true, false, cond}
+use mathlib.Core.List.{List, [], _∷_, _++_}
+use Prim.Native.Nat.{ℕ, zero, suc, _+_, _≤_, _<_}
+use native.Mathlib.Omega.{arith}
+use lib.ListN.{length}
+use lib.Dec.{eqb, leb}
+use borrow.Author.Tests.{ne-eqb, le-leb, lt-leb, leb-true}
+use Rattle.lists.proofs.Tests.{cond-true, cond-false}
+use Rattle.lists.proofs.Clipped.{any-none}
+use Rattle.model.specs.Records.{size, decode}
+use Rattle.model.specs.Events.{next, appliedBy, namesBelow, namesOf, finishes}
+use Rattle.model.specs.WellFormed.{wellFormed}
+use Rattle.model.specs.Questions.{Question, firstNo, lentTable, recordQuestions, eventQuestions, scratchRoom, stepQuestions}
+use Rattle.model.specs.Calls.{Outcome, receiver, accepted, refused, settled, step, event, cleared, scratchAfter, answerOf}
+use Rattle.model.specs.declared.Table.{Table}
+use Rattle.model.specs.declared.Event.{Event}
+use Rattle.model.specs.declared.Event.the-variants.{Send, Handover, Stop}
+use Rattle.model.proofs.Allowed.{Numbered, none, more, no-no, step-asked}
+use Rattle.invariant.proofs.Kept.{event-number-step}
+use Rattle.events.specs.declared.Stepped.{Stepped}
+use Rattle.events.specs.Conditions.{Accepted}
+use Rattle.events.specs.Stepped.{steppedOf, stepped, scratchLeft, plain, carriedOut}
+
+-- THE QUESTIONS OF A STEP
+
+first-refused : (qs rs : List Question) → firstNo qs ≢ 0 → firstNo (qs ++ rs) ≡ firstNo qs
+unfolding firstNo
+first-refused [] rs n = absurd (n refl)
+first-refused (q ∷ qs) rs n = go (q .yes) n (first-refused qs rs)
+  where
+    go : (b : Bool) → cond b (firstNo qs) (q .number) ≢ 0 → (firstNo qs ≢ 0 → firstNo (qs ++ rs) ≡ firstNo qs)
+        → cond b (firstNo (qs ++ rs)) (q .number) ≡ cond b (firstNo qs) (q .number)
+    go true m f = f m
+    go false m f = refl
+
+first-passed : {qs : List Question} → Numbered qs → (rs : List Question) → firstNo qs ≡ 0 → firstNo (qs ++ rs) ≡ firstNo rs
+unfolding firstNo
+first-passed none rs e = refl
+first-passed (more {k = k} {b = b} {qs = qs} n) rs e =
+    let q = no-no k b qs e in
+    rw (q .0) (first-passed n rs (q .1))
+
+event-numbered : (t : Table) (e : Event) → Numbered (eventQuestions t e)
+unfolding eventQuestions
+event-numbered t (Send c p) = more (more (more (more (more none))))
+event-numbered t (Handover r o) = more (more (more none))
+event-numbered t (Stop c k) = more (more (more none))
+
+record-numbered : (s : List ℕ) → Numbered (recordQuestions s)
+unfolding recordQuestions
+record-numbered s = more (more (more none))
+
+module _ (t : Table) (s : List ℕ) (room : ℕ) where
+  pub record-refused : (k : ℕ) → k ≡ firstNo (recordQuestions s) → k ≢ 0 → k ≡ firstNo (stepQuestions t s room)
+  unfolding stepQuestions
+  record-refused k e n = e ∙ sym (first-refused (recordQuestions s) _ (λ z. n (e ∙ z)))
+
+  -- past the record's questions
+  event-asked : (j : ℕ) → j ≡ firstNo (recordQuestions s) → j ≡ 0
+      → firstNo (stepQuestions t s room) ≡ firstNo (eventQuestions t (decode s) ++ (scratchRoom room ∷ []))
+  unfolding stepQuestions
+  event-asked j e z = first-passed (record-numbered s) _ (sym e ∙ z)
+
+  pub event-refused : (j k : ℕ) → j ≡ firstNo (recordQuestions s) → j ≡ 0 → k ≡ firstNo (eventQuestions t (decode s)) → k ≢ 0
+      → k ≡ firstNo (stepQuestions t s room)
+  event-refused j k e z d n = d ∙ sym (event-asked j e z ∙ first-refused (eventQuestions t (decode s)) _ (λ x. n (d ∙ x)))
+
+  -- past the event's questions
+  room-asked : (j k : ℕ) → j ≡ firstNo (recordQuestions s) → j ≡ 0 → k ≡ firstNo (eventQuestions t (decode s)) → k ≡ 0
+      → firstNo (stepQuestions t s room) ≡ firstNo (scratchRoom room ∷ [])
+  room-asked j k e z d x = event-asked j e z ∙ first-passed (event-numbered t (decode s)) _ (sym d ∙ x)
+
+  pub room-refused : (j k : ℕ) → j ≡ firstNo (recordQuestions s) → j ≡ 0 → k ≡ firstNo (eventQuestions t (decode s)) → k ≡ 0
+      → room < 4096 → 15 ≡ firstNo (stepQuestions t s room)
+  unfolding firstNo scratchRoom
+  room-refused j k e z d x h = sym (room-asked j k e z d x ∙ rw (lt-leb 4096 room h) refl)
+
+  pub none-refused : (j k : ℕ) → j ≡ firstNo (recordQuestions s) → j ≡ 0 → k ≡ firstNo (eventQuestions t (decode s)) → k ≡ 0
+      → 4096 ≤ room → 0 ≡ firstNo (stepQuestions t s room)
+  unfolding firstNo scratchRoom
+  none-refused j k e z d x h = sym (room-asked j k e z d x ∙ rw (le-leb 4096 room h) refl)
+
+-- what carrying out an event relies on
+pub allowed : (t : Table) (s : List ℕ) (room k : ℕ) → wellFormed t ≡ true → k ≡ firstNo (stepQuestions t s room) → k ≡ 0
+    → Accepted t (decode s) × (4096 ≤ room)
+unfolding scratchRoom
+allowed t s room k w e z =
+    let a = step-asked t s room (sym e ∙ z) in
+    ((w, a .1), leb-true 4096 room (no-no 14 (leb 4096 room) [] (a .2) .0))
+
+-- ANSWERS
+
+module _ (t : Table) (s w : List ℕ) where
+  pub refused-answer : (o : Outcome) (k : ℕ) → o ≡ refused t s k → k ≢ 0 → (r : Stepped) → r ≡ plain t k 0
+      → (r ≡ steppedOf o s) × (w ≡ scratchAfter (o .answer .number) w)
+  unfolding steppedOf refused plain answerOf scratchAfter
+  refused-answer o k e n r d = rw (e, ne-eqb k 0 n) (d, refl)
+
+  pub accepted-answer : (o : Outcome) → o ≡ accepted t s → (r : Stepped) (v : List ℕ) → r ≡ carriedOut t (decode s) (size s + 1) → v ≡ cleared w
+      → (r ≡ steppedOf o s) × (v ≡ scratchAfter (o .answer .number) w)
+  unfolding steppedOf accepted carriedOut answerOf scratchAfter
+  accepted-answer o e r v d c = rw e (d, c)
+
+  step-is-refused : (room k : ℕ) → k ≡ firstNo (stepQuestions t s room) → k ≢ 0 → step t s room ≡ refused t s k
+  unfolding step settled
+  step-is-refused room k e n = rw (← e) (cond-false _ _ (ne-eqb k 0 n))
+
+  step-is-accepted : (room k : ℕ) → k ≡ firstNo (stepQuestions t s room) → k ≡ 0 → step t s room ≡ accepted t s
+  unfolding step settled
+  step-is-accepted room k e z = rw (← e, z) refl
+
+  pub step-refused : (k : ℕ) → k ≡ firstNo (stepQuestions t s (length w)) → k ≢ 0 → (r : Stepped) → r ≡ plain t k 0
+      → (r ≡ steppedOf (step t s (length w)) s) × (w ≡ scratchAfter (step t s (length w) .answer .number) w)
+  step-refused k e n r d = refused-answer (step t s (length w)) k (step-is-refused (length w) k e n) n r d
+
+  pub step-accepted : (k : ℕ) → k ≡ firstNo (stepQuestions t s (length w)) → k ≡ 0 → (r : Stepped) (v : List ℕ)
+      → r ≡ carriedOut t (decode s) (size s + 1) → v ≡ cleared w
+      → (r ≡ steppedOf (step t s (length w)) s) × (v ≡ scratchAfter (step t s (length w) .answer .number) w)
+  step-accepted k e z r v d c = accepted-answer (step t s (length w)) (step-is-accepted (length w) k e z) r v d c
+
+  event-is-refused : (room : ℕ) → wellFormed t ≡ false → event t s room ≡ refused t s 4
+  unfolding event settled firstNo lentTable
+  event-is-refused room f = rw f refl
+
+  pub event-refused-four : (r : Stepped) → wellFormed t ≡ false → r ≡ plain t 4 0
+      → (r ≡ stepped t s (length w)) × (w ≡ scratchLeft t s w)
+  unfolding stepped scratchLeft
+  event-refused-four r f d = refused-answer (event t s (length w)) 4 (event-is-refused (length w) f) (λ z. omega arith) r d
+
+  pub event-stepped : (r : Stepped) (v : List ℕ) → wellFormed t ≡ true
+      → (r ≡ steppedOf (step t s (length w)) s) × (v ≡ scratchAfter (step t s (length w) .answer .number) w)
+      → (r ≡ stepped t s (length w)) × (v ≡ scratchLeft t s w)
+  unfolding stepped scratchLeft
+  event-stepped r v f d = rw (event-number-step t s (length w) f) d
+
+-- AN EVENT THAT APPLIES NOTHING
+
+no-names : (k : ℕ) (t : Table) → namesBelow k t [] ≡ []
+unfolding namesBelow
+no-names zero t = refl
+no-names (suc k) t = no-names k t
+
+pub quiet : (t : Table) (e : Event) (u : ℕ) → appliedBy t e ≡ [] → (x : Table) → x ≡ next t e → (r : Stepped) → r ≡ plain x 0 u
+    → r ≡ carriedOut t e u
+unfolding plain carriedOut namesOf finishes
+quiet t e u a x d r p =
+    p ∙ rw (a, no-names (t .count) t, d, ← any-none (t .count) _ (λ k h. refl)) refl

@@ -1,0 +1,61 @@
+-- What the event call and the file run answer and leave, as their callers get it by value.
+use Prim.Native.Nat.{ℕ, _+_}
+use mathlib.Core.Bool.{false, cond}
+use mathlib.Core.List.{List, []}
+use lib.ListN.{length}
+use lib.IntN.{pos}
+use lib.Dec.{eqb}
+use Rattle.model.specs.Events.{next, appliedBy, namesOf, finishes, total}
+use Rattle.model.specs.Records.{size}
+use Rattle.model.specs.Calls.{Outcome, receiver, event, scratchAfter, answerOf}
+use Rattle.model.specs.Runs.{fileRun}
+use Rattle.model.specs.declared.Table.{Table}
+use Rattle.model.specs.declared.Event.{Event}
+use Rattle.model.specs.declared.RunAnswer.{RunAnswer}
+use Rattle.events.specs.declared.Stepped.{Stepped}
+
+-- an outcome of the bytes s: the unread rest is what stands behind the bytes used
+unfoldable pub steppedOf : Outcome → List ℕ → Stepped
+steppedOf o s = record {
+  answer = answerOf (o .answer);
+  used = cond (eqb (o .answer .number) 0) (size s + 1) 0;
+  table = o .table;
+}
+
+-- THE EVENT CALL
+
+unfoldable pub stepped : Table → List ℕ → ℕ → Stepped
+stepped t s room = steppedOf (event t s room) s
+
+unfoldable pub scratchLeft : Table → List ℕ → List ℕ → List ℕ
+scratchLeft t s w = scratchAfter (event t s (length w) .answer .number) w
+
+-- an event that applies nothing, or a refusal
+unfoldable pub plain : Table → ℕ → ℕ → Stepped
+plain t k u = record {
+  answer = answerOf (record { number = k; names = []; finished = false; total = pos 0; rest = [] });
+  used = u;
+  table = t;
+}
+
+-- an accepted event, whose record has so many bytes
+unfoldable pub carriedOut : Table → Event → ℕ → Stepped
+carriedOut t e u =
+    let f = finishes t (appliedBy t e) (receiver e) in
+    let x = total (next t e) (receiver e) in
+    record {
+      answer = answerOf (record { number = 0; names = namesOf t (appliedBy t e); finished = f; total = cond f x (pos 0); rest = [] });
+      used = u;
+      table = next t e;
+    }
+
+-- THE FILE RUN
+
+unfoldable pub runOf : List ℕ → List ℕ → List ℕ → RunAnswer
+runOf s l w = fileRun s l w .answer
+
+unfoldable pub runListing : List ℕ → List ℕ → List ℕ → List ℕ
+runListing s l w = fileRun s l w .listing
+
+unfoldable pub runScratch : List ℕ → List ℕ → List ℕ → List ℕ
+runScratch s l w = fileRun s l w .scratch
