@@ -3,7 +3,7 @@
 ghost use mathlib.Core.Path.{_≡_};
 ghost use lib.ListN.{length, drop};
 ghost use Rattle.model.specs.Calls.{look, freshTable};
-ghost use Rattle.events.specs.Stepped.{stepped, scratchLeft};
+ghost use Rattle.events.specs.Stepped.{stepped, scratchLeft, runOf, runListing, runScratch};
 
 // One event, of the record with which the bytes begin. The result is the part of the caller's bytes that is unread.
 pub fn event<'t, 'a, 's, 'o>(
@@ -54,4 +54,19 @@ pub extern "C" fn furnacejade_fresh(n: usize, answer: &mut model::FreshAnswer)
     ensures { λ _. ⌜ now (answer .exit) ≡ freshTable n ⌝ }
 {
     *answer = events::fresh_table(n);
+}
+
+// The run of a whole file.
+#[no_mangle]
+pub extern "C" fn furnacejade_run(
+    bytes: &[u8],
+    listing: &mut [u8],
+    scratch: &mut [u8],
+    answer: &mut model::RunAnswer,
+)
+    ensures { λ _. ⌜ (now (answer .exit) ≡ runOf (now (bytes .entry)) (now (listing .entry)) (now (scratch .entry)))
+        × (now (listing .exit) ≡ runListing (now (bytes .entry)) (now (listing .entry)) (now (scratch .entry)))
+        × (now (scratch .exit) ≡ runScratch (now (bytes .entry)) (now (listing .entry)) (now (scratch .entry))) ⌝ }
+{
+    *answer = events::run_file(bytes, listing, scratch);
 }

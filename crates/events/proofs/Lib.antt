@@ -7,3 +7,6 @@ pub mod Listing
 pub mod Stepping
 pub mod HandingOver
 pub mod Panels
+pub mod Files
+pub mod Turning
+pub mod Running

@@ -2,3 +2,4 @@ pub mod Conditions
 pub mod Applying
 pub mod Ordering
 pub mod Stepped
+pub mod Turns

@@ -1,0 +1,61 @@
+-- Questions 1 to 3 from the tests that the code makes, and the file run behind them. Assumes nothing.
+use mathlib.Core.Path.{_≡_, refl, sym, ap, _∙_}
+use mathlib.Core.Logic.{_≢_}
+use mathlib.Core.Bool.{true, false, _&&_}
+use mathlib.Core.List.{List}
+use Prim.Native.Nat.{ℕ}
+use lib.ListN.{length}
+use lib.Dec.{leb, ltb}
+use borrow.Author.Tests.{eq-eqb, ne-eqb}
+use Rattle.lists.proofs.Tests.{cond-true, cond-false}
+use Rattle.model.specs.Tables.{blankTable}
+use Rattle.model.specs.Records.{byte}
+use Rattle.model.specs.Questions.{firstNo, controllerCount, fileQuestions}
+use Rattle.model.specs.Runs.{RunOutcome, progress, ran, fileRun}
+use Rattle.model.specs.declared.Table.{Table}
+use Rattle.model.specs.declared.RunAnswer.{RunAnswer}
+use Rattle.events.specs.Stepped.{runOf, runListing, runScratch}
+
+module _ (s : List ℕ) where
+  pub length-refused : (leb 2 (length s) && leb (length s) 65535) ≡ false → 1 ≡ firstNo (fileQuestions s)
+  unfolding firstNo fileQuestions
+  length-refused f = rw f refl
+
+  module _ (long : (leb 2 (length s) && leb (length s) 65535) ≡ true) (v : ℕ) (e : v ≡ byte s 0) where
+    pub version-refused : v ≢ 1 → 2 ≡ firstNo (fileQuestions s)
+    unfolding firstNo fileQuestions
+    version-refused d = rw (long, ne-eqb (byte s 0) 1 (λ z. d (e ∙ z))) refl
+
+    module _ (one : v ≡ 1) (n : ℕ) (q : n ≡ byte s 1) where
+      pub count-refused : (ltb 0 n && leb n 7) ≡ false → 3 ≡ firstNo (fileQuestions s)
+      unfolding firstNo fileQuestions controllerCount
+      count-refused f = rw (long, eq-eqb (byte s 0) 1 (sym e ∙ one), ← q, f) refl
+
+      pub file-passed : (ltb 0 n && leb n 7) ≡ true → 0 ≡ firstNo (fileQuestions s)
+      unfolding firstNo fileQuestions controllerCount
+      file-passed f = rw (long, eq-eqb (byte s 0) 1 (sym e ∙ one), ← q, f) refl
+
+module _ (s l w : List ℕ) (k : ℕ) (e : k ≡ firstNo (fileQuestions s)) where
+  run-isnt : k ≢ 0
+      → _≡_ {A = RunOutcome} (record { answer = record { number = k; events = 0; written = 0; table = blankTable }; listing = l; scratch = w }) (fileRun s l w)
+  unfolding fileRun
+  run-isnt n = rw e (sym (cond-false _ _ (ne-eqb (firstNo (fileQuestions s)) 0 (λ z. n (e ∙ z)))))
+
+  pub run-refused : k ≢ 0 → (x : Table) → x ≡ blankTable
+      → (_≡_ {A = RunAnswer} (record { number = k; events = 0; written = 0; table = x }) (runOf s l w)) × (l ≡ runListing s l w) × (w ≡ runScratch s l w)
+  unfolding runOf runListing runScratch
+  run-refused n x b = rw b (ap (λ (o : RunOutcome). o .answer) (run-isnt n), ap (λ (o : RunOutcome). o .listing) (run-isnt n), ap (λ (o : RunOutcome). o .scratch) (run-isnt n))
+
+  run-is : k ≡ 0 → fileRun s l w ≡ ran (progress s (length w) (length l)) l w
+  unfolding fileRun
+  run-is z = cond-true _ _ (eq-eqb (firstNo (fileQuestions s)) 0 (sym e ∙ z))
+
+  pub run-ran : k ≡ 0 → (r : RunAnswer) (m v : List ℕ)
+      → (let o = ran (progress s (length w) (length l)) l w in (r ≡ o .answer) × (m ≡ o .listing) × (v ≡ o .scratch))
+      → (r ≡ runOf s l w) × (m ≡ runListing s l w) × (v ≡ runScratch s l w)
+  unfolding runOf runListing runScratch
+  run-ran z r m v h = (
+    h .0 ∙ ap (λ (o : RunOutcome). o .answer) (sym (run-is z)),
+    h .1 ∙ ap (λ (o : RunOutcome). o .listing) (sym (run-is z)),
+    h .2 ∙ ap (λ (o : RunOutcome). o .scratch) (sym (run-is z)),
+  )
