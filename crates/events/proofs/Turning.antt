@@ -133,7 +133,7 @@ module _ (run : Run) (s l w : List ℕ) (d : Stepped) (ed : d ≡ steppedOf (ste
         let same : m ≡ midOf (run .written) (length l - run .written) l = wrote .tail ∙ cond-false _ _ out ∙ sym mid-is in (
           er ∙ sym (turned-ended run s (length w) (length l) (p .number) verdict-put n),
           ap (putMid (run .written) (length l - run .written) l) same ∙ put-same (run .written) (length l - run .written) l
-          ∙ sym (listing-kept run s (length w) l (p .number) verdict-put n),
+              ∙ sym (listing-kept run s (length w) l (p .number) verdict-put n),
         )
 
     module _ (n : p .number ≡ 0) where
