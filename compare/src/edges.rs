@@ -1,7 +1,7 @@
 //! The run that document 01 prints whole and its list of edges, with the answers it gives, put to any engine.
 
 use crate::generate::{file_of, handover, report, stop};
-use crate::library::Engine;
+use crate::library::{Engine, Reference};
 use crate::reference::{LISTING, SCRATCH};
 use crate::tables::{Answer, Controller, Table, ABSENT};
 
@@ -83,9 +83,69 @@ fn fresh_tables(engine: &dyn Engine) -> Result<(), String> {
     Ok(())
 }
 
+/// Seven controllers, 64 messages and every handover, and then a stop of each: 3,207 events.
+pub fn dense_run() -> Vec<u8> {
+    let mut script = Script::fresh(&Reference::RIGHT, 7);
+    let mut records = Vec::new();
+    let mut accepted = |record: Vec<u8>| {
+        let yes = script.number(record.clone()) == 0;
+        if yes {
+            records.push(record);
+        }
+        yes
+    };
+    let mut any = true;
+    while any {
+        any = false;
+        for c in 1..=7 {
+            any |= accepted(report(c, 1));
+        }
+        for receiver in 1..=7 {
+            for owner in 1..=7 {
+                while accepted(handover(receiver, owner)) {
+                    any = true;
+                }
+            }
+        }
+    }
+    for c in 1..=7 {
+        accepted(stop(c, 64));
+    }
+    file_of(7, &records)
+}
+
+/// A file run with these lengths lent, both dirty, is the reference's.
+fn same_run(engine: &dyn Engine, file: &[u8], listing: usize, scratch: usize, edge: &str) -> Result<(usize, u8), String> {
+    let lend = |engine: &dyn Engine| {
+        let (mut lines, mut area) = (vec![7; listing], vec![7; scratch]);
+        let run = engine.run(file, &mut lines, &mut area);
+        ((run.number, run.events, run.written), lines, area)
+    };
+    let found = lend(engine);
+    expect(found == lend(&Reference::RIGHT), edge)?;
+    Ok((found.0 .1, found.0 .0))
+}
+
+fn runs(engine: &dyn Engine) -> Result<(), String> {
+    expect(same_run(engine, &dense_run(), LISTING, SCRATCH, "dense run")? == (3_207, 0), "the dense run's events")?;
+    let whole = bytes_of(WHOLE_RUN);
+    for listing in 0..=WHOLE_LISTING.len() + 1 {
+        for scratch in [SCRATCH - 1, SCRATCH, SCRATCH + 1] {
+            same_run(engine, &whole, listing, scratch, "a listing of every length")?;
+        }
+    }
+    for (length, end) in [(65_535, (11, 6)), (65_536, (0, 1))] {
+        let mut file = whole.clone();
+        file.resize(length, 0);
+        expect(same_run(engine, &file, LISTING, SCRATCH, "long file")? == end, "a file of 65,535 bytes and one more")?;
+    }
+    Ok(())
+}
+
 pub fn check(engine: &dyn Engine) -> Result<(), String> {
     whole_run(engine)?;
     fresh_tables(engine)?;
+    runs(engine)?;
     let mut s = Script::fresh(engine, 4);
     s.number(report(1, 5));
     s.number(handover(2, 1));
