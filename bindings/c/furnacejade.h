@@ -28,6 +28,27 @@ enum {
     FURNACEJADE_SCRATCH = 4096   /* an event asks for so many bytes of scratch */
 };
 
+/* Refusal numbers: the question that was the first to be answered no. */
+enum {
+    FURNACEJADE_ACCEPTED = 0,        /* none */
+    FURNACEJADE_FILE_LENGTH = 1,     /* Has the file 2 to 65,535 bytes? */
+    FURNACEJADE_VERSION = 2,         /* Is the version 1? */
+    FURNACEJADE_COUNT = 3,           /* Is the number of controllers from 1 to 7? */
+    FURNACEJADE_TABLE = 4,           /* Is the table well formed? */
+    FURNACEJADE_RECORD = 5,          /* Are the length byte and all the bytes it counts there? */
+    FURNACEJADE_KIND = 6,            /* Is there a kind, from 1 to 4? */
+    FURNACEJADE_LENGTH = 7,          /* Is the length that of the kind? */
+    FURNACEJADE_CONTROLLER = 8,      /* Is every controller named from 1 to n? */
+    FURNACEJADE_AMOUNT = 9,          /* Is a report's amount from -360 to 360 and not 0? */
+    FURNACEJADE_STOPPED = 10,        /* Is the sender, receiver or controller to be stopped still running? */
+    FURNACEJADE_OWN_PENDING = 11,    /* Has the sender no message of its own pending? */
+    FURNACEJADE_FULL = 12,           /* Has the run fewer than 64 messages? */
+    FURNACEJADE_NO_ENTRY = 13,       /* Does the log have an entry that the receiver has not read? */
+    FURNACEJADE_KEPT = 14,           /* Is the length kept at most the log's, and at least every read position in it? */
+    FURNACEJADE_SCRATCH_LENGTH = 15, /* Has the scratch area 4,096 bytes or more? */
+    FURNACEJADE_LISTING_LENGTH = 16  /* Does the line fit in what is left of the listing? */
+};
+
 /* A place in a log, 1 to 64; 255 is absent. */
 typedef struct { uint8_t value; } furnacejade_forward_number;
 
