@@ -92,8 +92,8 @@ static void controllers(void) {
     }
 }
 
-/* Full logs: every place of a log is read where it stands. */
-static void logs(void) {
+/* A table with 64 syncs of controller 1, all of them in every log, and applied or pending everywhere. */
+static furnacejade_table full(int applied) {
     furnacejade_table t = good;
     for (size_t s = 0; s < FURNACEJADE_MESSAGES; s++) {
         furnacejade_message *m = &t.messages[s];
@@ -106,21 +106,64 @@ static void logs(void) {
     for (size_t c = 0; c < FURNACEJADE_CONTROLLERS; c++) {
         furnacejade_controller *x = &t.controllers[c];
         x->length = FURNACEJADE_MESSAGES;
-        x->highest[0].value = FURNACEJADE_MESSAGES;
+        x->highest[0].value = applied ? FURNACEJADE_MESSAGES : 0;
         for (size_t s = 0; s < FURNACEJADE_MESSAGES; s++) {
             x->log[s] = (uint8_t)s;
-            x->pending[s].held = 0;
-            x->applied[s] = 1;
+            x->pending[s].held = !applied;
+            x->applied[s] = (uint8_t)applied;
         }
     }
-    expect(look(&t, 1), 0, "full logs", 0, 0);
+    expect(look(&t, 1), 0, "full table", (size_t)applied, 0);
+    return t;
+}
+
+/* Every place of every array is read where it stands. */
+static void arrays(void) {
+    good = full(1);
+    for (size_t s = 0; s < FURNACEJADE_MESSAGES; s++) {
+        BREAKS(messages[s].sender, 8, s, 0);
+        BREAKS(messages[s].number.value, 65, s, 0);
+        BREAKS(messages[s].payload.kind, 3, s, 0);
+        BREAKS(messages[s].payload.added, 1, s, 0);
+        BREAKS(messages[s].payload.withdrawn, 1, s, 0);
+    }
     for (size_t c = 0; c < FURNACEJADE_CONTROLLERS; c++)
         for (size_t s = 0; s < FURNACEJADE_MESSAGES; s++) {
-            uint8_t kept = t.controllers[c].log[s];
-            t.controllers[c].log[s] = FURNACEJADE_MESSAGES;
-            expect(look(&t, 1), 4, "log", c, s);
-            t.controllers[c].log[s] = kept;
+            BREAKS(controllers[c].log[s], FURNACEJADE_MESSAGES, c, s);
+            BREAKS(controllers[c].applied[s], 0, c, s);
         }
+    good = full(0);
+    for (size_t c = 0; c < FURNACEJADE_CONTROLLERS; c++)
+        for (size_t s = 0; s < FURNACEJADE_MESSAGES; s++)
+            for (size_t f = 0; f < FURNACEJADE_CONTROLLERS; f++) BREAKS(controllers[c].pending[s].marks[f].value, 65, c * 64 + s, f);
+}
+
+/* The answers: a sync of the only controller, finished with the total -7, by events and as a file. */
+static void answers(void) {
+    static const uint8_t file[] = {1, 1, 4, 1, 1, 0xFF, 0xF9, 3, 3, 1, 1, 2, 2, 1, 3, 3, 1, 1};
+    static furnacejade_fresh_answer fresh;
+    static furnacejade_run_answer run;
+    static furnacejade_answer answer;
+    static uint8_t listing[64];
+    furnacejade_fresh(1, &fresh);
+    for (size_t at = 2; at < sizeof file; at += 1u + file[at]) expect(event(&fresh.table, file + at, sizeof file - at, &answer), 0, "answer", at, 0);
+    expect(answer.finished, 1, "finished", 0, 0);
+    expect((uint8_t)(answer.total == -7), 1, "total", 0, 0);
+    expect((uint8_t)answer.size, 1, "size", 0, 0);
+    expect(answer.names[0].sender, 1, "names.sender", 0, 0);
+    expect(answer.names[0].number.value, 2, "names.number", 0, 0);
+    expect(answer.names[63].sender, 0, "names.sender", 63, 0);
+    memset(&run, 0xA5, sizeof run);
+    furnacejade_run(file, sizeof file, listing, sizeof listing, scratch, sizeof scratch, &run);
+    expect(run.number, 0, "run.number", 0, 0);
+    expect((uint8_t)run.events, 4, "run.events", 0, 0);
+    static const char lines[] = "2 1 -7 1.1\n4 1 -7 1.2\n";
+    expect((uint8_t)run.written, sizeof lines - 1, "run.written", 0, 0);
+    expect((uint8_t)(memcmp(listing, lines, sizeof lines - 1) == 0), 1, "listing", 0, 0);
+    expect((uint8_t)run.table.count, 2, "run.table", 0, 0);
+    furnacejade_look_answer shown;
+    furnacejade_look(&run.table, 1, &shown);
+    expect((uint8_t)(shown.total == -7), 1, "look.total", 0, 0);
 }
 
 static void random_tables(void) {
@@ -153,7 +196,8 @@ int main(void) {
     start();
     messages();
     controllers();
-    logs();
+    arrays();
+    answers();
     random_tables();
     printf("%u fields and tables as expected\n", tests);
     return EXIT_SUCCESS;
