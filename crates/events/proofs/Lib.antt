@@ -10,3 +10,4 @@ pub mod Panels
 pub mod Files
 pub mod Turning
 pub mod Running
+pub mod Rest
