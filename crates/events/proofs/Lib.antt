@@ -4,6 +4,7 @@ pub mod Applying
 pub mod Lengths
 pub mod Ordering
 pub mod Listing
+pub mod Effects
 pub mod Stepping
 pub mod HandingOver
 pub mod Panels

@@ -1,14 +1,10 @@
 -- The answers of a panel look and of a request for a fresh table, from the tests that the code makes. Assumes nothing.
 use mathlib.Core.Path.{_≡_, refl}
 use mathlib.Core.Bool.{true, false, _&&_}
-use Prim.Native.Nat.{ℕ, _^_, _<_}
+use Prim.Native.Nat.{ℕ, _<_}
 use native.Mathlib.Omega.{arith}
 use lib.IntN.{ℤ, pos}
-use lib.Signed.{mag}
 use lib.Dec.{leb, ltb}
-use mir.Syntax.{w32}
-use mir.Val.{hbits, toZ, ofZ}
-use mir.Facts.{toZ-ofZ}
 use borrow.Author.Tests.{leb-true}
 use Rattle.lists.proofs.Tests.{and-right}
 use Rattle.model.specs.Tables.{fresh, blankTable}
@@ -20,10 +16,6 @@ use Rattle.model.specs.declared.Table.{Table}
 use Rattle.model.specs.declared.LookAnswer.{LookAnswer}
 use Rattle.model.specs.declared.FreshAnswer.{FreshAnswer}
 use Rattle.model.proofs.Tested.{facts}
-
--- a total that a function answers is what its bits say
-pub returned : (z : ℤ) → mag z < 2 ^ hbits w32 → toZ w32 (ofZ w32 z) ≡ z
-returned z h = toZ-ofZ {w = w32} {z = z} (record { sfits = h })
 
 module _ (t : Table) (c : ℕ) where
   pub look-refused-four : wellFormed t ≡ false → _≡_ {A = LookAnswer} (record { number = 4; total = pos 0 }) (look t c)

@@ -14,6 +14,7 @@ use Rattle.lists.proofs.Tests.{cond-case, cond-true, cond-false, decided, and-l
 use Rattle.lists.proofs.Build.{length-over, over-over, length-overlay}
 use Rattle.model.specs.Tables.{seats, fresh}
 use Rattle.model.specs.Events.{total, namesBelow, namesOf}
+use Rattle.model.specs.Events.{next as following}
 use Rattle.model.specs.Records.{byte, size, behind, decode}
 use Rattle.model.specs.Sized.{Sized}
 use Rattle.model.specs.WellFormed.{wellFormed}
@@ -27,7 +28,7 @@ use Rattle.model.proofs.Tested.{tested}
 use Rattle.model.proofs.Allowed.{no-no, step-asked}
 use Rattle.invariant.proofs.Sizes.{fresh-sized}
 use Rattle.invariant.proofs.Kept.{fresh-well-formed, step-kept}
-use Rattle.events.specs.declared.Run.{Run}
+use Rattle.events.specs.declared.Cursor.{Cursor}
 use Rattle.events.specs.Turns.{lineAt, verdict, ended, turned, turnedListing}
 use Rattle.events.proofs.Turning.{step-number, accepted-within, verdict-accepted, fit}
 
@@ -41,36 +42,44 @@ accepted-rest : (t : Table) (s : List ℕ) (room : ℕ) → step t s room .answe
 unfolding step
 accepted-rest t s room e = settled-rest t s (firstNo (stepQuestions t s room)) (sym (step-number t s room) ∙ e)
 
-verdict-passed : (run : Run) (b : List ℕ) (room space : ℕ) → verdict run b room space ≡ 0 → step (run .table) b room .answer .number ≡ 0
+settled-table : (t : Table) (s : List ℕ) (k : ℕ) → k ≡ 0 → settled t s k .table ≡ following t (decode s)
+unfolding settled accepted
+settled-table t s k e = rw e
+
+accepted-table : (t : Table) (s : List ℕ) (room : ℕ) → step t s room .answer .number ≡ 0 → step t s room .table ≡ following t (decode s)
+unfolding step
+accepted-table t s room e = settled-table t s (firstNo (stepQuestions t s room)) (sym (step-number t s room) ∙ e)
+
+verdict-passed : (i : ℕ) (t : Table) (b : List ℕ) (room space : ℕ) → verdict i t b room space ≡ 0 → step t b room .answer .number ≡ 0
 unfolding verdict firstNo
-verdict-passed run b room space =
-    let k = step (run .table) b room .answer .number in
+verdict-passed i t b room space =
+    let k = step t b room .answer .number in
     cond-case (λ n. n ≡ 0 → k ≡ 0) (eqb k 0) _ _ (λ q _. eqb-true k 0 q) (λ _ e. e)
 
 -- the record that a run of the definition ends with
-abbrev at-end : ℕ → Run → List ℕ → Progress
-at-end k run l = record { number = k; events = run .events; lines = l; table = run .table }
+abbrev at-end : ℕ → ℕ → Table → List ℕ → Progress
+at-end k i t l = record { number = k; events = i; lines = l; table = t }
 
-record-on : (f : ℕ) (run : Run) (b : List ℕ) (room space : ℕ) (l : List ℕ) → 0 < length b → verdict run b room (space - length l) ≡ 0
-    → records (suc f) (run .table) b room space (run .events) l
-    ≡ records f (step (run .table) b room .table) (behind b) room space (run .events + 1) (l ++ lineAt run b room)
+record-on : (f : ℕ) (i : ℕ) (t : Table) (b : List ℕ) (room space : ℕ) (l : List ℕ) → 0 < length b → verdict i t b room (space - length l) ≡ 0
+    → records (suc f) t b room space i l
+    ≡ records f (step t b room .table) (behind b) room space (i + 1) (l ++ lineAt i t b room)
 unfolding records verdict lineAt
-record-on f run [] room space l h v = absurd (omega arith)
-record-on f run (y ∷ b) room space l h v =
-    cond-true _ _ (eq-eqb (verdict run (y ∷ b) room (space - length l)) 0 v)
-    ∙ ap (λ (r : List ℕ). records f (step (run .table) (y ∷ b) room .table) r room space (run .events + 1) (l ++ lineAt run (y ∷ b) room))
-    (accepted-rest (run .table) (y ∷ b) room (verdict-passed run (y ∷ b) room (space - length l) v))
+record-on f i t [] room space l h v = absurd (omega arith)
+record-on f i t (y ∷ b) room space l h v =
+    cond-true _ _ (eq-eqb (verdict i t (y ∷ b) room (space - length l)) 0 v)
+    ∙ ap (λ (r : List ℕ). records f (step t (y ∷ b) room .table) r room space (i + 1) (l ++ lineAt i t (y ∷ b) room))
+    (accepted-rest t (y ∷ b) room (verdict-passed i t (y ∷ b) room (space - length l) v))
 
-record-off : (f : ℕ) (run : Run) (b : List ℕ) (room space : ℕ) (l : List ℕ) → 0 < length b → verdict run b room (space - length l) ≢ 0
-    → records (suc f) (run .table) b room space (run .events) l ≡ at-end (verdict run b room (space - length l)) run l
+record-off : (f : ℕ) (i : ℕ) (t : Table) (b : List ℕ) (room space : ℕ) (l : List ℕ) → 0 < length b → verdict i t b room (space - length l) ≢ 0
+    → records (suc f) t b room space i l ≡ at-end (verdict i t b room (space - length l)) i t l
 unfolding records verdict lineAt
-record-off f run [] room space l h v = absurd (omega arith)
-record-off f run (y ∷ b) room space l h v = cond-false _ _ (ne-eqb (verdict run (y ∷ b) room (space - length l)) 0 v)
+record-off f i t [] room space l h v = absurd (omega arith)
+record-off f i t (y ∷ b) room space l h v = cond-false _ _ (ne-eqb (verdict i t (y ∷ b) room (space - length l)) 0 v)
 
-records-none : (f : ℕ) (run : Run) (room space : ℕ) (l : List ℕ) → records f (run .table) [] room space (run .events) l ≡ at-end 0 run l
+records-none : (f : ℕ) (i : ℕ) (t : Table) (room space : ℕ) (l : List ℕ) → records f t [] room space i l ≡ at-end 0 i t l
 unfolding records
-records-none zero run room space l = refl
-records-none (suc f) run room space l = refl
+records-none zero i t room space l = refl
+records-none (suc f) i t room space l = refl
 
 -- THE LISTING AND THE SCRATCH AREA
 
@@ -113,32 +122,32 @@ step-quiet : (t : Table) (s : List ℕ) (room : ℕ) → t .count ≡ 0 → step
 unfolding step
 step-quiet t s room z = settled-quiet t s (firstNo (stepQuestions t s room)) z
 
-quiet-fits : (run : Run) (b : List ℕ) (room space : ℕ) → run .table .count ≡ 0 → step (run .table) b room .answer .number ≡ 0 → verdict run b room space ≡ 0
+quiet-fits : (i : ℕ) (t : Table) (b : List ℕ) (room space : ℕ) → t .count ≡ 0 → step t b room .answer .number ≡ 0 → verdict i t b room space ≡ 0
 unfolding lineAt lineOf firstNo lineFits
-quiet-fits run b room space c z = verdict-accepted run b room space z ∙ rw (step-quiet (run .table) b room c) (cond-true 0 16 (le-leb 0 space (omega arith)))
+quiet-fits i t b room space c z = verdict-accepted i t b room space z ∙ rw (step-quiet t b room c) (cond-true 0 16 (le-leb 0 space (omega arith)))
 
 -- THE INVARIANT
 
--- a run of the file s, lent l₀ and w₀, that has done `run` and left l and w
-pub record Running (s l₀ w₀ l w : List ℕ) (run : Run) : Type 0 where
+-- a run of the file s, lent l₀ and w₀, that has come to p, with the table t, and left l and w
+pub record Running (s l₀ w₀ l w : List ℕ) (p : Cursor) (t : Table) : Type 0 where
   pub lines : List ℕ
   pub fuel : ℕ
-  pub enough : length s ≤ run .at + fuel
-  pub written : run .written ≡ length lines
+  pub enough : length s ≤ p .at + fuel
+  pub written : p .written ≡ length lines
   pub space : length lines ≤ length l₀
   pub listing : l ≡ overlay lines l₀
-  pub scratch : w ≡ leaves (run .events) w₀
-  pub sized : Sized (run .table)
-  pub well-formed : wellFormed (run .table) ≡ true
-  pub unsent : run .events ≡ 0 → run .table .count ≡ 0
-  pub within : run .at ≤ length s
-  pub few : run .events ≤ run .at
-  pub going : run .at < length s → run .number ≡ 0
+  pub scratch : w ≡ leaves (p .events) w₀
+  pub sized : Sized t
+  pub well-formed : wellFormed t ≡ true
+  pub unsent : p .events ≡ 0 → t .count ≡ 0
+  pub within : p .at ≤ length s
+  pub few : p .events ≤ p .at
+  pub going : p .at < length s → p .number ≡ 0
   pub ahead : progress s (length w₀) (length l₀)
-      ≡ cond (eqb (run .number) 0) (records fuel (run .table) (drop (run .at) s) (length w₀) (length l₀) (run .events) lines) (at-end (run .number) run lines)
+      ≡ cond (eqb (p .number) 0) (records fuel t (drop (p .at) s) (length w₀) (length l₀) (p .events) lines) (at-end (p .number) (p .events) t lines)
 
 pub run-begins : (s l w : List ℕ) → firstNo (fileQuestions s) ≡ 0 → (n : ℕ) → n ≡ byte s 1 → (x : Table) → x ≡ fresh n
-    → Running s l w l w (record { number = 0; events = 0; at = 2; written = 0; table = x })
+    → Running s l w l w (record { number = 0; events = 0; at = 2; written = 0 }) x
 unfolding fileQuestions controllerCount overlay fresh progress
 run-begins s l w q n en x ex =
     let long = no-no 0 (leb 2 (length s) && leb (length s) 65535) _ q in
@@ -164,82 +173,81 @@ run-begins s l w q n en x ex =
       ahead = rw e refl;
     }
 
-module _ (s l₀ w₀ l w : List ℕ) (run : Run) (r : Running s l₀ w₀ l w run) where
+module _ (s l₀ w₀ l w : List ℕ) (p : Cursor) (t : Table) (r : Running s l₀ w₀ l w p t) where
   pub scratch-size : length w ≡ length w₀
-  scratch-size = ap length (r .scratch) ∙ length-leaves (run .events) w₀
+  scratch-size = ap length (r .scratch) ∙ length-leaves (p .events) w₀
 
   pub listing-size : length l ≡ length l₀
   listing-size = ap length (r .listing) ∙ length-overlay (r .lines) l₀ (r .space)
 
-  pub run-fits : run .written ≤ length l
+  pub run-fits : p .written ≤ length l
   run-fits = omega (arith, r .written, r .space, listing-size)
 
   -- what the definition has ahead, where the loop goes on
-  on-ahead : run .at < length s → progress s (length w₀) (length l₀) ≡ records (r .fuel) (run .table) (drop (run .at) s) (length w₀) (length l₀) (run .events) (r .lines)
-  on-ahead h = r .ahead ∙ cond-true _ _ (eq-eqb (run .number) 0 (r .going h))
+  on-ahead : p .at < length s → progress s (length w₀) (length l₀) ≡ records (r .fuel) t (drop (p .at) s) (length w₀) (length l₀) (p .events) (r .lines)
+  on-ahead h = r .ahead ∙ cond-true _ _ (eq-eqb (p .number) 0 (r .going h))
 
-  pub run-ends : length s ≤ run .at
-      → (_≡_ {A = RunAnswer} (record { number = run .number; events = run .events; written = run .written; table = run .table }) (ran (progress s (length w₀) (length l₀)) l₀ w₀ .answer))
+  pub run-ends : length s ≤ p .at
+      → (_≡_ {A = RunAnswer} (record { number = p .number; events = p .events; written = p .written; table = t }) (ran (progress s (length w₀) (length l₀)) l₀ w₀ .answer))
       × (l ≡ ran (progress s (length w₀) (length l₀)) l₀ w₀ .listing) × (w ≡ ran (progress s (length w₀) (length l₀)) l₀ w₀ .scratch)
   unfolding ran
   run-ends h = rw (done, r .written) (refl, r .listing, r .scratch)
     where
-      done : progress s (length w₀) (length l₀) ≡ at-end (run .number) run (r .lines)
+      done : progress s (length w₀) (length l₀) ≡ at-end (p .number) (p .events) t (r .lines)
       done =
           r .ahead
-          ∙ cond-case (λ (p : Progress). p ≡ at-end (run .number) run (r .lines)) (eqb (run .number) 0) _ _
-          (λ q. rw (drop-of-length-le s {i = run .at} h, eqb-true (run .number) 0 q) (records-none (r .fuel) run (length w₀) (length l₀) (r .lines)))
+          ∙ cond-case (λ (y : Progress). y ≡ at-end (p .number) (p .events) t (r .lines)) (eqb (p .number) 0) _ _
+          (λ q. rw (drop-of-length-le s {i = p .at} h, eqb-true (p .number) 0 q) (records-none (r .fuel) (p .events) t (length w₀) (length l₀) (r .lines)))
           (λ _. refl)
 
-  module _ (h : run .at < length s) where
-    more : 0 < length (drop (run .at) s)
-    more = omega (arith, length-drop (run .at) s)
+  module _ (h : p .at < length s) where
+    more : 0 < length (drop (p .at) s)
+    more = omega (arith, length-drop (p .at) s)
 
-    verdict-same : verdict run (drop (run .at) s) (length w₀) (length l₀ - length (r .lines)) ≡ verdict run (drop (run .at) s) (length w) (length l - run .written)
+    verdict-same : verdict (p .events) t (drop (p .at) s) (length w₀) (length l₀ - length (r .lines)) ≡ verdict (p .events) t (drop (p .at) s) (length w) (length l - p .written)
     verdict-same = rw (scratch-size, listing-size, r .written) refl
 
-    one-ahead : progress s (length w₀) (length l₀) ≡ records (suc (r .fuel - 1)) (run .table) (drop (run .at) s) (length w₀) (length l₀) (run .events) (r .lines)
+    one-ahead : progress s (length w₀) (length l₀) ≡ records (suc (r .fuel - 1)) t (drop (p .at) s) (length w₀) (length l₀) (p .events) (r .lines)
     one-ahead =
         let e : r .fuel ≡ suc (r .fuel - 1) = omega (arith, r .enough) in
-        on-ahead h ∙ ap (λ (f : ℕ). records f (run .table) (drop (run .at) s) (length w₀) (length l₀) (run .events) (r .lines)) e
+        on-ahead h ∙ ap (λ (f : ℕ). records f t (drop (p .at) s) (length w₀) (length l₀) (p .events) (r .lines)) e
 
     -- THE RECORD IS ACCEPTED
 
-    module _ (v : verdict run (drop (run .at) s) (length w) (length l - run .written) ≡ 0) where
-      passed : step (run .table) (drop (run .at) s) (length w) .answer .number ≡ 0
-      passed = verdict-passed run (drop (run .at) s) (length w) (length l - run .written) v
+    module _ (v : verdict (p .events) t (drop (p .at) s) (length w) (length l - p .written) ≡ 0) where
+      passed : step t (drop (p .at) s) (length w) .answer .number ≡ 0
+      passed = verdict-passed (p .events) t (drop (p .at) s) (length w) (length l - p .written) v
 
       -- the run after it
-      abbrev next : Run
+      abbrev next : Cursor
       next = record {
         number = 0;
-        events = run .events + 1;
-        at = run .at + (size (drop (run .at) s) + 1);
-        written = run .written + length (lineAt run (drop (run .at) s) (length w));
-        table = step (run .table) (drop (run .at) s) (length w) .table;
+        events = p .events + 1;
+        at = p .at + (size (drop (p .at) s) + 1);
+        written = p .written + length (lineAt (p .events) t (drop (p .at) s) (length w));
       }
 
-      line-room : length (lineAt run (drop (run .at) s) (length w)) ≤ length l - run .written
+      line-room : length (lineAt (p .events) t (drop (p .at) s) (length w)) ≤ length l - p .written
       line-room =
-          leb-true (length (lineAt run (drop (run .at) s) (length w))) (length l - run .written) (fit (length (lineAt run (drop (run .at) s) (length w))) (length l - run .written)
-          (sym (verdict-accepted run (drop (run .at) s) (length w) (length l - run .written) passed) ∙ v))
+          leb-true (length (lineAt (p .events) t (drop (p .at) s) (length w))) (length l - p .written) (fit (length (lineAt (p .events) t (drop (p .at) s) (length w))) (length l - p .written)
+          (sym (verdict-accepted (p .events) t (drop (p .at) s) (length w) (length l - p .written) passed) ∙ v))
 
       next-ahead : progress s (length w₀) (length l₀)
-          ≡ records (r .fuel - 1) (next .table) (drop (next .at) s) (length w₀) (length l₀) (run .events + 1) (r .lines ++ lineAt run (drop (run .at) s) (length w))
+          ≡ records (r .fuel - 1) (step t (drop (p .at) s) (length w) .table) (drop (next .at) s) (length w₀) (length l₀) (p .events + 1) (r .lines ++ lineAt (p .events) t (drop (p .at) s) (length w))
       unfolding behind
       next-ahead =
           one-ahead
-          ∙ record-on (r .fuel - 1) run (drop (run .at) s) (length w₀) (length l₀) (r .lines) more (verdict-same ∙ v)
-          ∙ rw (scratch-size, drop-drop (size (drop (run .at) s) + 1) (run .at) s) refl
+          ∙ record-on (r .fuel - 1) (p .events) t (drop (p .at) s) (length w₀) (length l₀) (r .lines) more (verdict-same ∙ v)
+          ∙ rw (scratch-size, drop-drop (size (drop (p .at) s) + 1) (p .at) s) refl
 
-      next-running : Running s l₀ w₀ (take (run .written) l ++ overlay (lineAt run (drop (run .at) s) (length w)) (drop (run .written) l)) (cleared w) next
+      next-running : Running s l₀ w₀ (take (p .written) l ++ overlay (lineAt (p .events) t (drop (p .at) s) (length w)) (drop (p .written) l)) (cleared w) next (step t (drop (p .at) s) (length w) .table)
       next-running =
-          let b = drop (run .at) s in
-          let x = lineAt run b (length w) in
-          let within = accepted-within (run .table) b (length w) passed in
-          let left = length-drop (run .at) s in
-          let kept = step-kept (run .table) b (length w) (r .sized) (r .well-formed) in
-          let room = accepted-room (run .table) b (length w) passed in
+          let b = drop (p .at) s in
+          let x = lineAt (p .events) t b (length w) in
+          let within = accepted-within t b (length w) passed in
+          let left = length-drop (p .at) s in
+          let kept = step-kept t b (length w) (r .sized) (r .well-formed) in
+          let room = accepted-room t b (length w) passed in
           record {
             lines = r .lines ++ x;
             fuel = r .fuel - 1;
@@ -247,7 +255,7 @@ module _ (s l₀ w₀ l w : List ℕ) (run : Run) (r : Running s l₀ w₀ l w r
             written = omega (arith, r .written, length-append (r .lines) x);
             space = omega (arith, line-room, r .written, listing-size, length-append (r .lines) x);
             listing = ap₂ (λ (k : ℕ) (y : List ℕ). take k y ++ overlay x (drop k y)) (r .written) (r .listing) ∙ overlay-more (r .lines) x l₀;
-            scratch = ap cleared (r .scratch) ∙ leaves-cleared (run .events) w₀ (omega (arith, scratch-size)) ∙ sym (cond-false w₀ (cleared w₀) (ne-eqb (run .events + 1) 0 (λ z. omega arith)));
+            scratch = ap cleared (r .scratch) ∙ leaves-cleared (p .events) w₀ (omega (arith, scratch-size)) ∙ sym (cond-false w₀ (cleared w₀) (ne-eqb (p .events + 1) 0 (λ z. omega arith)));
             sized = kept .0;
             well-formed = kept .1;
             unsent = λ z. absurd (omega arith);
@@ -259,8 +267,8 @@ module _ (s l₀ w₀ l w : List ℕ) (run : Run) (r : Running s l₀ w₀ l w r
 
     -- THE RECORD IS REFUSED
 
-    module _ (n : verdict run (drop (run .at) s) (length w) (length l - run .written) ≢ 0) where
-      ended-running : Running s l₀ w₀ l w (ended run (verdict run (drop (run .at) s) (length w) (length l - run .written)) (length s))
+    module _ (n : verdict (p .events) t (drop (p .at) s) (length w) (length l - p .written) ≢ 0) where
+      ended-running : Running s l₀ w₀ l w (ended p (verdict (p .events) t (drop (p .at) s) (length w) (length l - p .written)) (length s)) t
       unfolding ended
       ended-running = record {
         lines = r .lines;
@@ -278,60 +286,58 @@ module _ (s l₀ w₀ l w : List ℕ) (run : Run) (r : Running s l₀ w₀ l w r
         going = λ z. absurd (omega arith);
         ahead =
             one-ahead
-            ∙ record-off (r .fuel - 1) run (drop (run .at) s) (length w₀) (length l₀) (r .lines) more (λ z. n (sym verdict-same ∙ z))
-            ∙ ap (λ (k : ℕ). at-end k run (r .lines)) verdict-same
-            ∙ sym (cond-false _ _ (ne-eqb (verdict run (drop (run .at) s) (length w) (length l - run .written)) 0 n));
+            ∙ record-off (r .fuel - 1) (p .events) t (drop (p .at) s) (length w₀) (length l₀) (r .lines) more (λ z. n (sym verdict-same ∙ z))
+            ∙ ap (λ (k : ℕ). at-end k (p .events) t (r .lines)) verdict-same
+            ∙ sym (cond-false _ _ (ne-eqb (verdict (p .events) t (drop (p .at) s) (length w) (length l - p .written)) 0 n));
       }
 
       -- a line that does not fit is not the first event's, so the scratch area was clear already
-      scratch-kept : scratchAfter (step (run .table) (drop (run .at) s) (length w) .answer .number) w ≡ w
+      scratch-kept : scratchAfter (step t (drop (p .at) s) (length w) .answer .number) w ≡ w
       unfolding scratchAfter
       scratch-kept =
-          let b = drop (run .at) s in
-          let k = step (run .table) b (length w) .answer .number in
+          let b = drop (p .at) s in
+          let k = step t b (length w) .answer .number in
           cond-case (λ (v : List ℕ). v ≡ w) (eqb k 0) (cleared w) w
           (λ q.
           let z = eqb-true k 0 q in
-          let room = accepted-room (run .table) b (length w) z in
-          let some : run .events ≢ 0 = λ e. n (quiet-fits run b (length w) (length l - run .written) (r .unsent e) z) in
-          let clear : w ≡ cleared w₀ = r .scratch ∙ cond-false _ _ (ne-eqb (run .events) 0 some) in
+          let room = accepted-room t b (length w) z in
+          let some : p .events ≢ 0 = λ e. n (quiet-fits (p .events) t b (length w) (length l - p .written) (r .unsent e) z) in
+          let clear : w ≡ cleared w₀ = r .scratch ∙ cond-false _ _ (ne-eqb (p .events) 0 some) in
           ap cleared clear ∙ cleared-again w₀ (omega (arith, scratch-size)) ∙ sym clear)
           (λ _. refl)
 
     -- EITHER
 
-    module _ (x : Run) (m u : List ℕ) (ex : x ≡ turned run s (length w) (length l)) (em : m ≡ turnedListing run s (length w) l)
-        (eu : u ≡ scratchAfter (step (run .table) (drop (run .at) s) (length w) .answer .number) w) where
-      record After : Type 0 where
-        running : Running s l₀ w₀ m u x
-        further : run .at < x .at
+    module _ (x : Cursor) (ex : x ≡ turned p t s (length w) (length l)) where
+      pub run-further : p .at < x .at
+      unfolding turned ended
+      run-further =
+          rw ex (cond-case (λ (y : Cursor). p .at < y .at) (eqb (verdict (p .events) t (drop (p .at) s) (length w) (length l - p .written)) 0) _ _ (λ _. omega arith) (λ _. h))
 
-      after-accepted : verdict run (drop (run .at) s) (length w) (length l - run .written) ≡ 0 → After
-      unfolding turned turnedListing scratchAfter
-      after-accepted v =
-          let p = eq-eqb (verdict run (drop (run .at) s) (length w) (length l - run .written)) 0 v in
-          let d : x ≡ next v = ex ∙ cond-true _ _ p in
-          let dm = em ∙ cond-true _ _ p in
-          let du = eu ∙ cond-true _ _ (eq-eqb _ 0 (passed v)) in
-          record { running = rw (d, dm, du) (next-running v); further = rw d (omega arith) }
+      module _ (m u : List ℕ) (em : m ≡ turnedListing p t s (length w) l) (eu : u ≡ scratchAfter (step t (drop (p .at) s) (length w) .answer .number) w)
+          (y : Table) (on : x .number ≡ 0 → y ≡ following t (decode (drop (p .at) s))) (off : x .number ≢ 0 → y ≡ t) where
+        goes-on-accepted : verdict (p .events) t (drop (p .at) s) (length w) (length l - p .written) ≡ 0 → Running s l₀ w₀ m u x y
+        unfolding turned turnedListing scratchAfter
+        goes-on-accepted v =
+            let z = eq-eqb (verdict (p .events) t (drop (p .at) s) (length w) (length l - p .written)) 0 v in
+            let d : x ≡ next v = ex ∙ cond-true _ _ z in
+            let dm = em ∙ cond-true _ _ z in
+            let du = eu ∙ cond-true _ _ (eq-eqb _ 0 (passed v)) in
+            let dy = on (ap (λ (c : Cursor). c .number) d) ∙ sym (accepted-table t (drop (p .at) s) (length w) (passed v)) in
+            rw (d, dm, du, dy) (next-running v)
 
-      after-refused : verdict run (drop (run .at) s) (length w) (length l - run .written) ≢ 0 → After
-      unfolding turned turnedListing ended
-      after-refused n =
-          let p = ne-eqb (verdict run (drop (run .at) s) (length w) (length l - run .written)) 0 n in
-          let d = ex ∙ cond-false _ _ p in
-          let dm = em ∙ cond-false _ _ p in
-          let du = eu ∙ scratch-kept n in
-          record { running = rw (d, dm, du) (ended-running n); further = rw d h }
+        goes-on-refused : verdict (p .events) t (drop (p .at) s) (length w) (length l - p .written) ≢ 0 → Running s l₀ w₀ m u x y
+        unfolding turned turnedListing ended
+        goes-on-refused n =
+            let z = ne-eqb (verdict (p .events) t (drop (p .at) s) (length w) (length l - p .written)) 0 n in
+            let d = ex ∙ cond-false _ _ z in
+            let dm = em ∙ cond-false _ _ z in
+            let du = eu ∙ scratch-kept n in
+            let dy = off (λ q. n (sym (ap (λ (c : Cursor). c .number) d) ∙ q)) in
+            rw (d, dm, du, dy) (ended-running n)
 
-      after : After
-      after = elim (decided (eqb (verdict run (drop (run .at) s) (length w) (length l - run .written)) 0)) [
-        | inl q ↦ after-accepted (eqb-true _ 0 q)
-        | inr q ↦ after-refused (eqb-false _ 0 q)
-      ]
-
-      pub run-goes-on : Running s l₀ w₀ m u x
-      run-goes-on = after .running
-
-      pub run-further : run .at < x .at
-      run-further = after .further
+        pub run-goes-on : Running s l₀ w₀ m u x y
+        run-goes-on = elim (decided (eqb (verdict (p .events) t (drop (p .at) s) (length w) (length l - p .written)) 0)) [
+          | inl q ↦ goes-on-accepted (eqb-true _ 0 q)
+          | inr q ↦ goes-on-refused (eqb-false _ 0 q)
+        ]

@@ -3,15 +3,14 @@ use mathlib.Core.Path.{_≡_, refl, sym, ap, _∙_}
 use mathlib.Core.Logic.{_≢_}
 use mathlib.Core.Bool.{Bool, true, false, cond}
 use mathlib.Core.List.{List, [], _∷_, _++_}
-use Prim.Native.Nat.{ℕ, zero, suc, _+_, _≤_, _<_}
+use Prim.Native.Nat.{ℕ, _+_, _≤_, _<_}
 use native.Mathlib.Omega.{arith}
 use lib.ListN.{length}
 use lib.Dec.{eqb, leb}
 use borrow.Author.Tests.{ne-eqb, le-leb, lt-leb, leb-true}
 use Rattle.lists.proofs.Tests.{cond-true, cond-false}
-use Rattle.lists.proofs.Clipped.{any-none}
 use Rattle.model.specs.Records.{size, decode}
-use Rattle.model.specs.Events.{next, appliedBy, namesBelow, namesOf, finishes}
+use Rattle.model.specs.Events.{next}
 use Rattle.model.specs.WellFormed.{wellFormed}
 use Rattle.model.specs.Questions.{Question, firstNo, lentTable, recordQuestions, eventQuestions, scratchRoom, stepQuestions}
 use Rattle.model.specs.Calls.{Outcome, receiver, accepted, refused, settled, step, event, cleared, scratchAfter, answerOf}
@@ -22,7 +21,9 @@ use Rattle.model.proofs.Allowed.{Numbered, none, more, no-no, step-asked}
 use Rattle.invariant.proofs.Kept.{event-number-step}
 use Rattle.events.specs.declared.Stepped.{Stepped}
 use Rattle.events.specs.Conditions.{Accepted}
-use Rattle.events.specs.Stepped.{steppedOf, stepped, scratchLeft, plain, carriedOut}
+use Rattle.events.specs.declared.Effect.{Effect}
+use Rattle.events.specs.Effects.{effectOf}
+use Rattle.events.specs.Stepped.{steppedOf, stepped, scratchLeft, unchanged}
 
 -- THE QUESTIONS OF A STEP
 
@@ -94,38 +95,39 @@ allowed t s room k w e z =
 -- ANSWERS
 
 module _ (t : Table) (s w : List ℕ) where
-  pub refused-answer : (o : Outcome) (k : ℕ) → o ≡ refused t s k → k ≢ 0 → (r : Stepped) → r ≡ plain t k 0
+  pub refused-answer : (o : Outcome) (k : ℕ) → o ≡ refused t s k → k ≢ 0 → (r : Stepped) → r ≡ unchanged t k
       → (r ≡ steppedOf o s) × (w ≡ scratchAfter (o .answer .number) w)
-  unfolding steppedOf refused plain answerOf scratchAfter
+  unfolding steppedOf refused unchanged answerOf scratchAfter
   refused-answer o k e n r d = rw (e, ne-eqb k 0 n) (d, refl)
 
-  pub accepted-answer : (o : Outcome) → o ≡ accepted t s → (r : Stepped) (v : List ℕ) → r ≡ carriedOut t (decode s) (size s + 1) → v ≡ cleared w
-      → (r ≡ steppedOf o s) × (v ≡ scratchAfter (o .answer .number) w)
-  unfolding steppedOf accepted carriedOut answerOf scratchAfter
-  accepted-answer o e r v d c = rw e (d, c)
+  pub accepted-answer : (o : Outcome) → o ≡ accepted t s → (d : Effect) → d ≡ effectOf t (decode s) → (x : Table) → x ≡ next t (decode s) → (v : List ℕ) → v ≡ cleared w
+      → (_≡_ {A = Stepped} (record { answer = d .answer; used = size s + 1; table = x }) (steppedOf o s)) × (v ≡ scratchAfter (o .answer .number) w)
+  unfolding steppedOf accepted effectOf answerOf scratchAfter
+  accepted-answer o e d ed x ex v c = rw (e, ed, ex) (refl, c)
 
-  step-is-refused : (room k : ℕ) → k ≡ firstNo (stepQuestions t s room) → k ≢ 0 → step t s room ≡ refused t s k
+  pub step-is-refused : (room k : ℕ) → k ≡ firstNo (stepQuestions t s room) → k ≢ 0 → step t s room ≡ refused t s k
   unfolding step settled
   step-is-refused room k e n = rw (← e) (cond-false _ _ (ne-eqb k 0 n))
 
-  step-is-accepted : (room k : ℕ) → k ≡ firstNo (stepQuestions t s room) → k ≡ 0 → step t s room ≡ accepted t s
+  pub step-is-accepted : (room k : ℕ) → k ≡ firstNo (stepQuestions t s room) → k ≡ 0 → step t s room ≡ accepted t s
   unfolding step settled
   step-is-accepted room k e z = rw (← e, z) refl
 
-  pub step-refused : (k : ℕ) → k ≡ firstNo (stepQuestions t s (length w)) → k ≢ 0 → (r : Stepped) → r ≡ plain t k 0
+  pub step-refused : (k : ℕ) → k ≡ firstNo (stepQuestions t s (length w)) → k ≢ 0 → (r : Stepped) → r ≡ unchanged t k
       → (r ≡ steppedOf (step t s (length w)) s) × (w ≡ scratchAfter (step t s (length w) .answer .number) w)
   step-refused k e n r d = refused-answer (step t s (length w)) k (step-is-refused (length w) k e n) n r d
 
-  pub step-accepted : (k : ℕ) → k ≡ firstNo (stepQuestions t s (length w)) → k ≡ 0 → (r : Stepped) (v : List ℕ)
-      → r ≡ carriedOut t (decode s) (size s + 1) → v ≡ cleared w
-      → (r ≡ steppedOf (step t s (length w)) s) × (v ≡ scratchAfter (step t s (length w) .answer .number) w)
-  step-accepted k e z r v d c = accepted-answer (step t s (length w)) (step-is-accepted (length w) k e z) r v d c
+  pub step-accepted : (k : ℕ) → k ≡ firstNo (stepQuestions t s (length w)) → k ≡ 0
+      → (d : Effect) → d ≡ effectOf t (decode s) → (x : Table) → x ≡ next t (decode s) → (v : List ℕ) → v ≡ cleared w
+      → (_≡_ {A = Stepped} (record { answer = d .answer; used = size s + 1; table = x }) (steppedOf (step t s (length w)) s))
+      × (v ≡ scratchAfter (step t s (length w) .answer .number) w)
+  step-accepted k e z = accepted-answer (step t s (length w)) (step-is-accepted (length w) k e z)
 
   event-is-refused : (room : ℕ) → wellFormed t ≡ false → event t s room ≡ refused t s 4
   unfolding event settled firstNo lentTable
   event-is-refused room f = rw f refl
 
-  pub event-refused-four : (r : Stepped) → wellFormed t ≡ false → r ≡ plain t 4 0
+  pub event-refused-four : (r : Stepped) → wellFormed t ≡ false → r ≡ unchanged t 4
       → (r ≡ stepped t s (length w)) × (w ≡ scratchLeft t s w)
   unfolding stepped scratchLeft
   event-refused-four r f d = refused-answer (event t s (length w)) 4 (event-is-refused (length w) f) (λ z. omega arith) r d
@@ -135,16 +137,3 @@ module _ (t : Table) (s w : List ℕ) where
       → (r ≡ stepped t s (length w)) × (v ≡ scratchLeft t s w)
   unfolding stepped scratchLeft
   event-stepped r v f d = rw (event-number-step t s (length w) f) d
-
--- AN EVENT THAT APPLIES NOTHING
-
-no-names : (k : ℕ) (t : Table) → namesBelow k t [] ≡ []
-unfolding namesBelow
-no-names zero t = refl
-no-names (suc k) t = no-names k t
-
-pub quiet : (t : Table) (e : Event) (u : ℕ) → appliedBy t e ≡ [] → (x : Table) → x ≡ next t e → (r : Stepped) → r ≡ plain x 0 u
-    → r ≡ carriedOut t e u
-unfolding plain carriedOut namesOf finishes
-quiet t e u a x d r p =
-    p ∙ rw (a, no-names (t .count) t, d, ← any-none (t .count) _ (λ k h. refl)) refl

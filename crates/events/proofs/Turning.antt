@@ -12,20 +12,26 @@ use borrow.Author.Tests.{eqb-true, eq-eqb, ne-eqb, leb-true, ltb-true}
 use borrow.Rule.Slice.PartMut.{midOf, postOf, putMid, put-same}
 use Rattle.lists.specs.Build.{overlay}
 use Rattle.lists.proofs.Tests.{cond-case, cond-true, cond-false, refuted}
-use Rattle.model.specs.Events.{total}
-use Rattle.model.specs.Records.{size, behind, decode}
+use Rattle.model.specs.Events.{appliedBy, namesOf}
+use Rattle.model.specs.Records.{size, decode}
+use Rattle.model.specs.Sized.{Sized}
+use Rattle.model.specs.WellFormed.{wellFormed}
 use Rattle.model.specs.Questions.{firstNo, lineFits, recordQuestions, stepQuestions}
-use Rattle.model.specs.Calls.{Outcome, receiver, accepted, refused, settled, step, answerOf}
+use Rattle.model.specs.Calls.{Outcome, receiver, accepted, refused, settled, step, cleared, scratchAfter, answerOf}
 use Rattle.model.specs.Runs.{lineOf}
-use Rattle.model.specs.declared.Name.{Name}
+use Rattle.model.specs.declared.Controller.{Controller}
 use Rattle.model.specs.declared.Table.{Table}
 use Rattle.model.proofs.Allowed.{no-no, step-asked}
 use Rattle.listing.specs.declared.Put.{Put}
 use Rattle.listing.specs.Writing.{putAnswer, tailAfter, Wrote}
-use Rattle.events.specs.declared.Stepped.{Stepped}
-use Rattle.events.specs.declared.Run.{Run}
-use Rattle.events.specs.Stepped.{steppedOf}
+use Rattle.questions.specs.Sums.{shown}
+use Rattle.events.specs.declared.Effect.{Effect}
+use Rattle.events.specs.declared.Cursor.{Cursor}
+use Rattle.events.specs.Conditions.{Accepted}
+use Rattle.events.specs.Effects.{after, Leaves, effectOf}
 use Rattle.events.specs.Turns.{lineAt, verdict, ended, turned, turnedListing}
+use Rattle.events.proofs.Effects.{line-shown}
+use Rattle.events.proofs.Stepping.{allowed, step-is-accepted}
 
 -- AN ACCEPTED STEP
 
@@ -44,12 +50,12 @@ accepted-within t s room z =
 
 -- THE VERDICT
 
-module _ (run : Run) (b : List ℕ) (room space : ℕ) where
-  verdict-refused : step (run .table) b room .answer .number ≢ 0 → verdict run b room space ≡ step (run .table) b room .answer .number
+module _ (events : ℕ) (t : Table) (b : List ℕ) (room space : ℕ) where
+  verdict-refused : step t b room .answer .number ≢ 0 → verdict events t b room space ≡ step t b room .answer .number
   unfolding verdict firstNo
   verdict-refused n = cond-false _ _ (ne-eqb _ 0 n)
 
-  pub verdict-accepted : step (run .table) b room .answer .number ≡ 0 → verdict run b room space ≡ firstNo (lineFits (length (lineAt run b room)) space ∷ [])
+  pub verdict-accepted : step t b room .answer .number ≡ 0 → verdict events t b room space ≡ firstNo (lineFits (length (lineAt events t b room)) space ∷ [])
   unfolding verdict firstNo
   verdict-accepted z = cond-true _ _ (eq-eqb _ 0 z)
 
@@ -62,100 +68,113 @@ pub fit : (a c : ℕ) → firstNo (lineFits a c ∷ []) ≡ 0 → leb a c ≡ tr
 unfolding lineFits
 fit a c e = no-no 15 (leb a c) [] e .0
 
-module _ (run : Run) (s : List ℕ) (room : ℕ) where
-  pub turned-ended : (space k : ℕ) → verdict run (drop (run .at) s) room (space - run .written) ≡ k → k ≢ 0 → turned run s room space ≡ ended run k (length s)
-  unfolding turned
-  turned-ended space k e n = rw e (cond-false _ _ (ne-eqb k 0 n))
-
-  pub listing-kept : (l : List ℕ) (k : ℕ) → verdict run (drop (run .at) s) room (length l - run .written) ≡ k → k ≢ 0 → turnedListing run s room l ≡ l
-  unfolding turnedListing
-  listing-kept l k e n = rw e (cond-false _ _ (ne-eqb k 0 n))
-
 -- FROM THE CODE
 
-module _ (run : Run) (s l w : List ℕ) (d : Stepped) (ed : d ≡ steppedOf (step (run .table) (drop (run .at) s) (length w)) (drop (run .at) s)) where
-  number-said : d .answer .number ≡ step (run .table) (drop (run .at) s) (length w) .answer .number
-  unfolding steppedOf answerOf
-  number-said = ap (λ (x : Stepped). x .answer .number) ed
+module _ (p : Cursor) (t : Table) (s l w : List ℕ) where
+  abbrev b : List ℕ
+  b = drop (p .at) s
 
-  pub turn-refused : d .answer .number ≢ 0 → (r : Run) → r ≡ ended run (d .answer .number) (length s)
-      → (r ≡ turned run s (length w) (length l)) × (l ≡ turnedListing run s (length w) l)
-  turn-refused n r er =
-      let v : (space : ℕ) → verdict run (drop (run .at) s) (length w) space ≡ d .answer .number =
-      λ space. verdict-refused run (drop (run .at) s) (length w) space (λ z. n (number-said ∙ z)) ∙ sym number-said in
-      (er ∙ sym (turned-ended run s (length w) (length l) (d .answer .number) (v _) n), sym (listing-kept run s (length w) l (d .answer .number) (v _) n))
+  abbrev space : ℕ
+  space = length l - p .written
 
-  table-said : d .table ≡ step (run .table) (drop (run .at) s) (length w) .table
-  unfolding steppedOf
-  table-said = ap (λ (x : Stepped). x .table) ed
+  -- what a turn that answers x and c, and leaves m and v, owes its caller
+  abbrev Owed : Cursor → Controller → List ℕ → List ℕ → Type 0
+  Owed x c m v =
+      (x ≡ turned p t s (length w) (length l)) × (x .number ≡ 0 → Leaves t (decode b) c) × (m ≡ turnedListing p t s (length w) l)
+      × (v ≡ scratchAfter (step t b (length w) .answer .number) w)
 
-  names-said : take (d .answer .size) (d .answer .names) ≡ step (run .table) (drop (run .at) s) (length w) .answer .names
-  unfolding steppedOf answerOf overlay
-  names-said = ap (λ (x : Stepped). take (x .answer .size) (x .answer .names)) ed ∙ take-append-seam _ _
+  -- a refusal, by the record's questions or by question 16
+  turn-ended : (k : ℕ) → verdict (p .events) t b (length w) space ≡ k → k ≢ 0 → (x : Cursor) → x ≡ ended p k (length s) → (c : Controller) (v : List ℕ)
+      → v ≡ scratchAfter (step t b (length w) .answer .number) w → Owed x c l v
+  unfolding turned turnedListing ended
+  turn-ended k e n x ex c v ev = (
+    ex ∙ sym (rw e (cond-false _ _ (ne-eqb k 0 n))),
+    λ z. absurd (n (sym (ap (λ (y : Cursor). y .number) ex) ∙ z)),
+    sym (rw e (cond-false _ _ (ne-eqb k 0 n))),
+    ev,
+  )
 
-  line-said : lineOf (run .events + 1) (receiver (decode (drop (run .at) s))) (total (d .table) (receiver (decode (drop (run .at) s)))) (take (d .answer .size) (d .answer .names))
-      ≡ lineAt run (drop (run .at) s) (length w)
-  unfolding lineAt
-  line-said =
-      let c = receiver (decode (drop (run .at) s)) in
-      ap₂ (λ (t : Table) (ns : List Name). lineOf (run .events + 1) c (total t c) ns) table-said names-said
+  pub turn-refused : (k : ℕ) → k ≡ firstNo (stepQuestions t b (length w)) → k ≢ 0 → (x : Cursor) → x ≡ ended p k (length s) → (c : Controller) → Owed x c l w
+  unfolding scratchAfter
+  turn-refused k e n x ex c =
+      let said = step-number t b (length w) ∙ sym e in
+      turn-ended k (verdict-refused (p .events) t b (length w) space (λ z. n (sym said ∙ z)) ∙ said) n x ex c w
+      (sym (rw said (cond-false _ _ (ne-eqb k 0 n))))
 
-  used-said : d .answer .number ≡ 0 → d .used ≡ size (drop (run .at) s) + 1
-  unfolding steppedOf
-  used-said z = ap (λ (x : Stepped). x .used) ed ∙ cond-true _ _ (eq-eqb _ 0 (sym number-said ∙ z))
+  module _ (z : Sized t) (f : wellFormed t ≡ true) (k : ℕ) (ek : k ≡ firstNo (stepQuestions t b (length w))) (ez : k ≡ 0)
+      (d : Effect) (ed : d ≡ effectOf t (decode b)) where
+    number-said : step t b (length w) .answer .number ≡ 0
+    number-said = step-number t b (length w) ∙ sym ek ∙ ez
 
-  pub used-within : d .answer .number ≡ 0 → run .at < length s → run .at + d .used ≤ length s
-  used-within z h =
-      omega (arith, used-said z, accepted-within (run .table) (drop (run .at) s) (length w) (sym number-said ∙ z), length-drop (run .at) s)
+    pub record-within : p .at < length s → p .at + (size b + 1) ≤ length s
+    record-within h = omega (arith, accepted-within t b (length w) number-said, length-drop (p .at) s)
 
-  module _ (z : d .answer .number ≡ 0) (h : run .written ≤ length l) (p : Put) (m : List ℕ)
-      (ew : Wrote (lineOf (run .events + 1) (receiver (decode (drop (run .at) s))) (total (d .table) (receiver (decode (drop (run .at) s)))) (take (d .answer .size) (d .answer .names)))
-      (midOf (run .written) (length l - run .written) l) m p) where
-    mid-is : midOf (run .written) (length l - run .written) l ≡ drop (run .written) l
-    mid-is = take-all (length l - run .written) (drop (run .written) l) (omega (arith, length-drop (run .written) l))
+    leaves : Leaves t (decode b) (d .controller)
+    unfolding effectOf
+    leaves = (allowed t b (length w) k f ek ez .0, ap (λ (x : Effect). x .controller) ed)
 
-    wrote : Wrote (lineAt run (drop (run .at) s) (length w)) (drop (run .written) l) m p
-    wrote = rw (line-said, mid-is) at ew
+    scratch-said : (v : List ℕ) → v ≡ cleared w → v ≡ scratchAfter (step t b (length w) .answer .number) w
+    unfolding scratchAfter
+    scratch-said v e = rw number-said e
 
-    put-number : p .number ≡ firstNo (lineFits (length (lineAt run (drop (run .at) s) (length w))) (length l - run .written) ∷ [])
-    unfolding putAnswer
-    put-number = rw (length-drop) at (ap (λ (q : Put). q .number) (wrote .answer))
+    effect-line : lineOf (p .events + 1) (receiver (decode b)) (shown t (d .controller)) (take (d .answer .size) (d .answer .names))
+        ≡ lineOf (p .events + 1) (receiver (decode b)) (shown t (after t (decode b))) (namesOf t (appliedBy t (decode b)))
+    unfolding effectOf answerOf overlay
+    effect-line = rw (ed, take-append-seam) refl
 
-    verdict-put : verdict run (drop (run .at) s) (length w) (length l - run .written) ≡ p .number
-    verdict-put = verdict-accepted run (drop (run .at) s) (length w) (length l - run .written) (sym number-said ∙ z) ∙ sym put-number
+    line-said : lineOf (p .events + 1) (receiver (decode b)) (shown t (d .controller)) (take (d .answer .size) (d .answer .names)) ≡ lineAt (p .events) t b (length w)
+    unfolding lineAt accepted
+    line-said = effect-line ∙ line-shown t (decode b) (p .events + 1) z (leaves .0) ∙ rw (step-is-accepted t b w (length w) k ek ez) refl
 
-    pub turn-full : p .number ≢ 0 → (r : Run) → r ≡ ended run (p .number) (length s)
-        → (r ≡ turned run s (length w) (length l)) × (putMid (run .written) (length l - run .written) l m ≡ turnedListing run s (length w) l)
-    unfolding tailAfter
-    turn-full n r er =
-        let x = lineAt run (drop (run .at) s) (length w) in
-        let out : leb (length x) (length (drop (run .written) l)) ≡ false = rw (length-drop (run .written) l) (unfit (length x) (length l - run .written) (λ e. n (put-number ∙ e))) in
-        let same : m ≡ midOf (run .written) (length l - run .written) l = wrote .tail ∙ cond-false _ _ out ∙ sym mid-is in (
-          er ∙ sym (turned-ended run s (length w) (length l) (p .number) verdict-put n),
-          ap (putMid (run .written) (length l - run .written) l) same ∙ put-same (run .written) (length l - run .written) l
-              ∙ sym (listing-kept run s (length w) l (p .number) verdict-put n),
-        )
+    module _ (h : p .written ≤ length l) (q : Put) (m : List ℕ)
+        (ew : Wrote (lineOf (p .events + 1) (receiver (decode b)) (shown t (d .controller)) (take (d .answer .size) (d .answer .names)))
+        (midOf (p .written) space l) m q) where
+      abbrev x : List ℕ
+      x = lineAt (p .events) t b (length w)
 
-    module _ (n : p .number ≡ 0) where
-      fits : leb (length (lineAt run (drop (run .at) s) (length w))) (length (drop (run .written) l)) ≡ true
-      fits = rw (length-drop (run .written) l) (fit (length (lineAt run (drop (run .at) s) (length w))) (length l - run .written) (sym put-number ∙ n))
+      mid-is : midOf (p .written) space l ≡ drop (p .written) l
+      mid-is = take-all space (drop (p .written) l) (omega (arith, length-drop (p .written) l))
 
-      put-written : p .written ≡ length (lineAt run (drop (run .at) s) (length w))
+      wrote : Wrote x (drop (p .written) l) m q
+      wrote = rw (line-said, mid-is) at ew
+
+      put-number : q .number ≡ firstNo (lineFits (length x) space ∷ [])
       unfolding putAnswer
-      put-written = ap (λ (q : Put). q .written) (wrote .answer) ∙ cond-true _ _ fits
+      put-number = rw (length-drop) at (ap (λ (y : Put). y .number) (wrote .answer))
 
-      pub written-within : run .written + p .written ≤ length l
-      written-within = omega (arith, put-written, leb-true (length (lineAt run (drop (run .at) s) (length w))) (length (drop (run .written) l)) fits, length-drop (run .written) l)
+      verdict-put : verdict (p .events) t b (length w) space ≡ q .number
+      verdict-put = verdict-accepted (p .events) t b (length w) space number-said ∙ sym put-number
 
-      none-behind : (xs : List ℕ) → xs ++ postOf (run .written) (length l - run .written) l ≡ xs
-      none-behind xs =
-          ap (λ (r : List ℕ). xs ++ r) (drop-of-length-le (drop (run .written) l) {i = length l - run .written} (omega (arith, length-drop (run .written) l))) ∙ append-nil xs
+      pub turn-full : q .number ≢ 0 → (y : Cursor) → y ≡ ended p (q .number) (length s) → (c : Controller) (v : List ℕ) → v ≡ cleared w
+          → Owed y c (putMid (p .written) space l m) v
+      unfolding tailAfter
+      turn-full n y ey c v ev =
+          let out : leb (length x) (length (drop (p .written) l)) ≡ false = rw (length-drop (p .written) l) (unfit (length x) space (λ e. n (put-number ∙ e))) in
+          let same : m ≡ midOf (p .written) space l = wrote .tail ∙ cond-false _ _ out ∙ sym mid-is in
+          let kept = ap (putMid (p .written) space l) same ∙ put-same (p .written) space l in
+          rw kept (turn-ended (q .number) verdict-put n y ey c v (scratch-said v ev))
 
-      pub turn-listed : (_≡_ {A = Run} (record { number = 0; events = run .events + 1; at = run .at + d .used; written = run .written + p .written; table = d .table })
-          (turned run s (length w) (length l)))
-          × (putMid (run .written) (length l - run .written) l m ≡ turnedListing run s (length w) l)
-      unfolding turned turnedListing tailAfter
-      turn-listed = (
-        rw (verdict-put, n, used-said z, put-written, table-said) refl,
-        rw (verdict-put, n) (ap (λ (r : List ℕ). take (run .written) l ++ r) (none-behind m ∙ wrote .tail ∙ cond-true _ _ fits)),
-      )
+      module _ (n : q .number ≡ 0) where
+        fits : leb (length x) (length (drop (p .written) l)) ≡ true
+        fits = rw (length-drop (p .written) l) (fit (length x) space (sym put-number ∙ n))
+
+        put-written : q .written ≡ length x
+        unfolding putAnswer
+        put-written = ap (λ (y : Put). y .written) (wrote .answer) ∙ cond-true _ _ fits
+
+        pub written-within : p .written + q .written ≤ length l
+        written-within = omega (arith, put-written, leb-true (length x) (length (drop (p .written) l)) fits, length-drop (p .written) l)
+
+        none-behind : (xs : List ℕ) → xs ++ postOf (p .written) space l ≡ xs
+        none-behind xs =
+            ap (λ (r : List ℕ). xs ++ r) (drop-of-length-le (drop (p .written) l) {i = space} (omega (arith, length-drop (p .written) l))) ∙ append-nil xs
+
+        pub turn-listed : (u : ℕ) → u ≡ size b → (c : Controller) → c ≡ d .controller → (v : List ℕ) → v ≡ cleared w
+            → Owed (record { number = 0; events = p .events + 1; at = p .at + (u + 1); written = p .written + q .written }) c (putMid (p .written) space l m) v
+        unfolding turned turnedListing tailAfter
+        turn-listed u eu c ec v ev = (
+          rw (verdict-put, n, eu, put-written) refl,
+          λ _. rw ec leaves,
+          rw (verdict-put, n) (ap (λ (r : List ℕ). take (p .written) l ++ r) (none-behind m ∙ wrote .tail ∙ cond-true _ _ fits)),
+          scratch-said v ev,
+        )

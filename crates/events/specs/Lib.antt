@@ -1,4 +1,5 @@
 pub mod Conditions
+pub mod Effects
 pub mod Applying
 pub mod Ordering
 pub mod Stepped

@@ -5,12 +5,10 @@ use mathlib.Core.List.{List, []}
 use lib.ListN.{length}
 use lib.IntN.{pos}
 use lib.Dec.{eqb}
-use Rattle.model.specs.Events.{next, appliedBy, namesOf, finishes, total}
 use Rattle.model.specs.Records.{size}
-use Rattle.model.specs.Calls.{Outcome, receiver, event, scratchAfter, answerOf}
+use Rattle.model.specs.Calls.{Outcome, event, scratchAfter, answerOf}
 use Rattle.model.specs.Runs.{fileRun}
 use Rattle.model.specs.declared.Table.{Table}
-use Rattle.model.specs.declared.Event.{Event}
 use Rattle.model.specs.declared.RunAnswer.{RunAnswer}
 use Rattle.events.specs.declared.Stepped.{Stepped}
 
@@ -30,24 +28,13 @@ stepped t s room = steppedOf (event t s room) s
 unfoldable pub scratchLeft : Table → List ℕ → List ℕ → List ℕ
 scratchLeft t s w = scratchAfter (event t s (length w) .answer .number) w
 
--- an event that applies nothing, or a refusal
-unfoldable pub plain : Table → ℕ → ℕ → Stepped
-plain t k u = record {
+-- a refusal: nothing is used or changed
+unfoldable pub unchanged : Table → ℕ → Stepped
+unchanged t k = record {
   answer = answerOf (record { number = k; names = []; finished = false; total = pos 0; rest = [] });
-  used = u;
+  used = 0;
   table = t;
 }
-
--- an accepted event, whose record has so many bytes
-unfoldable pub carriedOut : Table → Event → ℕ → Stepped
-carriedOut t e u =
-    let f = finishes t (appliedBy t e) (receiver e) in
-    let x = total (next t e) (receiver e) in
-    record {
-      answer = answerOf (record { number = 0; names = namesOf t (appliedBy t e); finished = f; total = cond f x (pos 0); rest = [] });
-      used = u;
-      table = next t e;
-    }
 
 -- THE FILE RUN
 

@@ -1,4 +1,4 @@
--- One record of a file run: what the run has done before it and after it, and what it leaves in the listing.
+-- One record of a file run: how far the run has come before it and after it, and what it leaves in the listing.
 use Prim.Native.Nat.{ℕ, _+_, _-_}
 use mathlib.Core.Bool.{cond}
 use mathlib.Core.List.{List, [], _∷_, _++_}
@@ -10,42 +10,42 @@ use Rattle.model.specs.Records.{size, decode}
 use Rattle.model.specs.Questions.{ask, firstNo, lineFits}
 use Rattle.model.specs.Calls.{receiver, step}
 use Rattle.model.specs.Runs.{lineOf}
-use Rattle.events.specs.declared.Run.{Run}
+use Rattle.model.specs.declared.Table.{Table}
+use Rattle.events.specs.declared.Cursor.{Cursor}
 
--- the line of the event that s begins with; the scratch area has `room` bytes
-unfoldable pub lineAt : Run → List ℕ → ℕ → List ℕ
-lineAt run s room =
-    let o = step (run .table) s room in
+-- the line of the event that s begins with, behind so many events; the scratch area has `room` bytes
+unfoldable pub lineAt : ℕ → Table → List ℕ → ℕ → List ℕ
+lineAt events t s room =
+    let o = step t s room in
     let c = receiver (decode s) in
-    lineOf (run .events + 1) c (total (o .table) c) (o .answer .names)
+    lineOf (events + 1) c (total (o .table) c) (o .answer .names)
 
 -- its number, with question 16 put last; what is left of the listing has `space` bytes
-unfoldable pub verdict : Run → List ℕ → ℕ → ℕ → ℕ
-verdict run s room space =
-    let k = step (run .table) s room .answer .number in
-    firstNo (ask k (eqb k 0) ∷ lineFits (length (lineAt run s room)) space ∷ [])
+unfoldable pub verdict : ℕ → Table → List ℕ → ℕ → ℕ → ℕ
+verdict events t s room space =
+    let k = step t s room .answer .number in
+    firstNo (ask k (eqb k 0) ∷ lineFits (length (lineAt events t s room)) space ∷ [])
 
 -- a run that a refusal ends: no byte is left to read
-unfoldable pub ended : Run → ℕ → ℕ → Run
-ended run k n = record { number = k; events = run .events; at = n; written = run .written; table = run .table }
+unfoldable pub ended : Cursor → ℕ → ℕ → Cursor
+ended p k n = record { number = k; events = p .events; at = n; written = p .written }
 
 -- the run of the file s after its next record; the listing has `space` bytes
-unfoldable pub turned : Run → List ℕ → ℕ → ℕ → Run
-turned run s room space =
-    let b = drop (run .at) s in
-    let k = verdict run b room (space - run .written) in
-    let on : Run = record {
+unfoldable pub turned : Cursor → Table → List ℕ → ℕ → ℕ → Cursor
+turned p t s room space =
+    let b = drop (p .at) s in
+    let k = verdict (p .events) t b room (space - p .written) in
+    let on : Cursor = record {
       number = 0;
-      events = run .events + 1;
-      at = run .at + (size b + 1);
-      written = run .written + length (lineAt run b room);
-      table = step (run .table) b room .table;
+      events = p .events + 1;
+      at = p .at + (size b + 1);
+      written = p .written + length (lineAt (p .events) t b room);
     } in
-    cond (eqb k 0) on (ended run k (length s))
+    cond (eqb k 0) on (ended p k (length s))
 
 -- the listing then: the line stands behind the lines before
-unfoldable pub turnedListing : Run → List ℕ → ℕ → List ℕ → List ℕ
-turnedListing run s room l =
-    let b = drop (run .at) s in
-    let on = take (run .written) l ++ overlay (lineAt run b room) (drop (run .written) l) in
-    cond (eqb (verdict run b room (length l - run .written)) 0) on l
+unfoldable pub turnedListing : Cursor → Table → List ℕ → ℕ → List ℕ → List ℕ
+turnedListing p t s room l =
+    let b = drop (p .at) s in
+    let on = take (p .written) l ++ overlay (lineAt (p .events) t b room) (drop (p .written) l) in
+    cond (eqb (verdict (p .events) t b room (length l - p .written)) 0) on l

@@ -1,15 +1,18 @@
--- The difference of two small sums fits a signed word, and the word's bits say it. Assumes nothing.
+-- A signed word's bits say what a function answers, and the difference of two small sums fits one. Assumes nothing.
 use mathlib.Core.Path.{_≡_, _∙_}
-use Prim.Native.Nat.{ℕ, zero, suc, _-_, _≤_}
+use Prim.Native.Nat.{ℕ, zero, suc, _-_, _^_, _≤_, _<_}
 use native.Mathlib.Omega.{arith}
-use lib.IntN.{pos, negsuc, _-ℤ_}
+use lib.IntN.{ℤ, pos, negsuc, _-ℤ_}
 use lib.Signed.{mag}
 use lib.Dec.{ltb}
 use mir.Syntax.{w32}
-use mir.Val.{SFits, toZ, ofZ}
+use mir.Val.{SFits, hbits, toZ, ofZ}
 use mir.Facts.{toZ-pos, toZ-ofZ}
 use Rattle.questions.specs.Sums.{largestSum}
 use Rattle.lists.proofs.Tests.{cond-case}
+
+pub returned : (z : ℤ) → mag z < 2 ^ hbits w32 → toZ w32 (ofZ w32 z) ≡ z
+returned z h = toZ-ofZ {w = w32} {z = z} (record { sfits = h })
 
 difference-small : (a w : ℕ) → a ≤ largestSum → w ≤ largestSum → mag (pos a -ℤ pos w) ≤ largestSum
 difference-small a zero h k = omega arith

@@ -4,13 +4,14 @@ ghost use mathlib.Core.Bool.{_&&_, _||_, cond};
 ghost use Prim.Native.Nat.{_-_, _≤_, min};
 ghost use lib.Dec.{eqb, leb, ltb};
 ghost use lib.ListN.{getD};
+ghost use lib.IntN.{pos, _-ℤ_};
 ghost use Rattle.lists.specs.Below.{count, all, sum};
 ghost use Rattle.model.specs.Tables.{yes?, at, place, entry, noMessage, noController};
 ghost use Rattle.model.specs.WellFormed.{magnitude, fairAmount};
 ghost use Rattle.model.specs.Questions.{ownPending, unread, keepable, firstNo, eventQuestions};
 ghost use Rattle.model.specs.Events.{finishes, weigh, total};
 ghost use Rattle.model.specs.declared.Event.the-variants.{Send, Handover, Stop};
-ghost use Rattle.questions.specs.Sums.{term, Sums};
+ghost use Rattle.questions.specs.Sums.{term, largestSum, Sums, shown};
 use model::Controller;
 use model::Event;
 use model::Message;
@@ -343,12 +344,28 @@ pub fn withdrawn(t: Table, c: u8) -> u32
     s.withdrawn
 }
 
+// What was added less what was withdrawn.
+fn difference(s: Amounts) -> i32
+    requires { ⌜ (s .added ≤ largestSum) × (s .withdrawn ≤ largestSum) ⌝ }
+    ensures { λ r. ⌜ r ≡ pos (s .added) -ℤ pos (s .withdrawn) ⌝ }
+{
+    s.added as i32 - s.withdrawn as i32
+}
+
 // What the panel of c shows.
 pub fn total(t: Table, c: u8) -> i32
     ensures { λ r. ⌜ r ≡ total t c ⌝ }
 {
-    let s = sums(t, c);
-    s.added as i32 - s.withdrawn as i32
+    difference(sums(t, c))
+}
+
+// What a panel shows that has applied what x has.
+pub fn shown(t: Table, x: Controller) -> i32
+    ensures { λ r. ⌜ r ≡ shown t x ⌝ }
+{
+    let applied = x.applied;
+    let messages = t.messages;
+    difference(summed(applied, messages, t.count))
 }
 
 // A FINISHED SYNC

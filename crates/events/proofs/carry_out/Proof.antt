@@ -1,7 +1,9 @@
 -- `carry_out` does what the event's kind says, and leaves the first 4,096 bytes of scratch zero. Assumes nothing.
 use mathlib.Core.Path.{refl}
-use Rattle.model.specs.Events.{next, appliedBy}
-use Rattle.events.proofs.Stepping.{quiet}
+use Rattle.model.specs.Events.{appliedBy}
+use Rattle.events.specs.Effects.{after}
+use Rattle.events.proofs.Accepted.{sendable, stoppable}
+use Rattle.events.proofs.Effects.{quiet-effect}
 use borrow.Author.Needs.{needs}
 use Rattle.events.proofs.carry_out.Statement.{statement}
 use Rattle.events.proofs.carry_out.Tie as tie
@@ -13,10 +15,12 @@ clear-requires : tie.Need-clear-requires
 clear-requires c κs = search needs
 
 sent-requires : tie.Need-sent-requires
-sent-requires c κs = rw (c .before .before .before .before .before .e .given .1) at (c .before .before .before .before .before .before .before .before .pre .0)
+sent-requires c κs =
+    let h = sendable _ _ _ (rw (c .before .before .before .before .before .e .given .1) at (c .before .before .before .before .before .before .before .before .pre .0)) in
+    (h .sender .low, h .sender .high, h .slot, h .room)
 
-plain-requires : tie.Need-plain-requires
-plain-requires c κs = search needs
+quiet-requires : tie.Need-quiet-requires
+quiet-requires c κs = search needs
 
 enum-known-e-2 : tie.Need-enum-known-e-2
 enum-known-e-2 c = search needs
@@ -31,17 +35,19 @@ clear-requires-2 : tie.Need-clear-requires-2
 clear-requires-2 c κs = search needs
 
 stopped-requires : tie.Need-stopped-requires
-stopped-requires c κs = rw (c .before .before .before .before .before .e3 .given .1) at (c .before .before .before .before .before .before .before .before .pre .0)
+stopped-requires c κs =
+    let h = stoppable _ _ _ (rw (c .before .before .before .before .before .e3 .given .1) at (c .before .before .before .before .before .before .before .before .pre .0)) in
+    (h .low, h .high)
 
-plain-requires-2 : tie.Need-plain-requires-2
-plain-requires-2 c κs = search needs
+quiet-requires-2 : tie.Need-quiet-requires-2
+quiet-requires-2 c κs = search needs
 
 same-length : tie.Need-same-length
 same-length c = search needs
 
 returns : tie.Need-returns
-unfolding next appliedBy
-returns c = (rw (c .before .before .before .before .before .before .before .e .given .1) (quiet _ _ _ refl _ (c .before .sent .ensures) _ (c .plain .ensures)), c .before .before .before .before .clear .ensures)
+unfolding after appliedBy
+returns c = (rw (c .before .before .before .before .before .before .before .e .given .1) (quiet-effect _ _ refl _ (c .before .sent .ensures) _ (c .quiet .ensures)), c .before .before .before .before .clear .ensures)
 
 same-length-2 : tie.Need-same-length-2
 same-length-2 c = search needs
@@ -53,8 +59,8 @@ same-length-3 : tie.Need-same-length-3
 same-length-3 c = search needs
 
 returns-3 : tie.Need-returns-3
-unfolding appliedBy
-returns-3 c = (rw (c .before .before .before .before .before .before .before .e3 .given .1) (quiet _ _ _ refl _ (c .before .stopped .ensures) _ (c .plain2 .ensures)), c .before .before .before .before .clear2 .ensures)
+unfolding after appliedBy
+returns-3 c = (rw (c .before .before .before .before .before .before .before .e3 .given .1) (quiet-effect _ _ refl _ (c .before .stopped .ensures) _ (c .quiet2 .ensures)), c .before .before .before .before .clear2 .ensures)
 
 pub carry-out-spec : {M : Type 1} → statement M
 carry-out-spec =
@@ -63,13 +69,13 @@ carry-out-spec =
     enum-known-e
     clear-requires
     sent-requires
-    plain-requires
+    quiet-requires
     enum-known-e-2
     hand-over-requires
     enum-known-e-3
     clear-requires-2
     stopped-requires
-    plain-requires-2
+    quiet-requires-2
     same-length
     returns
     same-length-2

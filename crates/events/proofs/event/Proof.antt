@@ -9,11 +9,11 @@ use Rattle.events.proofs.event.Tie as tie
 well-formed-requires : tie.Need-well-formed-requires
 well-formed-requires c κs = search needs
 
-plain-requires : tie.Need-plain-requires
-plain-requires c κs = search needs
+refused-requires : tie.Need-refused-requires
+refused-requires c κs = search needs
 
 returns : tie.Need-returns
-returns c = event-refused-four _ _ _ _ (sym (c .before .before .well-formed .ensures) ∙ not-true _ (c .before .if1 .taken)) (c .plain .ensures)
+returns c = event-refused-four _ _ _ _ (sym (c .before .before .well-formed .ensures) ∙ not-true _ (c .before .if1 .taken)) (c .refused .ensures)
 
 step-requires : tie.Need-step-requires
 step-requires c κs = sym (c .before .before .well-formed .ensures) ∙ not-false _ (c .before .if1 .left)
@@ -27,4 +27,4 @@ returns-2 c = event-stepped _ _ _ _ _ (sym (c .before .before .before .before .b
 pub event-spec : {M : Type 1} → statement M
 event-spec =
     tie.close
-    (tie.spec well-formed-requires plain-requires returns step-requires same-length returns-2)
+    (tie.spec well-formed-requires refused-requires returns step-requires same-length returns-2)

@@ -2,9 +2,9 @@
 use mathlib.Core.Path.{_∙_}
 use Rattle.events.proofs.Lengths.{table-sized}
 use Rattle.events.proofs.Accepted.{handable, handed-of-run}
-use Rattle.events.proofs.HandingOver.{set-applied, scratch-cleared, handed-answer}
+use Rattle.events.proofs.HandingOver.{set-applied, scratch-cleared, handed-effect}
 use borrow.Author.Needs.{needs}
-use Rattle.events.proofs.Panels.{returned}
+use Rattle.questions.proofs.Signed.{returned}
 use Rattle.events.proofs.hand_over.Statement.{statement}
 use Rattle.events.proofs.hand_over.Tie as tie
 
@@ -20,12 +20,11 @@ names-of-requires c κs = search needs
 finishes-requires : tie.Need-finishes-requires
 finishes-requires c κs = search needs
 
-handed-requires : tie.Need-handed-requires
-handed-requires c κs =
+delivered-requires : tie.Need-delivered-requires
+delivered-requires c κs =
     let s = c .before .before .before .before .before .before .before .before .before .before in
     let m = set-applied _ _ _ _ (c .before .before .before .before .before .before .before .before .received .ensures) _ _ _ (s .pre .1) (c .before .before .before .before .before .apply .ensures) in
-    let h = handable _ _ _ (s .pre .0) .receiver in
-    (s .pre .0 .0, rw m (handed-of-run _ _ _ (table-sized (s .args .t) _ (s .good .0)) (s .pre .0)), h .low, h .high)
+    (s .pre .0 .0, rw m (handed-of-run _ _ _ (table-sized (s .args .t) _ (s .good .0)) (s .pre .0)))
 
 sync-answer-requires : tie.Need-sync-answer-requires
 sync-answer-requires c κs = search needs
@@ -41,7 +40,7 @@ returns c =
     let s = c .before .before .before .before .before .before .before .before .before .before .before .before .before in
     let a = c .before .before .before .before .before .before .before .before .apply .ensures in
     let r = c .before .before .before .before .before .before .before .before .before .before .before .received .ensures in
-    (handed-answer _ _ _ (s .args .used) _ r _ (set-applied _ _ _ _ r _ _ _ (s .pre .1) a) _ (c .before .before .before .before .before .names-of .ensures) _ (c .before .before .before .finishes .ensures) _ (c .before .before .handed .ensures) _ (returned _ (c .before .sync-answer .ok) ∙ c .before .sync-answer .ensures) _ (c .flag .ensures), scratch-cleared _ _ (s .pre .1) a)
+    (handed-effect _ _ _ (table-sized (s .args .t) _ (s .good .0)) (handable _ _ _ (s .pre .0) .receiver) _ r _ (set-applied _ _ _ _ r _ _ _ (s .pre .1) a) _ (c .before .before .before .before .before .names-of .ensures) _ (c .before .before .before .finishes .ensures) _ (c .before .before .delivered .ensures) _ (returned _ (c .before .sync-answer .ok) ∙ c .before .sync-answer .ensures) _ (c .flag .ensures), scratch-cleared _ _ (s .pre .1) a)
 
 pub hand-over-spec : {M : Type 1} → statement M
 hand-over-spec =
@@ -51,7 +50,7 @@ hand-over-spec =
     apply-requires
     names-of-requires
     finishes-requires
-    handed-requires
+    delivered-requires
     sync-answer-requires
     flag-requires
     same-length

@@ -1,18 +1,18 @@
--- `sync_answer` is the total where a sync is finished. Assumes nothing.
+-- `sync_answer` is what the panel shows, where a sync is finished. Assumes nothing.
 use mathlib.Core.Path.{refl}
 use borrow.Author.Needs.{needs}
-use Rattle.events.proofs.Panels.{returned}
+use Rattle.questions.proofs.Signed.{returned}
 use Rattle.events.proofs.sync_answer.Statement.{statement}
 use Rattle.events.proofs.sync_answer.Tie as tie
 
-total-requires : tie.Need-total-requires
-total-requires c κs = search needs
+shown-requires : tie.Need-shown-requires
+shown-requires c κs = search needs
 
 returns : tie.Need-returns
-returns c = rw (returned (c .total .result) (c .total .ok), c .before .if1 .taken) (c .total .ensures)
+returns c = rw (returned (c .shown .result) (c .shown .ok), c .before .if1 .taken) (c .shown .ensures)
 
 returns-2 : tie.Need-returns-2
 returns-2 c = rw (c .if1 .left) refl
 
 pub sync-answer-spec : {M : Type 1} → statement M
-sync-answer-spec = tie.close (tie.spec total-requires returns returns-2)
+sync-answer-spec = tie.close (tie.spec shown-requires returns returns-2)
