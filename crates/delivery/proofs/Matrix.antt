@@ -3,15 +3,17 @@
 use mathlib.Core.Path.{_≡_, refl, sym, ap, _∙_}
 use mathlib.Core.Bool.{true, false}
 use mathlib.Core.List.{List}
-use Prim.Native.Nat.{ℕ, _+_, _*_, _≤_, _<_}
+use Prim.Native.Nat.{ℕ, _+_, _-_, _*_, _≤_, _<_, min}
 use native.Mathlib.Decide.{decLt}
 use native.Mathlib.Omega.{arith}
 use borrow.Author.Count.{below-none, below-more}
 use borrow.Author.Tests.{le-leb, lt-leb}
-use lib.ListN.{length, getD, set, replicate, length-set}
+use lib.ListN.{length, getD, set, replicate, length-set, List·getD-eq-default}
 use lib.Seq.{getD-set-same, getD-set-other, ext-getD}
 use Rattle.lists.proofs.Tests.{contradiction}
-use Rattle.lists.proofs.Build.{length-over, getD-over, getD-over-past}
+use Rattle.lists.specs.Build.{over}
+use Rattle.lists.proofs.Build.{over-end, length-over, getD-over, getD-over-past}
+use Rattle.lists.proofs.Stores.{over-rest}
 use Rattle.model.specs.Tables.{yes?, entry}
 use Rattle.model.specs.Delivery.{Slots, goesBefore, applicable}
 use Rattle.model.specs.Calls.{cleared}
@@ -67,6 +69,19 @@ module _ (n : ℕ) (P : List Pending) where
         below-more (λ b. yes? (entry P b .held) ≡ true → yes? (getD m (b * 64 + t) 0) ≡ goesBefore n (entry P b) (entry P t)) i
         (λ b hb p. r .flags b t hb ht p q) (λ p. contradiction p e) a ha p;
   }
+
+-- CLEARING
+
+-- where there are fewer bytes, storing in all of them is enough
+pub cleared-all : (s m : List ℕ) (k : ℕ) → k ≡ min (length s) 4096 → m ≡ over (λ i. 0) k s → m ≡ cleared s
+unfolding cleared
+cleared-all s m k e h = elim (decLt (length s) 4096) [
+  | yes l ↦
+      let q : length s + (4096 - length s) ≡ 4096 = omega arith in
+      over-end _ k (length s) s m (omega arith) h
+      ∙ sym (over-rest (λ i. 0) s 0 (length s) (4096 - length s) (λ i b. sym (List·getD-eq-default s 0 b))) ∙ rw q
+  | no l ↦ over-end _ k 4096 s m (omega arith) h
+]
 
 -- what is cleared depends on the bytes behind the matrix alone
 cleared-same : (s m : List ℕ) → 4096 ≤ length s → length m ≡ length s → ((x : ℕ) → 4096 ≤ x → getD m x 0 ≡ getD s x 0) → cleared m ≡ cleared s

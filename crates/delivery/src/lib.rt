@@ -128,11 +128,23 @@ fn fill(n: usize, pending: [Pending; 64], scratch: &mut [u8])
     }
 }
 
-fn clear(scratch: &mut [u8])
-    requires { ⌜ 4096 ≤ length (now scratch) ⌝ }
+// How many bytes of so many are cleared.
+fn clearable(length: usize) -> usize
+    ensures { λ r. ⌜ r ≡ min length 4096 ⌝ }
+{
+    if length < Table::SCRATCH {
+        length
+    } else {
+        Table::SCRATCH
+    }
+}
+
+// The first 4,096 bytes become zero, or all where there are fewer.
+pub fn clear(scratch: &mut [u8])
     ensures { λ r. ⌜ now (scratch .exit) ≡ cleared (now (scratch .entry)) ⌝ }
 {
-    for k in 0..Table::SCRATCH {
+    let end = clearable(scratch.len());
+    for k in 0..end {
         scratch[k] = 0;
     }
 }

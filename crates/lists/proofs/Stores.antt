@@ -18,7 +18,7 @@ module _ {ℓ} {A : Type ℓ} (f : ℕ → A) (s : List A) (d : A) where
   unfolding over
   over-same k e = rw (add-one, e, ← getD-over-past f k s k d (omega arith)) (set-getD (over f k s) k d)
 
-  over-rest : (n k : ℕ) → ((i : ℕ) → n ≤ i → f i ≡ getD s i d) → over f (n + k) s ≡ over f n s
+  pub over-rest : (n k : ℕ) → ((i : ℕ) → n ≤ i → f i ≡ getD s i d) → over f (n + k) s ≡ over f n s
   over-rest n zero e = rw add-zero refl
   over-rest n (suc k) e =
       let q : n + suc k ≡ n + k + 1 = omega arith in

@@ -1,5 +1,6 @@
-// The table of all controllers, its limits and its constructors. What each function answers is a definition of specs/.
+// The table of all controllers, its limits, its constructors and what an amount may be. What each function answers is a definition of specs/.
 ghost use mathlib.Core.Path.{_≡_};
+ghost use Rattle.model.specs.WellFormed.{magnitude, fairAmount};
 ghost use Rattle.model.specs.Tables.{report, sync, messageOf, forwardNumber, messageNumber, fresh, blankTable};
 
 // A place in a log (the source's sn_g), 1 to 64; 255 is absent.
@@ -148,6 +149,22 @@ impl Payload {
             added: 0,
             withdrawn: 0,
         }
+    }
+
+    fn magnitude(x: u16) -> bool
+        ensures { λ r. ⌜ r ≡ magnitude x ⌝ }
+    {
+        (0 < x) & (x <= Payload::AMOUNT)
+    }
+
+    // A report adds or withdraws a fair amount, and not both; a sync has none.
+    pub fn fair(p: Payload) -> bool
+        ensures { λ r. ⌜ r ≡ fairAmount p ⌝ }
+    {
+        let a = Payload::magnitude(p.added) & (p.withdrawn == 0);
+        let w = (p.added == 0) & Payload::magnitude(p.withdrawn);
+        ((p.kind == Payload::REPORT) & (a | w))
+            | ((p.kind == Payload::SYNC) & ((p.added == 0) & (p.withdrawn == 0)))
     }
 }
 

@@ -6,9 +6,8 @@ ghost use lib.Dec.{eqb, leb, ltb};
 ghost use lib.ListN.{getD};
 ghost use lib.IntN.{pos, _-ℤ_};
 ghost use Rattle.lists.specs.Below.{count, all, sum};
-ghost use Rattle.model.specs.Tables.{yes?, at, place, entry, noMessage, noController};
-ghost use Rattle.model.specs.WellFormed.{magnitude, fairAmount};
-ghost use Rattle.model.specs.Questions.{ownPending, unread, keepable, firstNo, eventQuestions};
+ghost use Rattle.model.specs.Tables.{yes?, at, entry, noMessage, noController};
+ghost use Rattle.model.specs.Questions.{ownPending, keepable, firstNo, eventQuestions};
 ghost use Rattle.model.specs.Events.{finishes, weigh, total};
 ghost use Rattle.model.specs.declared.Event.the-variants.{Send, Handover, Stop};
 ghost use Rattle.questions.specs.Sums.{term, largestSum, Sums, shown};
@@ -93,55 +92,12 @@ pub fn log_length(t: Table, c: u8) -> usize
     x.length
 }
 
-// How many entries of the log of o controller r has read.
-pub fn place_of(t: Table, r: u8, o: u8) -> usize
-    ensures { λ p. ⌜ p ≡ place (at t r) o ⌝ }
-{
-    let i = index(r);
-    if Table::CONTROLLERS <= i {
-        return 0;
-    }
-    let x = t.controllers[i];
-    let read = x.read;
-    read_of(read, index(o))
-}
-
 // QUESTION 8
 
 pub fn named(n: usize, c: u8) -> bool
     ensures { λ r. ⌜ r ≡ (ltb 0 c && leb c n) ⌝ }
 {
     0 < c && c as usize <= n
-}
-
-// QUESTION 9
-
-fn magnitude(x: u16) -> bool
-    ensures { λ r. ⌜ r ≡ magnitude x ⌝ }
-{
-    0 < x && x <= Payload::AMOUNT
-}
-
-// A report adds or withdraws, and not both.
-fn one_sided(added: u16, withdrawn: u16) -> bool
-    ensures { λ r. ⌜ r ≡ (magnitude added && eqb withdrawn 0 || eqb added 0 && magnitude withdrawn) ⌝ }
-{
-    if withdrawn == 0 {
-        return magnitude(added);
-    }
-    added == 0 && magnitude(withdrawn)
-}
-
-pub fn fair_amount(p: Payload) -> bool
-    ensures { λ r. ⌜ r ≡ fairAmount p ⌝ }
-{
-    if p.kind == Payload::REPORT {
-        return one_sided(p.added, p.withdrawn);
-    }
-    if p.kind == Payload::SYNC {
-        return p.added == 0 && p.withdrawn == 0;
-    }
-    false
 }
 
 // QUESTION 11
@@ -176,14 +132,6 @@ pub fn own_pending(t: Table, c: u8) -> bool
     let pending = x.pending;
     let messages = t.messages;
     any_own(pending, messages, t.count, c)
-}
-
-// QUESTION 13
-
-pub fn unread(t: Table, r: u8, o: u8) -> bool
-    ensures { λ q. ⌜ q ≡ unread t r o ⌝ }
-{
-    place_of(t, r, o) < log_length(t, o)
 }
 
 // QUESTION 14
@@ -221,7 +169,7 @@ fn send_refusal(t: Table, sender: u8, payload: Payload) -> u8
     if !named(t.n, sender) {
         return UNKNOWN_CONTROLLER;
     }
-    if !fair_amount(payload) {
+    if !Payload::fair(payload) {
         return UNFAIR_AMOUNT;
     }
     if !running(t, sender) {
@@ -245,10 +193,24 @@ fn handover_refusal(t: Table, receiver: u8, owner: u8) -> u8
     if !named(t.n, owner) {
         return UNKNOWN_CONTROLLER;
     }
-    if !running(t, receiver) {
+    let r = index(receiver);
+    let o = index(owner);
+    if Table::CONTROLLERS <= r {
         return NOT_RUNNING;
     }
-    if !unread(t, receiver, owner) {
+    let x = t.controllers[r];
+    let flag = x.running;
+    if flag == 0 {
+        return NOT_RUNNING;
+    }
+    if Table::CONTROLLERS <= o {
+        return NO_ENTRY;
+    }
+    let y = t.controllers[o];
+    let length = y.length;
+    let read = x.read;
+    let place = read[o];
+    if length <= place {
         return NO_ENTRY;
     }
     ACCEPTED

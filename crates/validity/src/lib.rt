@@ -9,7 +9,7 @@ ghost use Rattle.lists.specs.Below.{count, all, distinct};
 ghost use Rattle.lists.specs.Build.{tabulate};
 ghost use Rattle.model.specs.Tables.{noMessage, noController, at, entry, yes?, held, applied, mark};
 ghost use Rattle.model.specs.Events.{numberOf};
-ghost use Rattle.model.specs.WellFormed.{magnitude, fairAmount, sameName, goodMessage, goodMark, goodLog, goodMarks, goodBuffer, greatestApplied, goodHighest, inLog, goodRunning, goodController, wellFormed};
+ghost use Rattle.model.specs.WellFormed.{sameName, goodMessage, goodMark, goodLog, goodMarks, goodBuffer, greatestApplied, goodHighest, inLog, goodRunning, goodController, wellFormed};
 ghost use Rattle.validity.specs.Parts.{part, whole};
 use model::Controller;
 use model::ForwardNumber;
@@ -20,27 +20,12 @@ use model::Table;
 
 // MESSAGES
 
-fn magnitude(x: u16) -> bool
-    ensures { λ r. ⌜ r ≡ magnitude x ⌝ }
-{
-    (0 < x) & (x <= Payload::AMOUNT)
-}
-
-fn fair_amount(p: Payload) -> bool
-    ensures { λ r. ⌜ r ≡ fairAmount p ⌝ }
-{
-    let a = magnitude(p.added) & (p.withdrawn == 0);
-    let w = (p.added == 0) & magnitude(p.withdrawn);
-    ((p.kind == Payload::REPORT) & (a | w))
-        | ((p.kind == Payload::SYNC) & ((p.added == 0) & (p.withdrawn == 0)))
-}
-
 fn good_message(n: usize, m: Message) -> bool
     ensures { λ r. ⌜ r ≡ goodMessage (part n 0 []) m ⌝ }
 {
     let number = m.number.0 as usize;
     let named = (0 < m.sender) & ((m.sender as usize) <= n);
-    named & ((0 < number) & ((number <= Table::MESSAGES) & fair_amount(m.payload)))
+    named & ((0 < number) & ((number <= Table::MESSAGES) & Payload::fair(m.payload)))
 }
 
 fn each_message(n: usize, count: usize, messages: [Message; 64]) -> bool

@@ -15,7 +15,7 @@ settle-requires : tie.Need-settle-requires
 settle-requires c κs = (omega arith, c .before .before .before .fill .ensures .flags)
 
 clear-requires : tie.Need-clear-requires
-clear-requires c κs = omega arith
+clear-requires c κs = search needs
 
 same-length : tie.Need-same-length
 same-length c = omega arith

@@ -1,23 +1,26 @@
--- `clear` zeroes the first 4,096 bytes. Assumes nothing.
+-- `clear` zeroes the first 4,096 bytes, or all of fewer. Assumes nothing.
 use mathlib.Core.Path.{_≡_, refl, sym}
 use Prim.Native.Nat.{_-_, _≤_}
 use native.Mathlib.Omega.{arith}
 use lib.ListN.{length, length-set}
 use Rattle.lists.specs.Build.{over}
-use Rattle.lists.proofs.Build.{over-none, over-more, over-end}
-use Rattle.model.specs.Calls.{cleared}
+use Rattle.lists.proofs.Build.{over-none, over-more}
 use borrow.Author.Needs.{needs}
+use Rattle.delivery.proofs.Matrix.{cleared-all}
 use Rattle.delivery.proofs.clear.Statement.{statement}
 use Rattle.delivery.proofs.clear.Tie as tie
 
 abbrev Inv-loop : tie.InvT-loop
-Inv-loop scratch₀ k₀ scratch k = (k ≤ 4096) × (4096 ≤ length scratch₀) × (length scratch ≡ length scratch₀) × (scratch ≡ over (λ j. 0) k scratch₀)
+Inv-loop scratch₀ end k₀ scratch k = (k ≤ end) × (length scratch ≡ length scratch₀) × (scratch ≡ over (λ j. 0) k scratch₀)
 
 abbrev μ-loop : tie.MeasureT-loop
-μ-loop scratch₀ k₀ scratch k = 4096 - k
+μ-loop scratch₀ end k₀ scratch k = end - k
+
+clearable-requires : tie.Need-clearable-requires Inv-loop μ-loop
+clearable-requires c κs = search needs
 
 loop-holds : tie.Need-loop-holds Inv-loop μ-loop
-loop-holds c = (search needs, search needs, refl, sym (over-none _ _))
+loop-holds c = (search needs, refl, sym (over-none _ _))
 
 slice-write-scratch : tie.Need-slice-write-scratch Inv-loop μ-loop
 slice-write-scratch c = search needs
@@ -29,14 +32,13 @@ loop-less : tie.Need-loop-less Inv-loop μ-loop
 loop-less c = search needs
 
 loop-again : tie.Need-loop-again Inv-loop μ-loop
-loop-again c = (search needs, search needs, simp length-set (omega arith), over-more _ _ _ _ _ (c .before .loop .inv .3) refl)
+loop-again c = (search needs, simp length-set (omega arith), over-more _ _ _ _ _ (c .before .loop .inv .2) refl)
 
 same-length : tie.Need-same-length Inv-loop μ-loop
 same-length c = search needs
 
 returns : tie.Need-returns Inv-loop μ-loop
-unfolding cleared
-returns c = over-end _ _ _ _ _ (omega arith) (c .before .loop .inv .3)
+returns c = cleared-all _ _ (c .before .loop .k) (omega arith) (c .before .loop .inv .2)
 
 pub clear-spec : {M : Type 1} → statement M
 clear-spec =
@@ -44,6 +46,7 @@ clear-spec =
     (tie.spec
     Inv-loop
     μ-loop
+    clearable-requires
     loop-holds
     slice-write-scratch
     add-k

@@ -1,9 +1,14 @@
 -- The questions of a handover, in order. Assumes nothing.
+use mathlib.Core.Path.{_≡_}
+use lib.ListN.{length, length-map}
 use borrow.Author.Needs.{needs}
+use borrow.Author.Tests.{lt-ltb, le-ltb}
 use Rattle.lists.proofs.Tests.{both}
+use Rattle.model.specs.Tables.{at}
 use Rattle.model.specs.WellFormed.{named}
-use Rattle.model.specs.Questions.{eventQuestions}
-use Rattle.questions.proofs.Answers.{answered, refused, accepted, seen-yes, seen-no}
+use Rattle.model.specs.Questions.{unread, eventQuestions}
+use Rattle.questions.proofs.Answers.{answered, refused, accepted, flagged, seen-yes, seen-no}
+use Rattle.questions.proofs.Controllers.{at-past, unread-past}
 use Rattle.questions.proofs.handover_refusal.Statement.{statement}
 use Rattle.questions.proofs.handover_refusal.Tie as tie
 
@@ -23,35 +28,71 @@ returns-2 c =
     refused _ _
     (rw (seen-yes (c .before .before .before .named .ensures) (c .before .before .if1 .left), seen-no (c .before .named2 .ensures) (c .if2 .taken)))
 
-running-requires : tie.Need-running-requires
-running-requires c κs = search needs
+index-requires : tie.Need-index-requires
+index-requires c κs = search needs
+
+index-requires-2 : tie.Need-index-requires-2
+index-requires-2 c κs = search needs
 
 returns-3 : tie.Need-returns-3
 unfolding eventQuestions named
 returns-3 c =
-    answered _ _ (both (seen-yes (c .before .before .before .before .before .named .ensures) (c .before .before .before .before .if1 .left))
-    (seen-yes (c .before .before .before .named2 .ensures) (c .before .before .if2 .left)))
-    (refused _ _ (seen-no (c .before .running .ensures) (c .if3 .taken)))
+    let k = c .before .before .before in
+    let t = k .before .before .before .before .args .t1 in
+    let l : length (t .controllers) ≡ 7 = simp length-map at (k .before .before .before .before .good .0 .1 .1 .1 .1 .1 .0 .1 .0 .1) in
+    answered _ _ (both (seen-yes (k .before .before .before .named .ensures) (k .before .before .if1 .left)) (seen-yes (k .before .named2 .ensures) (k .if2 .left)))
+    (refused _ _ (rw (at-past t _ _ l (c .before .before .index .ensures) (c .if3 .taken))))
 
-unread-requires : tie.Need-unread-requires
-unread-requires c κs = search needs
+mul-x : tie.Need-mul-x
+mul-x c = search needs
+
+element-copy-out-x : tie.Need-element-copy-out-x
+element-copy-out-x c = search needs
 
 returns-4 : tie.Need-returns-4
-unfolding eventQuestions named
+unfolding eventQuestions named at
 returns-4 c =
-    answered _ _ (both (seen-yes (c .before .before .before .before .before .before .before .named .ensures) (c .before .before .before .before .before .before .if1 .left))
-    (seen-yes (c .before .before .before .before .before .named2 .ensures) (c .before .before .before .before .if2 .left)))
-    (answered _ _ (seen-yes (c .before .before .before .running .ensures) (c .before .before .if3 .left))
-    (refused _ _ (seen-no (c .before .unread .ensures) (c .if4 .taken))))
+    let k = c .before .before .before .before .before in
+    answered _ _ (both (seen-yes (k .before .before .before .named .ensures) (k .before .before .if1 .left)) (seen-yes (k .before .named2 .ensures) (k .if2 .left)))
+    (refused _ _ (rw (← c .before .before .before .before .index .ensures, c .if4 .taken)))
 
 returns-5 : tie.Need-returns-5
-unfolding eventQuestions named
+unfolding eventQuestions named at
 returns-5 c =
-    answered _ _ (both (seen-yes (c .before .before .before .before .before .before .before .named .ensures) (c .before .before .before .before .before .before .if1 .left))
-    (seen-yes (c .before .before .before .before .before .named2 .ensures) (c .before .before .before .before .if2 .left)))
-    (answered _ _ (seen-yes (c .before .before .before .running .ensures) (c .before .before .if3 .left))
-    (answered _ _ (seen-yes (c .before .unread .ensures) (c .if4 .left))
-    accepted))
+    let k = c .before .before .before .before .before .before in
+    let t = k .before .before .before .before .args .t1 in
+    let l : length (t .controllers) ≡ 7 = simp length-map at (k .before .before .before .before .good .0 .1 .1 .1 .1 .1 .0 .1 .0 .1) in
+    answered _ _ (both (seen-yes (k .before .before .before .named .ensures) (k .before .before .if1 .left)) (seen-yes (k .before .named2 .ensures) (k .if2 .left)))
+    (answered _ _ (rw (← c .before .before .before .before .before .index .ensures) (flagged (c .before .if4 .left)))
+    (refused _ _ (unread-past t _ _ _ l (c .before .before .before .before .index2 .ensures) (c .if5 .taken))))
+
+mul-y : tie.Need-mul-y
+mul-y c = search needs
+
+element-copy-out-y : tie.Need-element-copy-out-y
+element-copy-out-y c = search needs
+
+mul-place : tie.Need-mul-place
+mul-place c = search needs
+
+array-read-place : tie.Need-array-read-place
+array-read-place c = search needs
+
+returns-6 : tie.Need-returns-6
+unfolding eventQuestions unread named at
+returns-6 c =
+    let k = c .before .before .before .before .before .before .before .before .before in
+    answered _ _ (both (seen-yes (k .before .before .before .named .ensures) (k .before .before .if1 .left)) (seen-yes (k .before .named2 .ensures) (k .if2 .left)))
+    (answered _ _ (rw (← c .before .before .before .before .before .before .before .before .index .ensures) (flagged (c .before .before .before .before .if4 .left)))
+    (refused _ _ (rw (← c .before .before .before .before .before .before .before .before .index .ensures, ← c .before .before .before .before .before .before .before .index2 .ensures) (le-ltb _ _ (c .if6 .taken)))))
+
+returns-7 : tie.Need-returns-7
+unfolding eventQuestions unread named at
+returns-7 c =
+    let k = c .before .before .before .before .before .before .before .before .before in
+    answered _ _ (both (seen-yes (k .before .before .before .named .ensures) (k .before .before .if1 .left)) (seen-yes (k .before .named2 .ensures) (k .if2 .left)))
+    (answered _ _ (rw (← c .before .before .before .before .before .before .before .before .index .ensures) (flagged (c .before .before .before .before .if4 .left)))
+    (answered _ _ (rw (← c .before .before .before .before .before .before .before .before .index .ensures, ← c .before .before .before .before .before .before .before .index2 .ensures) (lt-ltb _ _ (c .if6 .left))) accepted))
 
 pub handover-refusal-spec : {M : Type 1} → statement M
 handover-refusal-spec =
@@ -61,8 +102,16 @@ handover-refusal-spec =
     returns
     named-requires-2
     returns-2
-    running-requires
+    index-requires
+    index-requires-2
     returns-3
-    unread-requires
+    mul-x
+    element-copy-out-x
     returns-4
-    returns-5)
+    returns-5
+    mul-y
+    element-copy-out-y
+    mul-place
+    array-read-place
+    returns-6
+    returns-7)

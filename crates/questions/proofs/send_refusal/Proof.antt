@@ -16,14 +16,14 @@ returns : tie.Need-returns
 unfolding eventQuestions named
 returns c = refused _ _ (seen-no (c .before .named .ensures) (c .if1 .taken))
 
-fair-amount-requires : tie.Need-fair-amount-requires
-fair-amount-requires c κs = search needs
+fair-requires : tie.Need-fair-requires
+fair-requires c κs = search needs
 
 returns-2 : tie.Need-returns-2
 unfolding eventQuestions named
 returns-2 c =
     answered _ _ (seen-yes (c .before .before .before .named .ensures) (c .before .before .if1 .left))
-    (refused _ _ (seen-no (c .before .fair-amount .ensures) (c .if2 .taken)))
+    (refused _ _ (seen-no (c .before .fair .ensures) (c .if2 .taken)))
 
 running-requires : tie.Need-running-requires
 running-requires c κs = search needs
@@ -32,7 +32,7 @@ returns-3 : tie.Need-returns-3
 unfolding eventQuestions named
 returns-3 c =
     answered _ _ (seen-yes (c .before .before .before .before .before .named .ensures) (c .before .before .before .before .if1 .left))
-    (answered _ _ (seen-yes (c .before .before .before .fair-amount .ensures) (c .before .before .if2 .left))
+    (answered _ _ (seen-yes (c .before .before .before .fair .ensures) (c .before .before .if2 .left))
     (refused _ _ (seen-no (c .before .running .ensures) (c .if3 .taken))))
 
 own-pending-requires : tie.Need-own-pending-requires
@@ -42,7 +42,7 @@ returns-4 : tie.Need-returns-4
 unfolding eventQuestions named
 returns-4 c =
     answered _ _ (seen-yes (c .before .before .before .before .before .before .before .named .ensures) (c .before .before .before .before .before .before .if1 .left))
-    (answered _ _ (seen-yes (c .before .before .before .before .before .fair-amount .ensures) (c .before .before .before .before .if2 .left))
+    (answered _ _ (seen-yes (c .before .before .before .before .before .fair .ensures) (c .before .before .before .before .if2 .left))
     (answered _ _ (seen-yes (c .before .before .before .running .ensures) (c .before .before .if3 .left))
     (refused _ _ (sym (ap not (c .before .own-pending .ensures)) ∙ ap not (c .if4 .taken)))))
 
@@ -50,7 +50,7 @@ returns-5 : tie.Need-returns-5
 unfolding eventQuestions named
 returns-5 c =
     answered _ _ (seen-yes (c .before .before .before .before .before .before .before .before .before .named .ensures) (c .before .before .before .before .before .before .before .before .if1 .left))
-    (answered _ _ (seen-yes (c .before .before .before .before .before .before .before .fair-amount .ensures) (c .before .before .before .before .before .before .if2 .left))
+    (answered _ _ (seen-yes (c .before .before .before .before .before .before .before .fair .ensures) (c .before .before .before .before .before .before .if2 .left))
     (answered _ _ (seen-yes (c .before .before .before .before .before .running .ensures) (c .before .before .before .before .if3 .left))
     (answered _ _ (sym (ap not (c .before .before .before .own-pending .ensures)) ∙ ap not (c .before .before .if4 .left))
     (refused _ _ (le-ltb _ _ (c .if5 .taken))))))
@@ -59,7 +59,7 @@ returns-6 : tie.Need-returns-6
 unfolding eventQuestions named
 returns-6 c =
     answered _ _ (seen-yes (c .before .before .before .before .before .before .before .before .before .named .ensures) (c .before .before .before .before .before .before .before .before .if1 .left))
-    (answered _ _ (seen-yes (c .before .before .before .before .before .before .before .fair-amount .ensures) (c .before .before .before .before .before .before .if2 .left))
+    (answered _ _ (seen-yes (c .before .before .before .before .before .before .before .fair .ensures) (c .before .before .before .before .before .before .if2 .left))
     (answered _ _ (seen-yes (c .before .before .before .before .before .running .ensures) (c .before .before .before .before .if3 .left))
     (answered _ _ (sym (ap not (c .before .before .before .own-pending .ensures)) ∙ ap not (c .before .before .if4 .left))
     (answered _ _ (lt-ltb _ _ (c .if5 .left))
@@ -71,7 +71,7 @@ send-refusal-spec =
     (tie.spec
     named-requires
     returns
-    fair-amount-requires
+    fair-requires
     returns-2
     running-requires
     returns-3

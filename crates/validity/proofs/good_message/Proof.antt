@@ -10,12 +10,12 @@ cast-number c = search needs
 cast-named : tie.Need-cast-named
 cast-named c = search needs
 
-fair-amount-requires : tie.Need-fair-amount-requires
-fair-amount-requires c κs = search needs
+fair-requires : tie.Need-fair-requires
+fair-requires c κs = search needs
 
 returns : tie.Need-returns
 unfolding named goodMessage
-returns c = rw (c .fair-amount .ensures)
+returns c = rw (c .fair .ensures)
 
 pub good-message-spec : {M : Type 1} → statement M
-good-message-spec = tie.close (tie.spec cast-number cast-named fair-amount-requires returns)
+good-message-spec = tie.close (tie.spec cast-number cast-named fair-requires returns)
