@@ -17,13 +17,14 @@ use Rattle.model.specs.declared.Message.{Message}
 use Rattle.model.specs.declared.Controller.{Controller}
 use Rattle.model.specs.declared.Table.{Table}
 use Rattle.model.specs.declared.Event.{Event}
+use Rattle.model.specs.declared.Answer.{Answer}
 use Rattle.model.specs.declared.Event.the-variants.{Send, Handover, Stop}
 use Rattle.model.proofs.Event as event
 use Rattle.model.proofs.WellFormed.{Named}
 use Rattle.invariant.proofs.Stores.{at-same}
 use Rattle.questions.specs.Sums.{shown}
 use Rattle.events.specs.declared.Effect.{Effect}
-use Rattle.events.specs.Effects.{subject, after, Leaves, effectOf, quiet}
+use Rattle.events.specs.Effects.{subject, after, Leaves, noSet, effectOf}
 use Rattle.events.specs.Conditions.{Accepted}
 use Rattle.events.proofs.Accepted.{sendable, handable, stoppable}
 
@@ -52,9 +53,10 @@ none-named : (t : Table) → namesOf t [] ≡ []
 unfolding namesOf
 none-named t = no-names (t .count) t
 
-pub quiet-effect : (t : Table) (e : Event) → appliedBy t e ≡ [] → (c : Controller) → c ≡ after t e → (r : Effect) → r ≡ quiet c → r ≡ effectOf t e
-unfolding quiet effectOf finishes
-quiet-effect t e a c d r p = p ∙ rw (a, none-named t, d, ← any-none (t .count) _ (λ k h. refl)) refl
+pub quiet-effect : (t : Table) (e : Event) → appliedBy t e ≡ [] → (a : Answer) → a ≡ noSet 0 → (c : Controller) → c ≡ after t e
+    → _≡_ {A = Effect} (record { answer = a; controller = c }) (effectOf t e)
+unfolding noSet effectOf finishes
+quiet-effect t e n a ea c ec = rw (ea, ec, n, none-named t, ← any-none (t .count) _ (λ k h. refl)) refl
 
 -- THE TABLE
 

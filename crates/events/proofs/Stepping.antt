@@ -22,7 +22,7 @@ use Rattle.invariant.proofs.Kept.{event-number-step}
 use Rattle.events.specs.declared.Stepped.{Stepped}
 use Rattle.events.specs.Conditions.{Accepted}
 use Rattle.events.specs.declared.Effect.{Effect}
-use Rattle.events.specs.Effects.{effectOf}
+use Rattle.events.specs.Effects.{noSet, effectOf}
 use Rattle.events.specs.Stepped.{steppedOf, stepped, scratchLeft, unchanged}
 
 -- THE QUESTIONS OF A STEP
@@ -97,7 +97,7 @@ allowed t s room k w e z =
 module _ (t : Table) (s w : List ℕ) where
   pub refused-answer : (o : Outcome) (k : ℕ) → o ≡ refused t s k → k ≢ 0 → (r : Stepped) → r ≡ unchanged t k
       → (r ≡ steppedOf o s) × (w ≡ scratchAfter (o .answer .number) w)
-  unfolding steppedOf refused unchanged answerOf scratchAfter
+  unfolding steppedOf refused unchanged noSet answerOf scratchAfter
   refused-answer o k e n r d = rw (e, ne-eqb k 0 n) (d, refl)
 
   pub accepted-answer : (o : Outcome) → o ≡ accepted t s → (d : Effect) → d ≡ effectOf t (decode s) → (x : Table) → x ≡ next t (decode s) → (v : List ℕ) → v ≡ cleared w

@@ -10,6 +10,7 @@ use Rattle.model.specs.Calls.{receiver, answerOf}
 use Rattle.model.specs.declared.Controller.{Controller}
 use Rattle.model.specs.declared.Table.{Table}
 use Rattle.model.specs.declared.Event.{Event}
+use Rattle.model.specs.declared.Answer.{Answer}
 use Rattle.model.specs.declared.Event.the-variants.{Send, Handover, Stop}
 use Rattle.events.specs.declared.Effect.{Effect}
 use Rattle.events.specs.Conditions.{Accepted}
@@ -30,6 +31,10 @@ after t (Stop c k) = withStop (at t c) k
 abbrev pub Leaves : Table → Event → Controller → Type 0
 Leaves t e c = Accepted t e × (c ≡ after t e)
 
+-- the answer of a refusal, or of an event that applies nothing
+unfoldable pub noSet : ℕ → Answer
+noSet k = answerOf (record { number = k; names = []; finished = false; total = pos 0; rest = [] })
+
 unfoldable pub effectOf : Table → Event → Effect
 effectOf t e =
     let f = finishes t (appliedBy t e) (receiver e) in
@@ -38,10 +43,3 @@ effectOf t e =
       answer = answerOf (record { number = 0; names = namesOf t (appliedBy t e); finished = f; total = cond f x (pos 0); rest = [] });
       controller = after t e;
     }
-
--- an event that applies nothing
-unfoldable pub quiet : Controller → Effect
-quiet c = record {
-  answer = answerOf (record { number = 0; names = []; finished = false; total = pos 0; rest = [] });
-  controller = c;
-}

@@ -1,9 +1,8 @@
 -- What the event call and the file run answer and leave, as their callers get it by value.
 use Prim.Native.Nat.{ℕ, _+_}
-use mathlib.Core.Bool.{false, cond}
-use mathlib.Core.List.{List, []}
+use mathlib.Core.Bool.{cond}
+use mathlib.Core.List.{List}
 use lib.ListN.{length}
-use lib.IntN.{pos}
 use lib.Dec.{eqb}
 use Rattle.model.specs.Records.{size}
 use Rattle.model.specs.Calls.{Outcome, event, scratchAfter, answerOf}
@@ -11,6 +10,7 @@ use Rattle.model.specs.Runs.{fileRun}
 use Rattle.model.specs.declared.Table.{Table}
 use Rattle.model.specs.declared.RunAnswer.{RunAnswer}
 use Rattle.events.specs.declared.Stepped.{Stepped}
+use Rattle.events.specs.Effects.{noSet}
 
 -- an outcome of the bytes s: the unread rest is what stands behind the bytes used
 unfoldable pub steppedOf : Outcome → List ℕ → Stepped
@@ -31,7 +31,7 @@ scratchLeft t s w = scratchAfter (event t s (length w) .answer .number) w
 -- a refusal: nothing is used or changed
 unfoldable pub unchanged : Table → ℕ → Stepped
 unchanged t k = record {
-  answer = answerOf (record { number = k; names = []; finished = false; total = pos 0; rest = [] });
+  answer = noSet k;
   used = 0;
   table = t;
 }

@@ -14,13 +14,13 @@ enum-known-e c = search needs
 clear-requires : tie.Need-clear-requires
 clear-requires c κs = search needs
 
+no-set-requires : tie.Need-no-set-requires
+no-set-requires c κs = search needs
+
 sent-requires : tie.Need-sent-requires
 sent-requires c κs =
-    let h = sendable _ _ _ (rw (c .before .before .before .before .before .e .given .1) at (c .before .before .before .before .before .before .before .before .pre .0)) in
+    let h = sendable _ _ _ (rw (c .before .before .before .before .before .before .e .given .1) at (c .before .before .before .before .before .before .before .before .before .pre .0)) in
     (h .sender .low, h .sender .high, h .slot, h .room)
-
-quiet-requires : tie.Need-quiet-requires
-quiet-requires c κs = search needs
 
 enum-known-e-2 : tie.Need-enum-known-e-2
 enum-known-e-2 c = search needs
@@ -34,20 +34,20 @@ enum-known-e-3 c = search needs
 clear-requires-2 : tie.Need-clear-requires-2
 clear-requires-2 c κs = search needs
 
+no-set-requires-2 : tie.Need-no-set-requires-2
+no-set-requires-2 c κs = search needs
+
 stopped-requires : tie.Need-stopped-requires
 stopped-requires c κs =
-    let h = stoppable _ _ _ (rw (c .before .before .before .before .before .e3 .given .1) at (c .before .before .before .before .before .before .before .before .pre .0)) in
+    let h = stoppable _ _ _ (rw (c .before .before .before .before .before .before .e3 .given .1) at (c .before .before .before .before .before .before .before .before .before .pre .0)) in
     (h .low, h .high)
-
-quiet-requires-2 : tie.Need-quiet-requires-2
-quiet-requires-2 c κs = search needs
 
 same-length : tie.Need-same-length
 same-length c = search needs
 
 returns : tie.Need-returns
 unfolding after appliedBy
-returns c = (rw (c .before .before .before .before .before .before .before .e .given .1) (quiet-effect _ _ refl _ (c .before .sent .ensures) _ (c .quiet .ensures)), c .before .before .before .before .clear .ensures)
+returns c = (rw (c .before .before .before .before .before .before .before .e .given .1) (quiet-effect _ _ refl _ (c .before .no-set .ensures) _ (c .sent .ensures)), c .before .before .before .before .clear .ensures)
 
 same-length-2 : tie.Need-same-length-2
 same-length-2 c = search needs
@@ -60,7 +60,7 @@ same-length-3 c = search needs
 
 returns-3 : tie.Need-returns-3
 unfolding after appliedBy
-returns-3 c = (rw (c .before .before .before .before .before .before .before .e3 .given .1) (quiet-effect _ _ refl _ (c .before .stopped .ensures) _ (c .quiet2 .ensures)), c .before .before .before .before .clear2 .ensures)
+returns-3 c = (rw (c .before .before .before .before .before .before .before .e3 .given .1) (quiet-effect _ _ refl _ (c .before .no-set2 .ensures) _ (c .stopped .ensures)), c .before .before .before .before .clear2 .ensures)
 
 pub carry-out-spec : {M : Type 1} → statement M
 carry-out-spec =
@@ -68,14 +68,14 @@ carry-out-spec =
     (tie.spec
     enum-known-e
     clear-requires
+    no-set-requires
     sent-requires
-    quiet-requires
     enum-known-e-2
     hand-over-requires
     enum-known-e-3
     clear-requires-2
+    no-set-requires-2
     stopped-requires
-    quiet-requires-2
     same-length
     returns
     same-length-2
