@@ -1,5 +1,6 @@
 //! Times of the calls: library and reference on the same inputs, the table of each call restored outside the clock.
 
+use crate::edges::dense_run;
 use crate::generate::{file_of, handover, legal_run, report, stop, Policy};
 use crate::library::{Engine, Reference};
 use crate::random::Random;
@@ -9,13 +10,12 @@ use crate::tables::{to_state, to_table, Answer, Message, Payload, Table, ABSENT}
 use std::hint::black_box;
 use std::time::{Duration, Instant};
 
-/// How many calls a figure is the mean of, and how often it is taken; the least mean is printed.
-const CALLS: usize = 400;
-const ROUNDS: usize = 5;
+/// How many calls a figure is the mean of, and how often it is taken, library and reference in turn; the least is printed.
+const CALLS: usize = 100;
+const ROUNDS: usize = 20;
 
-fn least(mut once: impl FnMut() -> Duration) -> f64 {
-    let mean = |_| (0..CALLS).map(|_| once()).sum::<Duration>().as_nanos() as f64 / CALLS as f64;
-    (0..ROUNDS).map(mean).fold(f64::MAX, f64::min)
+fn mean(mut once: impl FnMut() -> Duration) -> f64 {
+    (0..CALLS).map(|_| once()).sum::<Duration>().as_nanos() as f64 / CALLS as f64
 }
 
 fn timed<T>(call: impl FnOnce() -> T) -> Duration {
@@ -26,7 +26,7 @@ fn timed<T>(call: impl FnOnce() -> T) -> Duration {
 
 fn event(engine: &dyn Engine, table: &Table, bytes: &[u8]) -> f64 {
     let (mut scratch, mut answer) = (vec![0xA5; SCRATCH], Answer::ZERO);
-    least(|| {
+    mean(|| {
         scratch.fill(0xA5);
         let mut t = *table;
         timed(|| engine.event(&mut t, bytes, &mut scratch, &mut answer))
@@ -69,13 +69,21 @@ fn run_table(n: usize) -> (Table, Vec<u8>) {
     (to_table(&state), file_of(n, &run))
 }
 
+/// The nanoseconds for each event of one run of a file.
+fn run(engine: &dyn Engine, file: &[u8]) -> f64 {
+    let (mut listing, mut scratch) = (vec![0xA5; LISTING], vec![0xA5; SCRATCH]);
+    let events = engine.run(file, &mut listing, &mut scratch).events as f64;
+    timed(|| engine.run(file, &mut listing, &mut scratch)).as_nanos() as f64 / events
+}
+
 fn row(name: &str, under_test: Option<&dyn Engine>, time: impl Fn(&dyn Engine) -> f64) {
-    let reference = time(&Reference::RIGHT);
+    let (mut library, mut reference) = (f64::MAX, f64::MAX);
+    for _ in 0..ROUNDS {
+        reference = reference.min(time(&Reference::RIGHT));
+        library = library.min(under_test.map_or(f64::MAX, |engine| time(engine)));
+    }
     match under_test {
-        Some(engine) => {
-            let library = time(engine);
-            println!("{name:<48} {library:>12.0} {reference:>12.0} {:>8.1}", reference / library);
-        }
+        Some(_) => println!("{name:<48} {library:>12.0} {reference:>12.0} {:>8.1}", reference / library),
         None => println!("{name:<48} {:>12} {reference:>12.0} {:>8}", "-", "-"),
     }
 }
@@ -91,21 +99,18 @@ and a file run gets scratch and listing as the run before left them"
         let (after_run, file) = run_table(n);
         let state = to_state(&after_run);
         let length = state.controllers[0].log.len();
-        row(&format!("n = {n}: fresh table"), under_test, |e| least(|| timed(|| e.fresh(n))));
+        row(&format!("n = {n}: fresh table"), under_test, |e| mean(|| timed(|| e.fresh(n))));
         row(&format!("n = {n}: report, nothing pending"), under_test, |e| event(e, &fresh, &report(1, 5)));
         row(&format!("n = {n}: stop after 200 events"), under_test, |e| event(e, &after_run, &stop(1, length)));
         row(&format!("n = {n}: refused by question 8"), under_test, |e| event(e, &after_run, &stop(0, 0)));
-        row(&format!("n = {n}: look after 200 events"), under_test, |e| least(|| timed(|| e.look(&after_run, 1))));
-        for (held, chain) in [(2, false), (16, false), (63, false), (2, true), (16, true), (63, true)] {
+        row(&format!("n = {n}: look after 200 events"), under_test, |e| mean(|| timed(|| e.look(&after_run, 1))));
+        for (held, chain) in [(2, false), (16, false), (32, false), (63, false), (2, true), (16, true), (32, true), (63, true)] {
             let t = pending_table(n, held, chain);
             let what = if chain { "none applied (chain)" } else { "all applied" };
             row(&format!("n = {n}: handover, {held} pending, {what}"), under_test, |e| event(e, &t, &handover(1, 2)));
         }
-        row(&format!("n = {n}: file of 200 events, for each event"), under_test, |e| {
-            let (mut listing, mut scratch) = (vec![0xA5; LISTING], vec![0xA5; SCRATCH]);
-            let events = e.run(&file, &mut listing, &mut scratch).events as f64;
-            let mut once = || timed(|| e.run(&file, &mut listing, &mut scratch));
-            (0..ROUNDS).map(|_| once().as_nanos() as f64 / events).fold(f64::MAX, f64::min)
-        });
+        row(&format!("n = {n}: file of 200 events, for each event"), under_test, |e| run(e, &file));
     }
+    let dense = dense_run();
+    row("n = 7: densest run of 3,207 events, for each", under_test, |e| run(e, &dense));
 }

@@ -1,9 +1,8 @@
 // Reads a run file on standard input and prints what each panel applied: the number of controllers, a line for each set,
 // and the events accepted with the refusal number.
 ghost use mathlib.Core.Path.{_≡_};
-ghost use lib.ListN.{take};
-
-const FILE_REFUSALS: u8 = 3;
+ghost use lib.ListN.{length, take};
+ghost use Rattle.panels.specs.Printed.{printed};
 
 // The bytes that stand first, all of them where there are fewer.
 fn first(bytes: &[u8], size: usize) -> &[u8]
@@ -15,29 +14,34 @@ fn first(bytes: &[u8], size: usize) -> &[u8]
     bytes
 }
 
-fn print_header(n: u8) {
-    let mut text = [0u8; 32];
-    let put = listing::put_header(&mut text, n);
-    io::write_all(1, first(&text, put.written));
-}
+const LISTING: usize = 16384;
 
-fn print_footer(events: usize, number: u8) {
-    let mut text = [0u8; 32];
-    let put = listing::put_footer(&mut text, events, number);
-    io::write_all(1, first(&text, put.written));
+// The listing, the lines before and after it, and room to spare.
+const TEXT: usize = 16448;
+
+// Writes what is to be printed of a file, and answers how many bytes that is.
+fn report(file: &[u8], text: &mut [u8], scratch: &mut [u8]) -> usize
+    requires { ⌜ (length (now text) ≡ 16448) × (length (now scratch) ≡ 4096) ⌝ }
+    ensures { λ r. ⌜ take r (now (text .exit)) ≡ printed (now (file .entry)) ⌝ }
+{
+    let refusal = events::file_refusal(file);
+    if refusal != 0 {
+        let only = listing::put_footer(text, 0, refusal);
+        return only.written;
+    }
+    let head = listing::put_header(text, records::byte_at(file, 1));
+    let start = head.written;
+    let run = events::run_file(file, &mut text[start..start + LISTING], scratch);
+    let end = start + run.written;
+    let tail = listing::put_footer(&mut text[end..], run.events, run.number);
+    end + tail.written
 }
 
 fn main() {
     let mut input = io::large_buffer();
     let size = io::read_full(0, &mut input);
-    let file = &input[..size];
-    let mut lines = [0u8; 16384];
-    let mut scratch = io::buffer();
-    let run = events::run_file(file, &mut lines, &mut scratch);
-    let number = run.number;
-    if number == 0 || FILE_REFUSALS < number {
-        print_header(records::byte_at(file, 1));
-    }
-    io::write_all(1, first(&lines, run.written));
-    print_footer(run.events, number);
+    let mut text = [0u8; TEXT];
+    let mut scratch = [0u8; 4096];
+    let written = report(&input[..size], &mut text, &mut scratch);
+    io::write_all(1, first(&text, written));
 }
