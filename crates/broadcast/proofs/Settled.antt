@@ -1,6 +1,6 @@
 -- After a delivery nothing is left to deliver, as long as the process has read its own log and no new marks came. Assumes nothing.
 use Prim.Native.Nat.{ℕ}
-use mathlib.Core.Bool.{Bool, true, false, not, _&&_, _||_, false≢true}
+use mathlib.Core.Bool.{Bool, true, false, not, _&&_, false≢true}
 use mathlib.Core.Path.{_≡_, refl, sym, ap, _∙_}
 use mathlib.Core.Logic.{_≢_, inl, inr}
 use native.Mathlib.Omega.{arith}
@@ -9,7 +9,7 @@ use borrow.Author.Tests.{ltb-true, lt-ltb, not-true}
 use Rattle.lists.proofs.Tests.{and-left, and-right, both, or-false, decided, contradiction}
 use Rattle.broadcast.specs.State.{System, State, append, fifoDeliver, scdDeliver, crash}
 use Rattle.broadcast.specs.Delivery.{mark, Pending, QuorumLess, Closed, Largest}
-use Rattle.broadcast.proofs.Updates.{update-case, update-other, read-case}
+use Rattle.broadcast.proofs.Updates.{update-case, update-other, read-case, delivered-after}
 use Rattle.broadcast.proofs.Logs.{Entry, appended, unchanged, position-after, grow-case}
 use Rattle.broadcast.proofs.Marks.{append-mark, unread-mark}
 use Rattle.broadcast.proofs.Stable.{quorum-mono}
@@ -113,17 +113,13 @@ module _ (k : System) where
       undelivered = not-true (s .delivered r m) (and-right (ltb (s .position r m) top) (not (s .delivered r m)) h);
     }
 
-    after : (y : ℕ) → scdDeliver s r t .delivered r y ≡ (s .delivered r y || t y)
-    unfolding scdDeliver
-    after y = update-case (λ D. D y ≡ (s .delivered r y || t y)) (s .delivered) r (λ m. s .delivered r m || t m) r (λ _. refl) (λ d. absurd (d refl))
-
     rest-closed : AllMarked (scdDeliver s r t) r → Closed k s r rest
     unfolding scdDeliver mark
     rest-closed h = record {
       pending = rest-pending;
       marks = λ x a. let p = rest-pending x a in elim (decided (t x)) [
         | inl e ↦ w .closed .marks x e
-        | inr e ↦ h .marks x (record { logged = p .logged; undelivered = rw (after x, p .undelivered, e) })
+        | inr e ↦ h .marks x (record { logged = p .logged; undelivered = rw (delivered-after s r t x, p .undelivered, e) })
       ];
       before = λ x y a p e. contradiction (rest-of y p) e;
     }
@@ -133,6 +129,6 @@ module _ (k : System) where
     unfolding scdDeliver
     deliver-settled = record {
       none-pending = λ _ _ h y p.
-          let o = or-false (s .delivered r y) (t y) (sym (after y) ∙ p .undelivered) in
+          let o = or-false (s .delivered r y) (t y) (sym (delivered-after s r t y) ∙ p .undelivered) in
           contradiction (w .largest rest (rest-closed h) .each y (rest-of y (record { logged = p .logged; undelivered = o .0 }))) (o .1);
     }

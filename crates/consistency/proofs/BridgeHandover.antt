@@ -1,7 +1,7 @@
 -- An allowed handover is a legal delivery: the set that the receiver applies is the largest one of the abstract system.
 -- Assumes nothing.
 use mathlib.Core.Path.{_≡_, refl, sym, ap, _∙_}
-use mathlib.Core.Bool.{Bool, true, false, not, _&&_, _||_, or-comm}
+use mathlib.Core.Bool.{Bool, true, false, not, _&&_, or-comm}
 use mathlib.Core.Logic.{_≢_}
 use Prim.Native.Nat.{ℕ, suc, _-_, min, _≤_, _<_}
 use native.Mathlib.Omega.{arith}
@@ -13,13 +13,14 @@ use Rattle.model.specs.declared.Controller.{Controller}
 use Rattle.model.specs.declared.Table.{Table}
 use Rattle.model.specs.declared.Event.the-variants.{Handover}
 use Rattle.model.proofs.Allowed.{HandoverAllowed}
+use Rattle.invariant.proofs.Buffering.{blank-absent}
 use Rattle.invariant.proofs.Delivering.{delivered-entry, delivered-held, delivered-applied}
 use Rattle.invariant.proofs.Receiving.{received-good, handover-well-formed, next-slot-run}
 use Rattle.invariant.proofs.Sizes.{next-sized}
 use Rattle.broadcast.specs.State.{State, append, fifoDeliver, scdDeliver, forward, receive}
 use Rattle.broadcast.specs.Delivery.{Largest}
 use Rattle.broadcast.specs.Events.{MayRead, Event, delivers}
-use Rattle.broadcast.proofs.Updates.{read-case}
+use Rattle.broadcast.proofs.Updates.{read-case, delivered-after}
 use Rattle.broadcast.proofs.Logs.{Entry}
 use Rattle.broadcast.proofs.Invariant.{Invariant, fifoDeliver-invariant}
 use Rattle.broadcast.proofs.Legal.{forward-case, forward-entry}
@@ -29,8 +30,7 @@ use Rattle.broadcast.proofs.Slots.{Slot}
 use Rattle.broadcast.proofs.Runs.{forwarded, event-kept}
 use Rattle.consistency.proofs.Bridge.{top, system, codeAt, marksOf, Shows, Related}
 use Rattle.consistency.proofs.BridgeFacts.{few, agrees}
-use Rattle.consistency.proofs.BridgeMarks.{blank-absent}
-use Rattle.consistency.proofs.BridgeKept.{Followed, update-same, same-shows, replaced-shows, append-others, append-slot-of, append-numbered}
+use Rattle.consistency.proofs.BridgeKept.{Followed, same-shows, replaced-shows, append-others, append-slot-of, append-numbered}
 use Rattle.consistency.proofs.BridgeSets.{inSet, in-set-slot, in-set-at, applicable-names}
 use Rattle.consistency.proofs.BridgeReceive.{may-read, received-shows, received-running}
 
@@ -38,10 +38,6 @@ use Rattle.consistency.proofs.BridgeReceive.{may-read, received-shows, 
 
 module _ (n : ℕ) (t : Table) (counted : t .count ≤ capacity) (s : State) (i : ℕ) (c : Controller) (S : Slots) (d : ℕ → Bool)
     (same : (j : ℕ) → j < t .count → d (codeAt t j) ≡ has S j) where
-  delivered-is : (y : ℕ) → scdDeliver s i d .delivered i y ≡ (s .delivered i y || d y)
-  unfolding scdDeliver
-  delivered-is y = ap (λ D. D y) (update-same (s .delivered) i (λ m. s .delivered i m || d m))
-
   pub delivered-shows : Shows n (t .count) (codeAt t) s i c → Shows n (t .count) (codeAt t) (scdDeliver s i d) i (deliver t c S)
   unfolding scdDeliver deliver
   delivered-shows h = record {
@@ -50,14 +46,14 @@ module _ (n : ℕ) (t : Table) (counted : t .count ≤ capacity) (s : State) (i 
     running = h .running;
     log = h .log;
     applied-is = λ j l.
-        delivered-is (codeAt t j) ∙ rw (h .applied-is j l, same j l) (or-comm (applied c j) (has S j)) ∙ sym (delivered-applied t c S j (omega arith));
+        delivered-after s i d (codeAt t j) ∙ rw (h .applied-is j l, same j l) (or-comm (applied c j) (has S j)) ∙ sym (delivered-applied t c S j (omega arith));
     marks = deliver-stored (system n) (t .count) (codeAt t) (marksOf c) (marksOf (deliver t c S)) s i i d cell (h .marks);
     absent-marks = λ j f l b e. unmarked j f l b (has S j) refl (sym (delivered-held t c S j l) ∙ e);
   }
     where
       cell : (j f : ℕ) → j < t .count → f < min n seats → scdDeliver s i d .delivered i (codeAt t j) ≡ false → marksOf (deliver t c S) j f ≡ marksOf c j f
       cell j f l b e =
-          let o = or-false (s .delivered i (codeAt t j)) (d (codeAt t j)) (sym (delivered-is (codeAt t j)) ∙ e) in
+          let o = or-false (s .delivered i (codeAt t j)) (d (codeAt t j)) (sym (delivered-after s i d (codeAt t j)) ∙ e) in
           rw (delivered-entry t c S j (omega arith), sym (same j l) ∙ o .1) refl
 
       unmarked : (j f : ℕ) → j < capacity → f < seats → (b : Bool) → has S j ≡ b → (not (has S j) && held c j) ≡ false → marksOf (deliver t c S) j f ≡ absent
@@ -98,7 +94,7 @@ module _ (n : ℕ) (t : Table) (s : State) (g : Related n t s) (r o : ℕ) (read
       fifoDeliver-invariant (system n) (forward (system n) s r x) (f .invariant) r o x (w .process) (f .next) (f .unread) (f .mine)
 
   slot : Slot (t .count) (codeAt t) x
-  slot = record { slot = nextSlot t (suc r) (suc o); below = next-slot-run t (g .formed) (g .sized) (suc r) (suc o) a; is = refl }
+  slot = record { slot = nextSlot t (suc r) (suc o); below = next-slot-run t (g .formed) (suc r) (suc o) a; is = refl }
 
   slot-of : (i y : ℕ) → R .position i y < top → Slot (t .count) (codeAt t) y
   unfolding fifoDeliver

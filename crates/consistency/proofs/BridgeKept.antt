@@ -11,9 +11,9 @@ use Rattle.model.specs.declared.Controller.{Controller}
 use Rattle.model.specs.declared.Table.{Table}
 use Rattle.invariant.proofs.Stores.{at-same, at-other}
 use Rattle.invariant.proofs.Logs.{Entered, last, earlier, entered}
-use Rattle.broadcast.specs.State.{State, update, append}
+use Rattle.broadcast.specs.State.{State, append}
 use Rattle.broadcast.specs.Events.{Event as Step}
-use Rattle.broadcast.proofs.Updates.{update-case}
+use Rattle.broadcast.proofs.Updates.{update-same}
 use Rattle.broadcast.proofs.Logs.{Entry, appended, unchanged, position-after, position-kept, grow-case}
 use Rattle.broadcast.proofs.Invariant.{Invariant}
 use Rattle.broadcast.proofs.Settled.{SameView, append-view}
@@ -25,9 +25,6 @@ pub record Followed (n : ℕ) (t : Table) (s : State) : Type 0 where
   pub after : State
   pub legal : Step (system n) s after
   pub related : Related n t after
-
-pub update-same : {A : Type 0} (f : ℕ → A) (c : ℕ) (b : A) → update f c b c ≡ b
-update-same f c b = update-case (λ a. a ≡ b) f c b c (λ _. refl) (λ d. absurd (d refl))
 
 module _ (n slots : ℕ) (name : ℕ → ℕ) (s u : State) (i : ℕ) (c : Controller) where
   pub same-shows : SameView (system n) s u i → u .readable i ≡ s .readable i → ((o : ℕ) → u .read i o ≡ s .read i o) → u .running i ≡ s .running i

@@ -5,19 +5,16 @@ use mathlib.Core.List.{List}
 use Prim.Native.Nat.{ℕ, suc, _-_, _<_}
 use native.Mathlib.Omega.{arith}
 use native.Mathlib.Decide.{ℕ-discrete}
-use lib.ListN.{length, getD, set, getD-replicate}
+use lib.ListN.{length, getD, set}
 use lib.Seq.{getD-set-same, getD-set-other}
 use Rattle.lists.proofs.Tests.{contradiction}
-use Rattle.model.specs.Tables.{seats, capacity, absent, mark, blank, noPending, forwardNumber, withMark}
+use Rattle.model.specs.Tables.{seats, capacity, absent, mark, noPending, forwardNumber, withMark}
 use Rattle.model.specs.Sized.{SizedController}
 use Rattle.model.specs.declared.ForwardNumber.{ForwardNumber}
 use Rattle.model.specs.declared.Pending.{Pending}
 use Rattle.model.specs.declared.Controller.{Controller}
 use Rattle.invariant.proofs.Stores.{marked-held, marked-entry-other, marked-held-other}
 use Rattle.consistency.proofs.Bridge.{marksOf, AbsentMarks}
-
-pub blank-absent : (f : ℕ) → f < seats → mark blank f ≡ absent
-blank-absent f l = ap (λ (x : ForwardNumber). x .0) (getD-replicate seats f (forwardNumber absent) (forwardNumber 0) l)
 
 -- Slot j is in the buffer with the marks ms, and with mark k of process o.
 module _ (c : Controller) (z : SizedController c) (j : ℕ) (room : j < capacity) (ms : List ForwardNumber) (sized : length ms ≡ seats)

@@ -15,11 +15,11 @@ use Rattle.model.specs.declared.Event.{Event}
 use Rattle.model.specs.declared.Event.the-variants.{Send, Handover, Stop}
 use Rattle.model.proofs.Allowed.{SendAllowed, HandoverAllowed, StopAllowed, send-allowed, handover-allowed, stop-allowed}
 use Rattle.invariant.proofs.Sizes.{fresh-sized}
+use Rattle.invariant.proofs.Buffering.{blank-absent}
 use Rattle.invariant.proofs.Kept.{at-fresh, fresh-well-formed}
 use Rattle.broadcast.specs.State.{State, fresh as freshState}
 use Rattle.broadcast.proofs.Runs.{fresh-all}
 use Rattle.consistency.proofs.Bridge.{top, system, codeAt, Shows, Related}
-use Rattle.consistency.proofs.BridgeMarks.{blank-absent}
 use Rattle.consistency.proofs.BridgeKept.{Followed}
 use Rattle.consistency.proofs.BridgeSend.{send-followed}
 use Rattle.consistency.proofs.BridgeHandover.{handover-followed}

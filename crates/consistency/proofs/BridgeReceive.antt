@@ -9,8 +9,8 @@ use native.Mathlib.Omega.{arith}
 use native.Mathlib.Decide.{ℕ-discrete}
 use lib.ListN.{length, getD}
 use lib.Dec.{leb}
-use borrow.Author.Tests.{leb-true, leb-false}
-use Rattle.lists.proofs.Tests.{contradiction, refuted}
+use borrow.Author.Tests.{leb-true}
+use Rattle.lists.proofs.Tests.{contradiction}
 use Rattle.model.specs.Tables.{seats, capacity, yes?, at, message, slotAt, place, entry, held, applied, highest, blank, forwardNumber, withEntry, withRead, withMark}
 use Rattle.model.specs.Events.{nextSlot, received}
 use Rattle.model.specs.Sized.{SizedController}
@@ -22,7 +22,8 @@ use Rattle.model.proofs.WellFormed.{GoodController}
 use Rattle.model.proofs.Allowed.{HandoverAllowed}
 use Rattle.invariant.proofs.Stores.{seated, at-sized, read-place, read-place-other, forward-case}
 use Rattle.invariant.proofs.Logs.{log-shorter}
-use Rattle.invariant.proofs.Receiving.{applied-number, next-slot-run}
+use Rattle.invariant.proofs.Buffering.{blank-absent}
+use Rattle.invariant.proofs.Receiving.{above-unapplied, next-slot-run}
 use Rattle.invariant.proofs.Highest.{highest-applied}
 use Rattle.broadcast.specs.State.{State, append, fifoDeliver, forward, receive}
 use Rattle.broadcast.specs.Events.{MayRead}
@@ -32,7 +33,7 @@ use Rattle.broadcast.proofs.Legal.{forward-case as abstract-forward-case, recei
 use Rattle.broadcast.proofs.Stored.{Stored, passed-stored, marked-stored}
 use Rattle.broadcast.proofs.Theorem.{passed-over}
 use Rattle.consistency.proofs.Bridge.{top, senderOf, system, codeAt, marksOf, AbsentMarks, Shows, Related}
-use Rattle.consistency.proofs.BridgeMarks.{blank-absent, marked-new, marked-given, marked-other, marked-absent}
+use Rattle.consistency.proofs.BridgeMarks.{marked-new, marked-given, marked-other, marked-absent}
 use Rattle.consistency.proofs.BridgeKept.{append-readable, append-log}
 use Rattle.consistency.proofs.BridgeFacts.{few, lacking, codes-differ, code-owner, logged-position, position-logged, length-is}
 
@@ -60,7 +61,7 @@ module _ (n : ℕ) (t : Table) (s : State) (g : Related n t s) (r o : ℕ) (read
   size = at-sized t (suc r) (g .sized) (seated (g .formed .few) (a .receiver))
 
   run : j < t .count
-  run = next-slot-run t (g .formed) (g .sized) (suc r) (suc o) a
+  run = next-slot-run t (g .formed) (suc r) (suc o) a
 
   place-is : s .read r o ≡ place c (suc o)
   place-is = h .places o owner
@@ -90,8 +91,7 @@ module _ (n : ℕ) (t : Table) (s : State) (g : Related n t s) (r o : ℕ) (read
       (omega (arith, l, g .numbered j run, g .numbered x (y .below), y .number, ap (λ z. s .position (z - 1) (codeAt t x)) (y .sender))))
 
   unapplied : leb (message t j .number .0) (highest c (message t j .sender)) ≡ false → applied c j ≡ false
-  unapplied e = refuted (applied c j) (λ p.
-      omega (arith, applied-number t (suc r) c good j run (g .formed .senders j run) p, leb-false (message t j .number .0) (highest c (message t j .sender)) e))
+  unapplied = above-unapplied t (g .formed) (suc r) c good j run
 
   held-logged : held c j ≡ true → s .position r m < top
   held-logged e = omega (arith, logged-position n t (g .formed) s v r (suc r) c good h j (good .exact (a .running) j run ∙ rw e refl), good .log-room)

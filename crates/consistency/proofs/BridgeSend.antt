@@ -6,7 +6,6 @@ use Prim.Native.Nat.{ℕ, suc, _+_, _-_, _<_}
 use native.Mathlib.Numerals.{add-one}
 use native.Mathlib.Omega.{arith}
 use Rattle.lists.proofs.Tests.{refuted}
-use Rattle.lists.proofs.Below.{distinct-room}
 use Rattle.model.specs.Tables.{seats, capacity, absent, at, message, slotAt, held, applied, blank, messageNumber, messageOf, withController, withMessage, withEntry, withMark}
 use Rattle.model.specs.Events.{send, next}
 use Rattle.model.specs.Sized.{SizedController}
@@ -19,6 +18,8 @@ use Rattle.model.proofs.WellFormed.{GoodController}
 use Rattle.model.proofs.Allowed.{SendAllowed}
 use Rattle.invariant.proofs.Stores.{seated, at-sized, message-new, message-old}
 use Rattle.invariant.proofs.Sizes.{message-sized, next-sized}
+use Rattle.invariant.proofs.Logs.{log-within}
+use Rattle.invariant.proofs.Buffering.{blank-absent}
 use Rattle.invariant.proofs.Sending.{Added, new, old, added, send-well-formed}
 use Rattle.broadcast.specs.State.{State, append}
 use Rattle.broadcast.specs.Events.{MayBroadcast, broadcasts}
@@ -30,7 +31,7 @@ use Rattle.broadcast.proofs.Slots.{Slot}
 use Rattle.broadcast.proofs.Runs.{event-kept}
 use Rattle.consistency.proofs.Bridge.{top, code, system, code-sender, code-many, code-injective, codeAt, marksOf, AbsentMarks, Shows, Related}
 use Rattle.consistency.proofs.BridgeFacts.{few, lacking, length-is}
-use Rattle.consistency.proofs.BridgeMarks.{blank-absent, marked-new, marked-given, marked-other, marked-absent}
+use Rattle.consistency.proofs.BridgeMarks.{marked-new, marked-given, marked-other, marked-absent}
 use Rattle.consistency.proofs.BridgeKept.{Followed, append-readable, append-position, append-log, append-others, append-slot-of, append-numbered, replaced-shows}
 
 module _ (n : ℕ) (t : Table) (s : State) (g : Related n t s) (c : ℕ) (p : Payload) (process : c < n) (a : SendAllowed t (suc c) p) where
@@ -61,7 +62,7 @@ module _ (n : ℕ) (t : Table) (s : State) (g : Related n t s) (c : ℕ) (p : Pa
 
   -- a log is no longer than the run, which has room for one message more
   room : x .length < capacity
-  room = omega (arith, a .room, distinct-room (t .count) (x .length) (slotAt x) (good .log-run) (λ i j hi l e. omega (arith, good .log-once i j hi (omega arith) e)))
+  room = omega (arith, a .room, log-within t (suc c) x good)
 
   log-length : s .length c ≡ x .length
   log-length = length-is n t (g .formed) s v c (suc c) x good h (a .running)

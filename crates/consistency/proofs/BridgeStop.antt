@@ -13,13 +13,13 @@ use Rattle.invariant.proofs.Stopping.{stop-well-formed}
 use Rattle.invariant.proofs.Sizes.{next-sized}
 use Rattle.broadcast.specs.State.{State, crash}
 use Rattle.broadcast.specs.Events.{MayCrash, crashes}
-use Rattle.broadcast.proofs.Updates.{update-other}
+use Rattle.broadcast.proofs.Updates.{update-same, update-other}
 use Rattle.broadcast.proofs.Settled.{crash-view}
 use Rattle.broadcast.proofs.Stored.{crash-stored}
 use Rattle.broadcast.proofs.Runs.{event-kept}
 use Rattle.consistency.proofs.Bridge.{system, codeAt, marksOf, Shows, Related}
 use Rattle.consistency.proofs.BridgeFacts.{few}
-use Rattle.consistency.proofs.BridgeKept.{Followed, update-same, same-shows, replaced-shows}
+use Rattle.consistency.proofs.BridgeKept.{Followed, same-shows, replaced-shows}
 
 module _ (n : ℕ) (t : Table) (s : State) (g : Related n t s) (c k : ℕ) (process : c < n) (a : StopAllowed t (suc c) k) where
   may-crash : MayCrash (system n) s c k

@@ -6,10 +6,10 @@ use mathlib.Core.List.{List, [], _∷_, _++_, append-nil, append-assoc}
 use native.Mathlib.Omega.{arith}
 use lib.ListN.{length, take, drop, length-append, length-drop}
 use lib.Seq.{take-append-seam}
-use lib.Dec.{eqb, leb}
-use borrow.Author.Tests.{eqb-true, eqb-false, eq-eqb, ne-eqb, leb-true}
+use lib.Dec.{eqb}
+use borrow.Author.Tests.{eqb-true, eq-eqb, ne-eqb}
 use Rattle.lists.specs.Build.{overlay}
-use Rattle.lists.proofs.Tests.{and-right, cond-case, cond-true, cond-false}
+use Rattle.lists.proofs.Tests.{cond-case, cond-true, cond-false}
 use Rattle.model.specs.Tables.{fresh}
 use Rattle.model.specs.Events.{total}
 use Rattle.model.specs.Records.{byte, behind, decode}
@@ -17,10 +17,12 @@ use Rattle.model.specs.Questions.{ask, firstNo, fileQuestions, lineFits}
 use Rattle.model.specs.Calls.{step, receiver}
 use Rattle.model.specs.Runs.{Progress, records, progress, ran, fileRun}
 use Rattle.model.specs.declared.Table.{Table}
+use Rattle.model.proofs.Allowed.{line-asked, file-allowed}
+use Rattle.model.proofs.Steps.{accepted-rest, file-run-ran}
 use Rattle.consistency.specs.Demand3.{listed, split, lineSet, recordEntries, fileEntries}
 use Rattle.consistency.proofs.Decimal.{Every}
 use Rattle.consistency.proofs.Reader.{Readable, Row, rowLine, rowBytes, rowSet, Ascending, reads-back}
-use Rattle.consistency.proofs.Steps.{first-yes, Accepted, Accepts, accepted-rest, accepted-shorter, accepts-bound, tableAfter, Along, played}
+use Rattle.consistency.proofs.Steps.{Accepted, Accepts, accepted-shorter, accepts-bound, tableAfter, Along, played}
 
 -- THE LINES OF A RUN
 
@@ -50,12 +52,8 @@ verdict e t s room space l =
 
 passed : (e : ℕ) (t : Table) (s : List ℕ) (room space : ℕ) (l : List ℕ) → verdict e t s room space l ≡ 0
     → Accepted t s room × (length (lineIn e t s room) ≤ space - length l)
-unfolding verdict firstNo lineFits
-passed e t s room space l =
-    let k = step t s room .answer .number in
-    cond-case (λ n. n ≡ 0 → (k ≡ 0) × (length (lineIn e t s room) ≤ space - length l)) (eqb k 0) _ _
-    (λ q v. (eqb-true k 0 q, leb-true (length (lineIn e t s room)) (space - length l) (first-yes 15 _ [] v)))
-    (λ q v. absurd (eqb-false k 0 q v))
+unfolding verdict
+passed e t s room space l = line-asked (step t s room .answer .number) (length (lineIn e t s room)) (space - length l)
 
 cond-left {ℓ} : {A : Type ℓ} (b : Bool) (x y z : A) → (b ≡ true → x ≡ y) → cond b x z ≡ cond b y z
 cond-left true x y z e = e refl
@@ -206,16 +204,6 @@ progress-fuel s room space g =
 
 -- THE FILE RUN past question 3
 
-file-length : (s : List ℕ) → firstNo (fileQuestions s) ≡ 0 → length s ≤ 65535
-unfolding fileQuestions
-file-length s e =
-    leb-true (length s) 65535 (and-right (leb 2 (length s)) (leb (length s) 65535) (first-yes 0 _ _ e))
-
-file-run-ran : (s listing scratch : List ℕ) → firstNo (fileQuestions s) ≡ 0
-    → fileRun s listing scratch ≡ ran (progress s (length scratch) (length listing)) listing scratch
-unfolding fileRun
-file-run-ran s listing scratch e = cond-true _ _ (eq-eqb (firstNo (fileQuestions s)) 0 e)
-
 -- the bytes written are the lines
 ran-written : (p : Progress) (listing scratch : List ℕ)
     → take (ran p listing scratch .answer .written) (ran p listing scratch .listing) ≡ p .lines
@@ -255,4 +243,4 @@ pub file-entries : (s listing scratch : List ℕ) → firstNo (fileQuestions s) 
 unfolding fileEntries
 file-entries s listing scratch e a =
     whole-run-read s (length scratch) (fileRun s listing scratch .answer .events) (fileRun s listing scratch .answer .table) _
-    (file-length s e) (file-run-whole s listing scratch e) a
+    (file-allowed s e .short) (file-run-whole s listing scratch e) a

@@ -1,14 +1,13 @@
 -- The ledger and the table say the same after an accepted handover, on a table where what is passed over was applied.
 -- Assumes nothing.
 use mathlib.Core.Path.{_≡_, refl, sym, ap, ap₂, _∙_}
-use mathlib.Core.Bool.{Bool, true, false, not, _||_, cond}
+use mathlib.Core.Bool.{Bool, true, false, not, _||_, cond, or-comm}
 use mathlib.Core.Logic.{inl, inr}
 use mathlib.Core.List.{List, [], _∷_, _++_, append-nil, append-assoc}
 use Prim.Native.Nat.{ℕ, _+_, _-_, _<_}
 use native.Mathlib.Omega.{arith}
 use lib.ListN.{getD}
 use lib.Dec.{leb}
-use borrow.Author.Tests.{leb-false}
 use Rattle.lists.proofs.Tests.{cond-case, cond-true, cond-false, or-cases, or-left, or-right, refuted, contradiction}
 use Rattle.model.specs.Tables.{seats, yes?, at, message, place, held, applied, highest, noName, withController, withEntry, withRead}
 use Rattle.model.specs.Delivery.{has as member}
@@ -25,7 +24,7 @@ use Rattle.invariant.proofs.Stores.{seated, at-sized, read-place, read-place-ot
 use Rattle.invariant.proofs.Sizes.{read-sized}
 use Rattle.invariant.proofs.Logs.{log-shorter}
 use Rattle.invariant.proofs.Delivering.{delivered-applied}
-use Rattle.invariant.proofs.Receiving.{applied-number, next-slot-run, receiver-good}
+use Rattle.invariant.proofs.Receiving.{above-unapplied, next-slot-run, receiver-good}
 use Rattle.invariant.proofs.Counter.{received-applied, applied-new}
 use Rattle.consistency.specs.Demand3.{has, Distinct, join, put, Ledger, carried}
 use Rattle.consistency.proofs.Names.{has-append, distinct-append}
@@ -61,17 +60,13 @@ module _ (t : Table) (l : Ledger) (k : Recorded (t .n) t l) (r o : ℕ) (a : Han
   at-seat = seated (k .formed .few)
 
   entry-run : nextSlot t r o < t .count
-  entry-run = next-slot-run t (k .formed) (k .sized) r o a
+  entry-run = next-slot-run t (k .formed) r o a
 
   abbrev passed : Bool
   passed = leb (message t (nextSlot t r o) .number .0) (highest (at t r) (message t (nextSlot t r o) .sender))
 
   unapplied : passed ≡ false → applied (at t r) (nextSlot t r o) ≡ false
-  unapplied above = refuted (applied (at t r) (nextSlot t r o)) (λ e. omega (
-    arith,
-    applied-number t r (at t r) good (nextSlot t r o) entry-run (k .formed .senders (nextSlot t r o) entry-run) e,
-    leb-false (message t (nextSlot t r o) .number .0) (highest (at t r) (message t (nextSlot t r o) .sender)) above,
-  ))
+  unapplied = above-unapplied t (k .formed) r (at t r) good (nextSlot t r o) entry-run
 
   in-log : inLog (at t r) (nextSlot t r o) ≡ (held (at t r) (nextSlot t r o) || applied (at t r) (nextSlot t r o))
   in-log = good .exact (a .running) (nextSlot t r o) entry-run
@@ -148,12 +143,6 @@ module _ (t : Table) (l : Ledger) (k : Recorded (t .n) t l) (r o : ℕ) (a : Han
       ∙ or-comm (applied (at t r) j) (member (handoverSet t r o) j)
       ∙ ap (λ (xs : List ℕ). member (handoverSet t r o) j || yes? (getD xs j 0)) (sym (received-applied t r o))
       ∙ sym (delivered-applied t (received t r o) (handoverSet t r o) j (omega (arith, k .formed .counted)))
-    where
-      or-comm : (x y : Bool) → (x || y) ≡ (y || x)
-      or-comm true true = refl
-      or-comm true false = refl
-      or-comm false true = refl
-      or-comm false false = refl
 
   once-after : Distinct (join (l .sets r ++ (answer ∷ [])))
   once-after =

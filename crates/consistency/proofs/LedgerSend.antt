@@ -23,7 +23,7 @@ use Rattle.model.proofs.WellFormed.{Named, GoodController, WellFormed}
 use Rattle.model.proofs.Allowed.{SendAllowed}
 use Rattle.invariant.proofs.Stores.{seated, at-same, at-sized, message-new, message-old}
 use Rattle.invariant.proofs.Sizes.{message-sized}
-use Rattle.invariant.proofs.Logs.{entered-in-log, entered-in-log-other}
+use Rattle.invariant.proofs.Logs.{log-within, entered-in-log, entered-in-log-other}
 use Rattle.invariant.proofs.Sending.{Added, new, old, added}
 use Rattle.consistency.specs.Demand3.{name, has, join, Sent, Ledger, amountIn, carried}
 use Rattle.consistency.proofs.SlotNames.{nameAt, logNames, length-log, log-entered, log-added}
@@ -55,8 +55,7 @@ module _ (t : Table) (l : Ledger) (k : Recorded (t .n) t l) (c : ℕ) (p : Paylo
   sender-sized = at-sized t c (k .sized) (at-seat (a .sender))
 
   log-room : at t c .length < capacity
-  unfolding next send withController withMessage
-  log-room = omega (arith, rw (at-same (longer t c p) c (senderAfter t c) longer-sized (at-seat (a .sender))) at (w .controllers c (a .sender) .log-room))
+  log-room = omega (arith, a .room, log-within t c (at t c) (good c (a .sender)))
 
   log-length : length (l .log c) ≡ at t c .length
   log-length = ap length (k .logs c (a .sender)) ∙ length-log t (at t c)

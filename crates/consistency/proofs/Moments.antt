@@ -7,19 +7,18 @@ use Prim.Native.Nat.{ℕ, _-_, _≤_, _<_}
 use native.Mathlib.Omega.{arith}
 use lib.ListN.{length}
 use lib.Dec.{eqb}
-use borrow.Author.Tests.{eqb-true}
-use Rattle.lists.proofs.Tests.{cond-case}
+use borrow.Author.Tests.{ne-eqb}
 use Rattle.model.specs.Tables.{seats, fresh}
 use Rattle.model.specs.Events.{next, appliedBy, namesOf}
 use Rattle.model.specs.Records.{decode}
 use Rattle.model.specs.Questions.{firstNo, eventQuestions, stepQuestions}
-use Rattle.model.specs.Calls.{Outcome, accepted, refused, settled, step, event, look}
+use Rattle.model.specs.Calls.{Outcome, accepted, refused, step, event, look}
 use Rattle.model.specs.declared.Name.{Name}
 use Rattle.model.specs.declared.Table.{Table}
 use Rattle.model.proofs.WellFormed.{Named}
 use Rattle.model.proofs.Tested.{tested}
 use Rattle.model.proofs.Allowed.{step-asked}
-use Rattle.invariant.proofs.Kept.{event-number-step}
+use Rattle.model.proofs.Steps.{step-case, event-number-step}
 use Rattle.broadcast.specs.State.{State, fresh as freshState}
 use Rattle.broadcast.specs.Events.{Run, start as stays, then}
 use Rattle.broadcast.proofs.Theorem.{passed-over}
@@ -123,7 +122,7 @@ module _ {n : ℕ} {s₀ : State} {t : Table} {l : Ledger} (m : Moment n s₀ t 
         state = f .after;
         run = then (m .run) (f .legal);
         related = f .related;
-        recorded = next-recorded n t l (m .recorded) (gapless-passed-over t (g .sized) (g .formed) (gapless g)) s q;
+        recorded = next-recorded n t l (m .recorded) (gapless-passed-over t (g .formed) (gapless g)) s q;
       }
 
   -- what a call with this outcome leaves
@@ -131,11 +130,9 @@ module _ {n : ℕ} {s₀ : State} {t : Table} {l : Ledger} (m : Moment n s₀ t 
   Leaves s o = Moment n s₀ (o .table) (cond (eqb (o .answer .number) 0) (carried l s (decode s) (o .answer .names)) l)
 
   step-moment : (s : List ℕ) (room : ℕ) → Leaves s (step t s room)
-  unfolding step settled accepted refused
+  unfolding accepted refused
   step-moment s room =
-      cond-case (Leaves s) (eqb (firstNo (stepQuestions t s room)) 0) (accepted t s) (refused t s (firstNo (stepQuestions t s room)))
-      (λ e. carried-moment s (step-asked t s room (eqb-true _ 0 e) .1))
-      (λ e. rw e m)
+      step-case t s room (Leaves s) (λ e. carried-moment s (step-asked t s room e .1)) (λ d. rw (ne-eqb (firstNo (stepQuestions t s room)) 0 d) m)
 
   pub entry-moment : (e : Entry) → Gives t e → Moment n s₀ (tableAfter t e) (after l e)
   unfolding Gives tableAfter after

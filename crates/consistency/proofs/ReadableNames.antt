@@ -2,17 +2,16 @@
 use Prim.Native.Nat.{ℕ, zero, suc, _<_}
 use mathlib.Core.List.{List, [], _∷_}
 use native.Mathlib.Omega.{arith}
-use lib.Dec.{eqb}
 use Rattle.lists.proofs.Tests.{cond-case}
 use Rattle.model.specs.Tables.{message}
 use Rattle.model.specs.Delivery.{Slots, has}
 use Rattle.model.specs.Events.{appliedBy, nameOf, earlier, insert, namesBelow, namesOf}
 use Rattle.model.specs.Records.{decode}
-use Rattle.model.specs.Questions.{firstNo, stepQuestions}
-use Rattle.model.specs.Calls.{Outcome, accepted, refused, settled, step}
+use Rattle.model.specs.Calls.{Outcome, accepted, refused}
 use Rattle.model.specs.declared.Name.{Name}
 use Rattle.model.specs.declared.Table.{Table}
 use Rattle.model.proofs.WellFormed.{WellFormed}
+use Rattle.model.proofs.Steps.{step-case}
 use Rattle.consistency.proofs.Decimal.{Every}
 use Rattle.consistency.proofs.Reader.{Readable}
 use Rattle.consistency.proofs.FileRuns.{NamesReadable}
@@ -31,9 +30,9 @@ names-below P (suc k) t S h =
     cond-case (Every P) (has S k) _ _ (λ _. every-insert P (nameOf (message t k)) (namesBelow k t S) (h k (omega arith)) r) (λ _. r)
 
 pub well-formed-readable : (t : Table) (s : List ℕ) (room : ℕ) → WellFormed t → NamesReadable t s room
-unfolding step settled accepted refused namesOf Every
+unfolding accepted refused namesOf Every
 well-formed-readable t s room w =
-    cond-case (λ (o : Outcome). Every Readable (o .answer .names)) (eqb (firstNo (stepQuestions t s room)) 0) _ _
+    step-case t s room (λ (o : Outcome). Every Readable (o .answer .names))
     (λ _. names-below Readable (t .count) t (appliedBy t (decode s))
     (λ k h. record { sender = omega (arith, w .few, w .senders k h .high); number = omega (arith, w .numbers k h .1) }))
     (λ _. tt)

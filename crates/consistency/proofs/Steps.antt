@@ -1,76 +1,40 @@
 -- The events of a file run one after another: what was asked of an accepted one, and what it leaves. Assumes nothing.
 use Prim.Native.Nat.{ℕ, zero, suc, _+_, _≤_, _<_}
-use mathlib.Core.Path.{_≡_, refl, sym, _∙_}
-use mathlib.Core.Bool.{Bool, true, false}
+use mathlib.Core.Path.{_≡_, _∙_}
 use mathlib.Core.List.{List, [], _∷_}
 use native.Mathlib.Omega.{arith}
 use lib.ListN.{length, length-drop}
-use lib.Dec.{eqb, ltb}
-use borrow.Author.Tests.{eqb-true, ltb-true}
-use Rattle.lists.proofs.Tests.{cond-case}
 use Rattle.model.specs.Records.{size, behind}
 use Rattle.model.specs.WellFormed.{wellFormed}
-use Rattle.model.specs.Questions.{Question, ask, firstNo, lentTable, recordQuestions, stepQuestions}
-use Rattle.model.specs.Calls.{Outcome, accepted, refused, settled, step, event}
+use Rattle.model.specs.Questions.{firstNo, lentTable, stepQuestions}
+use Rattle.model.specs.Calls.{step, event}
 use Rattle.model.specs.declared.Table.{Table}
+use Rattle.model.proofs.Allowed.{no-no}
+use Rattle.model.proofs.Steps.{step-number, event-number-step, accepted-rest, accepted-within}
 use Rattle.consistency.specs.Demand3.{Entry, listed}
 
--- QUESTIONS
-
--- no question is answered with no: then the first is answered with yes
-pub first-yes : (k : ℕ) (b : Bool) (qs : List Question) → firstNo (ask (suc k) b ∷ qs) ≡ 0 → b ≡ true
-unfolding firstNo
-first-yes k true qs e = refl
-first-yes k false qs e = absurd (omega arith)
-
--- and so are the others
-pub later-yes : (k : ℕ) (b : Bool) (qs : List Question) → firstNo (ask (suc k) b ∷ qs) ≡ 0 → firstNo qs ≡ 0
-unfolding firstNo
-later-yes k true qs e = e
-later-yes k false qs e = absurd (omega arith)
-
 -- ONE EVENT
-
-settled-number : (t : Table) (s : List ℕ) (k : ℕ) → settled t s k .answer .number ≡ k
-unfolding settled accepted refused
-settled-number t s k = cond-case (λ (o : Outcome). o .answer .number ≡ k) (eqb k 0) _ _ (λ e. sym (eqb-true k 0 e)) (λ _. refl)
-
-settled-rest : (t : Table) (s : List ℕ) (k : ℕ) → k ≡ 0 → settled t s k .answer .rest ≡ behind s
-unfolding settled accepted
-settled-rest t s k e = rw e
-
-behind-shorter : (t : Table) (s : List ℕ) (room : ℕ) → firstNo (stepQuestions t s room) ≡ 0 → length (behind s) < length s
-unfolding stepQuestions recordQuestions behind
-behind-shorter t s room e = omega (arith, ltb-true (size s) (length s) (first-yes 4 (ltb (size s) (length s)) _ e), length-drop (size s + 1) s)
-
-settled-shorter : (t : Table) (s : List ℕ) (room k : ℕ) → k ≡ 0 → firstNo (stepQuestions t s room) ≡ 0
-    → length (settled t s k .answer .rest) < length s
-settled-shorter t s room k e q = rw (settled-rest t s k e) (behind-shorter t s room q)
-
-pub step-number : (t : Table) (s : List ℕ) (room : ℕ) → step t s room .answer .number ≡ firstNo (stepQuestions t s room)
-unfolding step
-step-number t s room = settled-number t s (firstNo (stepQuestions t s room))
-
-pub accepted-rest-shorter : (t : Table) (s : List ℕ) (room : ℕ) → firstNo (stepQuestions t s room) ≡ 0
-    → length (step t s room .answer .rest) < length s
-unfolding step
-accepted-rest-shorter t s room e = settled-shorter t s room _ e e
-
-pub accepted-event-rest-shorter : (t : Table) (s : List ℕ) (room : ℕ) → firstNo (lentTable t ∷ stepQuestions t s room) ≡ 0
-    → length (event t s room .answer .rest) < length s
-unfolding event lentTable
-accepted-event-rest-shorter t s room e = settled-shorter t s room _ e (later-yes 3 (wellFormed t) (stepQuestions t s room) e)
 
 -- an event of a file run that is accepted
 abbrev pub Accepted : Table → List ℕ → ℕ → Type 0
 Accepted t s room = step t s room .answer .number ≡ 0
 
-pub accepted-rest : (t : Table) (s : List ℕ) (room : ℕ) → Accepted t s room → step t s room .answer .rest ≡ behind s
-unfolding step
-accepted-rest t s room e = settled-rest t s (firstNo (stepQuestions t s room)) (sym (step-number t s room) ∙ e)
-
 pub accepted-shorter : (t : Table) (s : List ℕ) (room : ℕ) → Accepted t s room → length (behind s) < length s
-accepted-shorter t s room e = behind-shorter t s room (sym (step-number t s room) ∙ e)
+unfolding behind
+accepted-shorter t s room e = omega (arith, accepted-within t s room e, length-drop (size s + 1) s)
+
+pub accepted-rest-shorter : (t : Table) (s : List ℕ) (room : ℕ) → firstNo (stepQuestions t s room) ≡ 0
+    → length (step t s room .answer .rest) < length s
+accepted-rest-shorter t s room e =
+    let a = step-number t s room ∙ e in
+    rw (accepted-rest t s room a) (accepted-shorter t s room a)
+
+pub accepted-event-rest-shorter : (t : Table) (s : List ℕ) (room : ℕ) → firstNo (lentTable t ∷ stepQuestions t s room) ≡ 0
+    → length (event t s room .answer .rest) < length s
+unfolding lentTable
+accepted-event-rest-shorter t s room e =
+    let q = no-no 3 (wellFormed t) (stepQuestions t s room) e in
+    rw (event-number-step t s room (q .0)) (accepted-rest-shorter t s room (q .1))
 
 -- SEVERAL EVENTS, each with the table and the bytes that the last one left
 

@@ -1,7 +1,7 @@
 -- Sums over names: of any weight, and of the amounts, they depend on the members alone; what a look shows is the sum over what was
 -- applied. Assumes nothing.
 use mathlib.Core.Path.{_≡_, refl, sym, ap, ap₂, subst, _∙_}
-use mathlib.Core.Bool.{Bool, true, false, not, _||_, cond}
+use mathlib.Core.Bool.{Bool, true, false, cond, Bool·not-not}
 use mathlib.Core.Logic.{_↔_}
 use mathlib.Core.List.{List, [], _∷_, _++_, map}
 use Prim.Native.Nat.{ℕ, zero, suc, _+_, _<_}
@@ -9,9 +9,10 @@ use native.Mathlib.Omega.{arith}
 use lib.IntN.{ℤ, pos, negℤ, _+ℤ_, _-ℤ_, +ℤ-assoc, +ℤ-comm, negℤ-+ℤ, pos-+ℤ-pos}
 use Rattle.lists.specs.Below.{sum}
 use Rattle.lists.specs.Build.{tabulateFrom, tabulate}
-use Rattle.lists.proofs.Tests.{and-left, refuted, contradiction, bool-eq, or-false}
+use Rattle.lists.proofs.Tests.{and-left, refuted, contradiction, bool-eq, or-false, cond-apart}
 use Rattle.lists.proofs.Below.{sum-ext, sum-plus}
 use Rattle.lists.proofs.Grow.{tabulate-suc, map-tabulate}
+use Rattle.lists.proofs.Clipped.{sum-none}
 use Rattle.model.specs.Tables.{at, message}
 use Rattle.model.specs.Events.{weigh, total}
 use Rattle.model.specs.WellFormed.{inLog}
@@ -25,11 +26,6 @@ use Rattle.consistency.proofs.SlotNames.{nameAt, slots-differ}
 use Rattle.consistency.proofs.Ledger.{balance, sentAt, senderAt, Slot, Recorded, slot-sent, sent-slot, distinct-sent}
 
 -- WEIGHTS
-
-sum-none : (n : ℕ) → sum n (λ _. 0) ≡ 0
-unfolding sum
-sum-none zero = refl
-sum-none (suc n) = omega (arith, sum-none n)
 
 module _ (v : Payload → ℕ) where
   -- the weight of a message, and the sum of the weights of messages
@@ -74,17 +70,11 @@ module _ (v : Payload → ℕ) where
 
     weights-sum : (n : ℕ) → Differ n → (ms : List Name) → Distinct ms → weights (tabulate n f) ms ≡ sum n (λ j. cond (has (f j .name) ms) (v (f j .payload)) 0)
     unfolding weights has Distinct
-    weights-sum n d [] e = sym (sum-none n)
+    weights-sum n d [] e = sum-none _ n (λ _. refl)
     weights-sum n d (m ∷ ms) e =
         ap₂ _+_ (weight-sum n d m) (weights-sum n d ms (e .1))
         ∙ sym (sum-plus n _ _)
-        ∙ sum-ext n _ _ (λ j h. rw (same-sym m (f j .name)) (go (same (f j .name) m) (has (f j .name) ms) (v (f j .payload)) (λ q. rw (same-true (f j .name) m q) (e .0))))
-      where
-        go : (a b : Bool) (k : ℕ) → (a ≡ true → b ≡ false) → cond a k 0 + cond b k 0 ≡ cond (a || b) k 0
-        go true true k f = contradiction refl (f refl)
-        go true false k f = omega arith
-        go false true k f = omega arith
-        go false false k f = refl
+        ∙ sum-ext n _ _ (λ j h. rw (same-sym m (f j .name)) (sym (cond-apart (same (f j .name) m) (has (f j .name) ms) (v (f j .payload)) (λ q. rw (same-true (f j .name) m q) (e .0)))))
 
 -- AMOUNTS
 
@@ -175,11 +165,7 @@ module _ (n : ℕ) (t : Table) (l : Ledger) (k : Recorded n t l) where
   pub has-remaining : (j : ℕ) → j < t .count → has (nameAt t j) (remaining l) ≡ inLog (at t (senderAt t j)) j
   has-remaining j h =
       has-less (nameAt t j) (sentNames l) (l .cut)
-      ∙ rw (slot-sent n t l k (nameAt t j) (record { which = j; below = h; named = refl }), k .cut j h) (not-not (inLog (at t (senderAt t j)) j))
-    where
-      not-not : (b : Bool) → not (not b) ≡ b
-      not-not true = refl
-      not-not false = refl
+      ∙ rw (slot-sent n t l k (nameAt t j) (record { which = j; below = h; named = refl }), k .cut j h) (Bool·not-not (inLog (at t (senderAt t j)) j))
 
   pub remaining-slot : (m : Name) → has m (remaining l) ≡ true → Slot t m
   remaining-slot m e = sent-slot n t l k m (and-left (has m (sentNames l)) _ (sym (has-less m (sentNames l) (l .cut)) ∙ e))

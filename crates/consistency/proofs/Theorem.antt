@@ -11,13 +11,13 @@ use lib.ListN.{length, take, drop, take-append-drop}
 use lib.Seq.{take-take}
 use lib.IntN.{ℤ}
 use lib.Dec.{eqb, leb, ltb}
-use borrow.Author.Tests.{eqb-true, ltb-true, leb-true}
+use borrow.Author.Tests.{eqb-true}
 use Rattle.lists.specs.Below.{count}
-use Rattle.lists.proofs.Tests.{cond-case, bool-eq, and-left, and-right}
+use Rattle.lists.proofs.Tests.{cond-case, bool-eq}
 use Rattle.lists.proofs.Below.{count-ext}
 use Rattle.model.specs.Sized.{Sized}
 use Rattle.model.specs.Tables.{seats, yes?, at, message, place, applied as appliedAt, fresh, Named}
-use Rattle.model.specs.Events.{next, appliedBy, weigh, total}
+use Rattle.model.specs.Events.{appliedBy, weigh, total}
 use Rattle.model.specs.Records.{byte, behind, decode}
 use Rattle.model.specs.WellFormed.{named, wellFormed, inLog}
 use Rattle.model.specs.Questions.{firstNo, lentTable, controllerCount, fileQuestions, stepQuestions}
@@ -29,9 +29,10 @@ use Rattle.model.specs.declared.Table.{Table}
 use Rattle.model.specs.declared.LookAnswer.{LookAnswer}
 use Rattle.model.proofs.WellFormed.{WellFormed}
 use Rattle.model.proofs.Tested.{named-at, named-of, facts, tested}
-use Rattle.model.proofs.Allowed.{no-no}
+use Rattle.model.proofs.Allowed.{no-no, count-asked, file-allowed}
+use Rattle.model.proofs.Steps.{settled-case, step-number, step-is-accepted, event-number-step, accepted-asked, accepted-table}
 use Rattle.invariant.proofs.Sizes.{fresh-sized}
-use Rattle.invariant.proofs.Kept.{fresh-well-formed, step-kept, event-number-step}
+use Rattle.invariant.proofs.Kept.{fresh-well-formed, step-kept}
 use Rattle.invariant.proofs.Refusals.{step-number-range}
 use Rattle.broadcast.specs.State.{State, fresh as freshState}
 use Rattle.broadcast.specs.Delivery.{Subset}
@@ -42,7 +43,7 @@ use Rattle.consistency.proofs.BridgeFacts.{few, shown, applied-delivere
 use Rattle.consistency.proofs.SlotNames.{nameAt, length-log}
 use Rattle.consistency.proofs.Ledger.{Recorded, names-sent}
 use Rattle.consistency.proofs.Sums.{weights, weights-weigh, same-members-same-weights, look-amounts, has-remaining, remaining-slot, distinct-remaining, look-remaining}
-use Rattle.consistency.proofs.Steps.{Accepted, Along, Accepts, played, tableAfter as tableAfterSteps, step-number, invariant-along}
+use Rattle.consistency.proofs.Steps.{Accepted, Along, Accepts, played, tableAfter as tableAfterSteps, invariant-along}
 use Rattle.consistency.proofs.FileRuns.{NamesReadable, file-run-whole, file-entries}
 use Rattle.consistency.proofs.ReadableNames.{well-formed-readable}
 use Rattle.consistency.proofs.Moments.{Took, Gives, Course, tableAfter, tableAt, transcript-course, course-append, course-first, course-rest, ledger-append, Moment, first-moment, moment-after, restarted}
@@ -100,9 +101,9 @@ comparable {n} {s₀} {t} {u} {l} {k} m m′ c d = go (naming n c) (naming n d)
 module _ {n : ℕ} {s₀ : State} {t : Table} {l : Ledger} (m : Moment n s₀ t l) where
   -- what a call answers was sent before it
   answer-sent : (s : List ℕ) (o : Outcome) → (k : ℕ) → o ≡ settled t s k → (x : Name) → has x (o .answer .names) ≡ true → has x (sentNames l) ≡ true
-  unfolding settled accepted refused has
+  unfolding accepted refused has
   answer-sent s o k e x =
-      rw e (cond-case (λ (o : Outcome). has x (o .answer .names) ≡ true → has x (sentNames l) ≡ true) (eqb k 0) (accepted t s) (refused t s k)
+      rw e (settled-case (λ (o : Outcome). has x (o .answer .names) ≡ true → has x (sentNames l) ≡ true) t s k
       (λ _ h. names-sent n t l (m .recorded) (appliedBy t (decode s)) x h) (λ _ h. absurd (false≢true h)))
 
   entry-sent : (e : Entry) → Gives t e → (x : Name) → has x (setOf e) ≡ true → has x (sentNames l) ≡ true
@@ -273,37 +274,22 @@ module _ (n : ℕ) (low : 0 < n) (high : n ≤ seats) (head : List Entry) (c : C
 
 -- DEMAND 3
 
--- an accepted number of controllers
-counted : (n : ℕ) → firstNo (controllerCount n ∷ []) ≡ 0 → (0 < n) × (n ≤ seats)
-unfolding controllerCount
-counted n e =
-    let a = no-no 2 (ltb 0 n && leb n seats) [] e .0 in
-    (ltb-true 0 n (and-left (ltb 0 n) (leb n seats) a), leb-true n seats (and-right (ltb 0 n) (leb n seats) a))
-
 -- Every list of calls from the table of an accepted request for a fresh one.
 pub demand-3 : (n : ℕ) → freshTable n .number ≡ 0 → (calls : List Call) → Consistent n [] (transcript (freshTable n .table)) calls
 unfolding freshTable
 demand-3 n e calls =
-    let b = counted n e in
+    let b = count-asked n e in
     rw e (unfold tableAt in (course-consistent n (b .0) (b .1) [] (unfold Course in tt) calls))
 
 -- A FILE RUN AT THE HEAD
 
-step-accepted : (t : Table) (s : List ℕ) (room : ℕ) → Accepted t s room → step t s room ≡ accepted t s
-unfolding step settled
-step-accepted t s room e = rw (sym (step-number t s room) ∙ e)
-
--- what an accepted step leaves and answers
-step-table : (t : Table) (s : List ℕ) (room : ℕ) → Accepted t s room → step t s room .table ≡ next t (decode s)
-unfolding accepted
-step-table t s room e = ap (λ (o : Outcome). o .table) (step-accepted t s room e)
-
+-- what an accepted step answers
 step-took : (t : Table) (s : List ℕ) (room : ℕ) → Accepted t s room → Took t s (step t s room .answer .names)
 unfolding accepted
 step-took t s room e = record {
   room = room;
-  asked = sym (step-number t s room) ∙ e;
-  names = ap (λ (o : Outcome). o .answer .names) (step-accepted t s room e);
+  asked = accepted-asked t s room e;
+  names = ap (λ (o : Outcome). o .answer .names) (step-is-accepted t s room (accepted-asked t s room e));
 }
 
 played-course : (k : ℕ) (t : Table) (s : List ℕ) (room : ℕ) → Accepts k t s room
@@ -311,7 +297,7 @@ played-course : (k : ℕ) (t : Table) (s : List ℕ) (room : ℕ) → Accepts k 
 unfolding Along played Course tableAt tableAfter tableAfterSteps Gives
 played-course zero t s room a = (tt, refl)
 played-course (suc k) t s room a =
-    let q = step-table t s room (a .0) in
+    let q = accepted-table t s room (a .0) in
     let r = played-course k (step t s room .table) (behind s) room (a .1) in
     let es = played k (step t s room .table) (behind s) room in (
       (step-took t s room (a .0), subst (λ u. Course u es) q (r .0)),
@@ -346,10 +332,6 @@ past-3 s listing scratch =
     cond-case (λ (o : RunOutcome). o .answer .number ≢ 1 → o .answer .number ≢ 2 → o .answer .number ≢ 3 → firstNo (fileQuestions s) ≡ 0)
     (eqb (firstNo (fileQuestions s)) 0) _ _ (λ e _ _ _. eqb-true _ 0 e) (λ _. file-numbers s)
 
-file-counted : (s : List ℕ) → firstNo (fileQuestions s) ≡ 0 → (0 < byte s 1) × (byte s 1 ≤ seats)
-unfolding fileQuestions
-file-counted s e = counted (byte s 1) (no-no 1 _ _ (no-no 0 _ _ e .1) .1)
-
 -- Every list that a file run whose number is not 1, 2 or 3 heads.
 pub demand-3-file : (s listing scratch : List ℕ)
     → fileRun s listing scratch .answer .number ≢ 1 → fileRun s listing scratch .answer .number ≢ 2 → fileRun s listing scratch .answer .number ≢ 3
@@ -360,9 +342,9 @@ demand-3-file s listing scratch a b c calls =
     let n = byte s 1 in
     let o = fileRun s listing scratch in
     let w = file-run-whole s listing scratch e in
-    let h = file-counted s e in
+    let h = file-allowed s e in
     let es = played (o .answer .events) (fresh n) (drop 2 s) (length scratch) in
     let p = played-course (o .answer .events) (fresh n) (drop 2 s) (length scratch) (w .accepts) in
-    let f = file-entries s listing scratch e (steps-readable (o .answer .events) n (drop 2 s) (length scratch) (h .0) (h .1) (w .accepts)) in
+    let f = file-entries s listing scratch e (steps-readable (o .answer .events) n (drop 2 s) (length scratch) (h .some) (h .few) (w .accepts)) in
     subst (λ t. Consistent n (fileEntries s o) (transcript t) calls) (p .1 ∙ sym (w .leaves))
-    (subst (λ xs. Consistent n xs (transcript (tableAt (fresh n) es)) calls) (sym f) (course-consistent n (h .0) (h .1) es (p .0) calls))
+    (subst (λ xs. Consistent n xs (transcript (tableAt (fresh n) es)) calls) (sym f) (course-consistent n (h .some) (h .few) es (p .0) calls))

@@ -1,34 +1,26 @@
 -- What the code of an event relies on where no question refuses it: its controllers have seats, and its stores have room. Assumes nothing.
 use mathlib.Core.Path.{_≡_, refl, _∙_}
 use mathlib.Core.Bool.{false}
-use Prim.Native.Nat.{ℕ, _+_, _≤_, _<_}
+use Prim.Native.Nat.{ℕ, _+_, _<_}
 use native.Mathlib.Omega.{arith}
 use native.Mathlib.Decide.{decLt}
 use lib.ListN.{length, List·getD-eq-default}
 use lib.Dec.{leb}
-use borrow.Author.Tests.{leb-false}
-use Rattle.lists.proofs.Tests.{refuted, contradiction}
-use Rattle.lists.proofs.Below.{distinct-room}
-use Rattle.model.specs.Tables.{seats, capacity, at, message, slotAt, place, held, applied, highest, withRead}
+use Rattle.lists.proofs.Tests.{contradiction}
+use Rattle.model.specs.Tables.{seats, capacity, at, message, place, held, highest, withRead}
 use Rattle.model.specs.Events.{nextSlot, received, handoverSet}
 use Rattle.model.specs.Sized.{Sized}
 use Rattle.model.specs.declared.Payload.{Payload}
-use Rattle.model.specs.declared.Controller.{Controller}
 use Rattle.model.specs.declared.Table.{Table}
 use Rattle.model.specs.declared.Event.the-variants.{Send, Handover, Stop}
-use Rattle.model.proofs.WellFormed.{Named, GoodController, WellFormed}
+use Rattle.model.proofs.WellFormed.{Named, WellFormed}
 use Rattle.model.proofs.Tested.{facts}
 use Rattle.model.proofs.Largest.{applicable-largest}
 use Rattle.model.proofs.Allowed.{HandoverAllowed, send-allowed, handover-allowed, stop-allowed}
 use Rattle.invariant.proofs.Stores.{seated}
-use Rattle.invariant.proofs.Logs.{log-shorter}
-use Rattle.invariant.proofs.Receiving.{applied-number, received-good, applied-held}
+use Rattle.invariant.proofs.Logs.{log-within, log-shorter}
+use Rattle.invariant.proofs.Receiving.{above-unapplied, next-slot-run, received-good, applied-held}
 use Rattle.events.specs.Conditions.{Accepted, Receivable, OfRun}
-
--- a log names no message twice, so it is no longer than the run
-log-short : (t : Table) (i : ℕ) (c : Controller) → GoodController t i c → c .length ≤ t .count
-log-short t i c g =
-    distinct-room (t .count) (c .length) (slotAt c) (g .log-run) (λ j k hj l p. omega (arith, g .log-once j k hj (omega arith) p))
 
 pub record Sendable (t : Table) (c : ℕ) : Type 0 where
   pub sender : Named seats c
@@ -42,7 +34,7 @@ sendable t c p q =
     record {
       sender = seated (w .few) (a .sender);
       slot = a .room;
-      room = omega (arith, log-short t c (at t c) (w .controllers c (a .sender)));
+      room = omega (arith, log-within t c (at t c) (w .controllers c (a .sender)));
     }
 
 pub stoppable : (t : Table) (c k : ℕ) → Accepted t (Stop c k) → Named seats c
@@ -56,26 +48,16 @@ pub record Handable (t : Table) (r o : ℕ) : Type 0 where
   pub entry : Receivable (withRead (at t r) o) (message t (nextSlot t r o)) (nextSlot t r o) o (place (at t r) o + 1)
 
 module _ (t : Table) (w : WellFormed t) (r o : ℕ) (a : HandoverAllowed t r o) where
-  slot-run : nextSlot t r o < t .count
-  unfolding nextSlot
-  slot-run = w .controllers o (a .owner) .log-run (place (at t r) o) (a .unread)
-
   -- what is neither applied nor buffered is not in the log, so that the log has room
   entry-room : (s : ℕ) → s < t .count → leb (message t s .number .0) (highest (at t r) (message t s .sender)) ≡ false
       → held (at t r) s ≡ false → at t r .length < capacity
   entry-room s h above out =
       let g = w .controllers r (a .receiver) in
-      let unapplied : applied (at t r) s ≡ false =
-      refuted (applied (at t r) s) (λ p. omega (
-        arith,
-        applied-number t r (at t r) g s h (w .senders s h) p,
-        leb-false (message t s .number .0) (highest (at t r) (message t s .sender)) above,
-      )) in
-      omega (arith, w .counted, log-shorter t r (at t r) g s h (g .exact (a .running) s h ∙ rw (out, unapplied) refl))
+      omega (arith, w .counted, log-shorter t r (at t r) g s h (g .exact (a .running) s h ∙ rw (out, above-unapplied t w r (at t r) g s h above) refl))
 
   handable-facts : Handable t r o
   handable-facts =
-      let s = slot-run in
+      let s = next-slot-run t w r o a in
       let p = w .controllers o (a .owner) .log-room in
       record {
         receiver = seated (w .few) (a .receiver);

@@ -1,14 +1,14 @@
 -- What an event does to its subject is all that it does to the table, but for a send's message; and what the subject then shows is its total. Assumes nothing.
-use mathlib.Core.Path.{_≡_, refl, sym, ap, _∙_}
-use mathlib.Core.List.{List, [], _∷_}
+use mathlib.Core.Path.{_≡_, refl, ap}
+use mathlib.Core.List.{[]}
 use mathlib.Core.Logic.{_⊎_, inl, inr}
-use Prim.Native.Nat.{ℕ, zero, suc, _+_, _-_, _≤_}
+use Prim.Native.Nat.{ℕ, _+_, _-_, _≤_}
 use native.Mathlib.Omega.{arith}
 use lib.ListN.{set}
 use denote.Enum.Declared.{tagOf}
 use Rattle.lists.proofs.Clipped.{any-none}
-use Rattle.model.specs.Tables.{seats, capacity, at, message, messageNumber, messageOf, withController, withMessage}
-use Rattle.model.specs.Events.{send, handover, next, appliedBy, weigh, total, namesBelow, namesOf, finishes}
+use Rattle.model.specs.Tables.{seats, capacity, message, messageNumber, messageOf, withController, withMessage}
+use Rattle.model.specs.Events.{send, handover, next, appliedBy, weigh, total, namesOf, finishes}
 use Rattle.model.specs.Calls.{receiver}
 use Rattle.model.specs.Runs.{lineOf}
 use Rattle.model.specs.Sized.{Sized}
@@ -21,6 +21,7 @@ use Rattle.model.specs.declared.Answer.{Answer}
 use Rattle.model.specs.declared.Event.the-variants.{Send, Handover, Stop}
 use Rattle.model.proofs.Event as event
 use Rattle.model.proofs.WellFormed.{Named}
+use Rattle.model.proofs.Lengths.{none-named}
 use Rattle.invariant.proofs.Stores.{at-same}
 use Rattle.questions.specs.Sums.{shown}
 use Rattle.events.specs.declared.Effect.{Effect}
@@ -43,15 +44,6 @@ subject-seated t (Handover r o) q = handable t r o q .receiver
 subject-seated t (Stop c k) q = stoppable t c k q
 
 -- AN EVENT THAT APPLIES NOTHING
-
-no-names : (k : ℕ) (t : Table) → namesBelow k t [] ≡ []
-unfolding namesBelow
-no-names zero t = refl
-no-names (suc k) t = no-names k t
-
-none-named : (t : Table) → namesOf t [] ≡ []
-unfolding namesOf
-none-named t = no-names (t .count) t
 
 pub quiet-effect : (t : Table) (e : Event) → appliedBy t e ≡ [] → (a : Answer) → a ≡ noSet 0 → (c : Controller) → c ≡ after t e
     → _≡_ {A = Effect} (record { answer = a; controller = c }) (effectOf t e)

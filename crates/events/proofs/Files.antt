@@ -1,5 +1,5 @@
 -- Questions 1 to 3 from the tests that the code makes, and the file run behind them. Assumes nothing.
-use mathlib.Core.Path.{_≡_, refl, sym, ap, _∙_}
+use mathlib.Core.Path.{_≡_, refl, sym, ap, subst, _∙_}
 use mathlib.Core.Logic.{_≢_}
 use mathlib.Core.Bool.{true, false, _&&_}
 use mathlib.Core.List.{List}
@@ -7,13 +7,14 @@ use Prim.Native.Nat.{ℕ}
 use lib.ListN.{length}
 use lib.Dec.{leb, ltb}
 use borrow.Author.Tests.{eq-eqb, ne-eqb}
-use Rattle.lists.proofs.Tests.{cond-true, cond-false}
+use Rattle.lists.proofs.Tests.{cond-false}
 use Rattle.model.specs.Tables.{blankTable}
 use Rattle.model.specs.Records.{byte}
 use Rattle.model.specs.Questions.{firstNo, controllerCount, fileQuestions}
 use Rattle.model.specs.Runs.{RunOutcome, progress, ran, fileRun}
 use Rattle.model.specs.declared.Table.{Table}
 use Rattle.model.specs.declared.RunAnswer.{RunAnswer}
+use Rattle.model.proofs.Steps.{file-run-ran}
 use Rattle.events.specs.Stepped.{runOf, runListing, runScratch}
 
 module _ (s : List ℕ) where
@@ -46,16 +47,8 @@ module _ (s l w : List ℕ) (k : ℕ) (e : k ≡ firstNo (fileQuestions s)) wher
   unfolding runOf runListing runScratch
   run-refused n x b = rw b (ap (λ (o : RunOutcome). o .answer) (run-isnt n), ap (λ (o : RunOutcome). o .listing) (run-isnt n), ap (λ (o : RunOutcome). o .scratch) (run-isnt n))
 
-  run-is : k ≡ 0 → fileRun s l w ≡ ran (progress s (length w) (length l)) l w
-  unfolding fileRun
-  run-is z = cond-true _ _ (eq-eqb (firstNo (fileQuestions s)) 0 (sym e ∙ z))
-
   pub run-ran : k ≡ 0 → (r : RunAnswer) (m v : List ℕ)
       → (let o = ran (progress s (length w) (length l)) l w in (r ≡ o .answer) × (m ≡ o .listing) × (v ≡ o .scratch))
       → (r ≡ runOf s l w) × (m ≡ runListing s l w) × (v ≡ runScratch s l w)
   unfolding runOf runListing runScratch
-  run-ran z r m v h = (
-    h .0 ∙ ap (λ (o : RunOutcome). o .answer) (sym (run-is z)),
-    h .1 ∙ ap (λ (o : RunOutcome). o .listing) (sym (run-is z)),
-    h .2 ∙ ap (λ (o : RunOutcome). o .scratch) (sym (run-is z)),
-  )
+  run-ran z r m v h = subst (λ (o : RunOutcome). (r ≡ o .answer) × (m ≡ o .listing) × (v ≡ o .scratch)) (sym (file-run-ran s l w (sym e ∙ z))) h

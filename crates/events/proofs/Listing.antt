@@ -14,9 +14,9 @@ use Rattle.model.specs.Delivery.{Slots, has}
 use Rattle.model.specs.Events.{nameOf, insert, namesBelow, namesOf}
 use Rattle.model.specs.declared.Name.{Name}
 use Rattle.model.specs.declared.Table.{Table}
+use Rattle.model.proofs.Lengths.{length-insert}
 use Rattle.events.specs.declared.Names.{Names}
 use Rattle.events.specs.Ordering.{listed, withName}
-use Rattle.events.proofs.Ordering.{length-insert}
 
 -- one name more over an array of names is as over what stood there before them
 overlay-insert : (x : Name) (xs s : List Name) → overlay (insert x (take (length xs) (overlay xs s))) (overlay xs s) ≡ overlay (insert x xs) s

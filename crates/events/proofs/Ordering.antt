@@ -1,6 +1,6 @@
 -- The order of names, a name's place among others, and a name put in its place. Assumes nothing.
 use mathlib.Core.Path.{_≡_, refl, sym, ap, ap₂, _∙_}
-use mathlib.Core.Bool.{Bool, true, false, _||_}
+use mathlib.Core.Bool.{true, false, or-false}
 use mathlib.Core.List.{List, [], _∷_, _++_}
 use Prim.Native.Nat.{ℕ, zero, suc, _+_, _-_, _≤_, _<_}
 use native.Mathlib.Nat.{not-suc-le-zero, le-of-suc-le-suc}
@@ -10,11 +10,12 @@ use lib.ListN.{length, getD, set, take, drop, length-append, length-drop}
 use lib.Seq.{length-take-le, take-add, take-at, drop-at, take-suc-set, take-set-lt, set-append-left, append-snoc, getD-take, getD-drop, paste, paste-zero, paste-suc}
 use lib.Dec.{ltb}
 use borrow.Author.Tests.{le-ltb, eq-eqb, ne-eqb}
-use Rattle.lists.proofs.Tests.{cond-case, cond-true, cond-false}
+use Rattle.lists.proofs.Tests.{cond-true, cond-false}
 use Rattle.lists.specs.Build.{overlay}
 use Rattle.model.specs.Tables.{capacity, noName}
 use Rattle.model.specs.Events.{earlier, insert}
 use Rattle.model.specs.declared.Name.{Name}
+use Rattle.model.proofs.Lengths.{length-insert}
 use Rattle.events.specs.declared.Names.{Names}
 use Rattle.events.specs.Ordering.{PlaceOf}
 
@@ -27,10 +28,6 @@ earlier-same a b e = rw (le-ltb (a .sender) (b .sender) (omega arith), eq-eqb (a
 pub earlier-other : (a b : Name) → (a .sender ≡ b .sender → ⊥) → earlier a b ≡ ltb (a .sender) (b .sender)
 unfolding earlier
 earlier-other a b d = rw (ne-eqb (a .sender) (b .sender) d) (or-false (ltb (a .sender) (b .sender)))
-  where
-    or-false : (p : Bool) → (p || false) ≡ p
-    or-false true = refl
-    or-false false = refl
 
 -- A NAME'S PLACE
 
@@ -60,12 +57,6 @@ insert-at x (y ∷ ys) (suc p) a =
       past = λ i h. a .past (suc i) (omega arith);
       here = λ h. a .here (omega arith);
     }))
-
-pub length-insert : (x : Name) (xs : List Name) → length (insert x xs) ≡ suc (length xs)
-unfolding insert
-length-insert x [] = refl
-length-insert x (y ∷ ys) =
-    cond-case (λ (r : List Name). length r ≡ suc (suc (length ys))) (earlier x y) (x ∷ y ∷ ys) (y ∷ insert x ys) (λ _. refl) (λ _. ap suc (length-insert x ys))
 
 -- THE NAMES BEHIND IT MOVED UP
 

@@ -1,60 +1,42 @@
 -- The loop of a file run: what holds before each record, that a record keeps it, and what it says at the end. Assumes nothing.
 use mathlib.Core.Path.{_≡_, refl, sym, ap, ap₂, _∙_}
 use mathlib.Core.Logic.{_≢_, inl, inr}
-use mathlib.Core.Bool.{Bool, true, false, _&&_, cond}
+use mathlib.Core.Bool.{true, cond}
 use mathlib.Core.List.{List, [], _∷_, _++_, append-assoc}
 use Prim.Native.Nat.{ℕ, zero, suc, _+_, _-_, _≤_, _<_}
 use native.Mathlib.Omega.{arith}
 use lib.ListN.{length, take, drop, length-append, length-drop, drop-of-length-le}
 use lib.Seq.{take-append-seam, drop-append-seam, drop-drop}
-use lib.Dec.{eqb, leb, ltb}
-use borrow.Author.Tests.{eqb-true, eqb-false, eq-eqb, ne-eqb, leb-true, ltb-true, le-leb}
-use Rattle.lists.specs.Build.{over, overlay}
-use Rattle.lists.proofs.Tests.{cond-case, cond-true, cond-false, decided, and-left, and-right}
+use lib.Dec.{eqb}
+use borrow.Author.Tests.{eqb-true, eqb-false, eq-eqb, ne-eqb, le-leb}
+use Rattle.lists.specs.Build.{overlay}
+use Rattle.lists.proofs.Tests.{cond-case, cond-true, cond-false, decided}
 use Rattle.lists.proofs.Build.{length-over, over-over, length-overlay}
-use Rattle.model.specs.Tables.{seats, fresh}
-use Rattle.model.specs.Events.{total, namesBelow, namesOf}
-use Rattle.model.specs.Events.{next as following}
+use Rattle.model.specs.Tables.{fresh}
+use Rattle.model.specs.Events.{next as following, namesBelow, namesOf}
 use Rattle.model.specs.Records.{byte, size, behind, decode}
 use Rattle.model.specs.Sized.{Sized}
 use Rattle.model.specs.WellFormed.{wellFormed}
-use Rattle.model.specs.Questions.{ask, firstNo, lineFits, controllerCount, fileQuestions, scratchRoom, stepQuestions}
-use Rattle.model.specs.Calls.{Outcome, receiver, accepted, refused, settled, step, cleared, scratchAfter}
+use Rattle.model.specs.Questions.{firstNo, lineFits, fileQuestions}
+use Rattle.model.specs.Calls.{Outcome, accepted, refused, step, cleared, scratchAfter}
 use Rattle.model.specs.Runs.{lineOf, Progress, records, progress, ran}
 use Rattle.model.specs.declared.Table.{Table}
-use Rattle.model.specs.declared.Name.{Name}
 use Rattle.model.specs.declared.RunAnswer.{RunAnswer}
 use Rattle.model.proofs.Tested.{tested}
-use Rattle.model.proofs.Allowed.{no-no, step-asked}
+use Rattle.model.proofs.Allowed.{line-asked, file-allowed}
+use Rattle.model.proofs.Steps.{step-case, accepted-table, accepted-rest, accepted-within, accepted-room}
 use Rattle.invariant.proofs.Sizes.{fresh-sized}
 use Rattle.invariant.proofs.Kept.{fresh-well-formed, step-kept}
 use Rattle.events.specs.declared.Cursor.{Cursor}
 use Rattle.events.specs.Turns.{lineAt, verdict, ended, turned, turnedListing}
-use Rattle.events.proofs.Turning.{step-number, accepted-within, verdict-accepted, fit}
+use Rattle.events.proofs.Turning.{verdict-accepted}
 
 -- ONE RECORD OF THE DEFINITION
 
-settled-rest : (t : Table) (s : List ℕ) (k : ℕ) → k ≡ 0 → settled t s k .answer .rest ≡ behind s
-unfolding settled accepted
-settled-rest t s k e = rw e
-
-accepted-rest : (t : Table) (s : List ℕ) (room : ℕ) → step t s room .answer .number ≡ 0 → step t s room .answer .rest ≡ behind s
-unfolding step
-accepted-rest t s room e = settled-rest t s (firstNo (stepQuestions t s room)) (sym (step-number t s room) ∙ e)
-
-settled-table : (t : Table) (s : List ℕ) (k : ℕ) → k ≡ 0 → settled t s k .table ≡ following t (decode s)
-unfolding settled accepted
-settled-table t s k e = rw e
-
-accepted-table : (t : Table) (s : List ℕ) (room : ℕ) → step t s room .answer .number ≡ 0 → step t s room .table ≡ following t (decode s)
-unfolding step
-accepted-table t s room e = settled-table t s (firstNo (stepQuestions t s room)) (sym (step-number t s room) ∙ e)
-
-verdict-passed : (i : ℕ) (t : Table) (b : List ℕ) (room space : ℕ) → verdict i t b room space ≡ 0 → step t b room .answer .number ≡ 0
-unfolding verdict firstNo
-verdict-passed i t b room space =
-    let k = step t b room .answer .number in
-    cond-case (λ n. n ≡ 0 → k ≡ 0) (eqb k 0) _ _ (λ q _. eqb-true k 0 q) (λ _ e. e)
+verdict-passed : (i : ℕ) (t : Table) (b : List ℕ) (room space : ℕ) → verdict i t b room space ≡ 0
+    → (step t b room .answer .number ≡ 0) × (length (lineAt i t b room) ≤ space)
+unfolding verdict
+verdict-passed i t b room space = line-asked (step t b room .answer .number) (length (lineAt i t b room)) space
 
 -- the record that a run of the definition ends with
 abbrev at-end : ℕ → ℕ → Table → List ℕ → Progress
@@ -68,7 +50,7 @@ record-on f i t [] room space l h v = absurd (omega arith)
 record-on f i t (y ∷ b) room space l h v =
     cond-true _ _ (eq-eqb (verdict i t (y ∷ b) room (space - length l)) 0 v)
     ∙ ap (λ (r : List ℕ). records f (step t (y ∷ b) room .table) r room space (i + 1) (l ++ lineAt i t (y ∷ b) room))
-    (accepted-rest t (y ∷ b) room (verdict-passed i t (y ∷ b) room (space - length l) v))
+    (accepted-rest t (y ∷ b) room (verdict-passed i t (y ∷ b) room (space - length l) v .0))
 
 record-off : (f : ℕ) (i : ℕ) (t : Table) (b : List ℕ) (room space : ℕ) (l : List ℕ) → 0 < length b → verdict i t b room (space - length l) ≢ 0
     → records (suc f) t b room space i l ≡ at-end (verdict i t b room (space - length l)) i t l
@@ -109,18 +91,10 @@ length-leaves e w = cond-case (λ (v : List ℕ). length v ≡ length w) (eqb e 
 leaves-cleared : (e : ℕ) (w : List ℕ) → 4096 ≤ length w → cleared (leaves e w) ≡ cleared w
 leaves-cleared e w h = cond-case (λ (v : List ℕ). cleared v ≡ cleared w) (eqb e 0) w (cleared w) (λ _. refl) (λ _. cleared-again w h)
 
-accepted-room : (t : Table) (s : List ℕ) (room : ℕ) → step t s room .answer .number ≡ 0 → 4096 ≤ room
-unfolding scratchRoom
-accepted-room t s room z = leb-true 4096 room (no-no 14 (leb 4096 room) [] (step-asked t s room (sym (step-number t s room) ∙ z) .2) .0)
-
 -- where no message was sent no line is listed
-settled-quiet : (t : Table) (s : List ℕ) (k : ℕ) → t .count ≡ 0 → settled t s k .answer .names ≡ []
-unfolding settled accepted refused namesOf namesBelow
-settled-quiet t s k z = cond-case (λ (o : Outcome). o .answer .names ≡ []) (eqb k 0) _ _ (λ _. rw z refl) (λ _. refl)
-
 step-quiet : (t : Table) (s : List ℕ) (room : ℕ) → t .count ≡ 0 → step t s room .answer .names ≡ []
-unfolding step
-step-quiet t s room z = settled-quiet t s (firstNo (stepQuestions t s room)) z
+unfolding accepted refused namesOf namesBelow
+step-quiet t s room z = step-case t s room (λ (o : Outcome). o .answer .names ≡ []) (λ _. rw z refl) (λ _. refl)
 
 quiet-fits : (i : ℕ) (t : Table) (b : List ℕ) (room space : ℕ) → t .count ≡ 0 → step t b room .answer .number ≡ 0 → verdict i t b room space ≡ 0
 unfolding lineAt lineOf firstNo lineFits
@@ -148,13 +122,9 @@ pub record Running (s l₀ w₀ l w : List ℕ) (p : Cursor) (t : Table) : Type 
 
 pub run-begins : (s l w : List ℕ) → firstNo (fileQuestions s) ≡ 0 → (n : ℕ) → n ≡ byte s 1 → (x : Table) → x ≡ fresh n
     → Running s l w l w (record { number = 0; events = 0; at = 2; written = 0 }) x
-unfolding fileQuestions controllerCount overlay fresh progress
+unfolding overlay fresh progress
 run-begins s l w q n en x ex =
-    let long = no-no 0 (leb 2 (length s) && leb (length s) 65535) _ q in
-    let a = no-no 2 _ [] (no-no 1 _ _ (long .1) .1) .0 in
-    let two = leb-true 2 (length s) (and-left (leb 2 (length s)) (leb (length s) 65535) (long .0)) in
-    let low = ltb-true 0 (byte s 1) (and-left (ltb 0 (byte s 1)) (leb (byte s 1) seats) a) in
-    let high = leb-true (byte s 1) seats (and-right (ltb 0 (byte s 1)) (leb (byte s 1) seats) a) in
+    let a = file-allowed s q in
     let e : x ≡ fresh (byte s 1) = rw en at ex in
     record {
       lines = [];
@@ -165,9 +135,9 @@ run-begins s l w q n en x ex =
       listing = refl;
       scratch = refl;
       sized = rw e (fresh-sized (byte s 1));
-      well-formed = rw e (tested (fresh (byte s 1)) (fresh-well-formed (byte s 1) low high));
+      well-formed = rw e (tested (fresh (byte s 1)) (fresh-well-formed (byte s 1) (a .some) (a .few)));
       unsent = λ _. rw e refl;
-      within = two;
+      within = a .long;
       few = omega arith;
       going = λ _. refl;
       ahead = rw e refl;
@@ -216,7 +186,7 @@ module _ (s l₀ w₀ l w : List ℕ) (p : Cursor) (t : Table) (r : Running s l�
 
     module _ (v : verdict (p .events) t (drop (p .at) s) (length w) (length l - p .written) ≡ 0) where
       passed : step t (drop (p .at) s) (length w) .answer .number ≡ 0
-      passed = verdict-passed (p .events) t (drop (p .at) s) (length w) (length l - p .written) v
+      passed = verdict-passed (p .events) t (drop (p .at) s) (length w) (length l - p .written) v .0
 
       -- the run after it
       abbrev next : Cursor
@@ -228,9 +198,7 @@ module _ (s l₀ w₀ l w : List ℕ) (p : Cursor) (t : Table) (r : Running s l�
       }
 
       line-room : length (lineAt (p .events) t (drop (p .at) s) (length w)) ≤ length l - p .written
-      line-room =
-          leb-true (length (lineAt (p .events) t (drop (p .at) s) (length w))) (length l - p .written) (fit (length (lineAt (p .events) t (drop (p .at) s) (length w))) (length l - p .written)
-          (sym (verdict-accepted (p .events) t (drop (p .at) s) (length w) (length l - p .written) passed) ∙ v))
+      line-room = verdict-passed (p .events) t (drop (p .at) s) (length w) (length l - p .written) v .1
 
       next-ahead : progress s (length w₀) (length l₀)
           ≡ records (r .fuel - 1) (step t (drop (p .at) s) (length w) .table) (drop (next .at) s) (length w₀) (length l₀) (p .events + 1) (r .lines ++ lineAt (p .events) t (drop (p .at) s) (length w))

@@ -1,24 +1,20 @@
 -- From the questions of a step, and from what an event does, to what the calls answer and leave. Assumes nothing.
-use mathlib.Core.Path.{_≡_, refl, sym, ap, _∙_}
+use mathlib.Core.Path.{_≡_, refl, sym, _∙_}
 use mathlib.Core.Logic.{_≢_}
 use mathlib.Core.Bool.{Bool, true, false, cond}
 use mathlib.Core.List.{List, [], _∷_, _++_}
 use Prim.Native.Nat.{ℕ, _+_, _≤_, _<_}
 use native.Mathlib.Omega.{arith}
 use lib.ListN.{length}
-use lib.Dec.{eqb, leb}
-use borrow.Author.Tests.{ne-eqb, le-leb, lt-leb, leb-true}
-use Rattle.lists.proofs.Tests.{cond-true, cond-false}
+use borrow.Author.Tests.{ne-eqb, le-leb, lt-leb}
 use Rattle.model.specs.Records.{size, decode}
 use Rattle.model.specs.Events.{next}
 use Rattle.model.specs.WellFormed.{wellFormed}
 use Rattle.model.specs.Questions.{Question, firstNo, lentTable, recordQuestions, eventQuestions, scratchRoom, stepQuestions}
-use Rattle.model.specs.Calls.{Outcome, receiver, accepted, refused, settled, step, event, cleared, scratchAfter, answerOf}
+use Rattle.model.specs.Calls.{Outcome, accepted, refused, settled, step, event, cleared, scratchAfter, answerOf}
 use Rattle.model.specs.declared.Table.{Table}
-use Rattle.model.specs.declared.Event.{Event}
-use Rattle.model.specs.declared.Event.the-variants.{Send, Handover, Stop}
-use Rattle.model.proofs.Allowed.{Numbered, none, more, no-no, step-asked}
-use Rattle.invariant.proofs.Kept.{event-number-step}
+use Rattle.model.proofs.Allowed.{Numbered, none, more, no-no, event-numbered, record-numbered, step-asked}
+use Rattle.model.proofs.Steps.{step-number, step-is-accepted, step-is-refused, event-number-step, accepted-room}
 use Rattle.events.specs.declared.Stepped.{Stepped}
 use Rattle.events.specs.Conditions.{Accepted}
 use Rattle.events.specs.declared.Effect.{Effect}
@@ -43,16 +39,6 @@ first-passed none rs e = refl
 first-passed (more {k = k} {b = b} {qs = qs} n) rs e =
     let q = no-no k b qs e in
     rw (q .0) (first-passed n rs (q .1))
-
-event-numbered : (t : Table) (e : Event) → Numbered (eventQuestions t e)
-unfolding eventQuestions
-event-numbered t (Send c p) = more (more (more (more (more none))))
-event-numbered t (Handover r o) = more (more (more none))
-event-numbered t (Stop c k) = more (more (more none))
-
-record-numbered : (s : List ℕ) → Numbered (recordQuestions s)
-unfolding recordQuestions
-record-numbered s = more (more (more none))
 
 module _ (t : Table) (s : List ℕ) (room : ℕ) where
   pub record-refused : (k : ℕ) → k ≡ firstNo (recordQuestions s) → k ≢ 0 → k ≡ firstNo (stepQuestions t s room)
@@ -87,10 +73,7 @@ module _ (t : Table) (s : List ℕ) (room : ℕ) where
 -- what carrying out an event relies on
 pub allowed : (t : Table) (s : List ℕ) (room k : ℕ) → wellFormed t ≡ true → k ≡ firstNo (stepQuestions t s room) → k ≡ 0
     → Accepted t (decode s) × (4096 ≤ room)
-unfolding scratchRoom
-allowed t s room k w e z =
-    let a = step-asked t s room (sym e ∙ z) in
-    ((w, a .1), leb-true 4096 room (no-no 14 (leb 4096 room) [] (a .2) .0))
+allowed t s room k w e z = ((w, step-asked t s room (sym e ∙ z) .1), accepted-room t s room (step-number t s room ∙ sym e ∙ z))
 
 -- ANSWERS
 
@@ -105,23 +88,15 @@ module _ (t : Table) (s w : List ℕ) where
   unfolding steppedOf accepted effectOf answerOf scratchAfter
   accepted-answer o e d ed x ex v c = rw (e, ed, ex) (refl, c)
 
-  pub step-is-refused : (room k : ℕ) → k ≡ firstNo (stepQuestions t s room) → k ≢ 0 → step t s room ≡ refused t s k
-  unfolding step settled
-  step-is-refused room k e n = rw (← e) (cond-false _ _ (ne-eqb k 0 n))
-
-  pub step-is-accepted : (room k : ℕ) → k ≡ firstNo (stepQuestions t s room) → k ≡ 0 → step t s room ≡ accepted t s
-  unfolding step settled
-  step-is-accepted room k e z = rw (← e, z) refl
-
   pub step-refused : (k : ℕ) → k ≡ firstNo (stepQuestions t s (length w)) → k ≢ 0 → (r : Stepped) → r ≡ unchanged t k
       → (r ≡ steppedOf (step t s (length w)) s) × (w ≡ scratchAfter (step t s (length w) .answer .number) w)
-  step-refused k e n r d = refused-answer (step t s (length w)) k (step-is-refused (length w) k e n) n r d
+  step-refused k e n r d = refused-answer (step t s (length w)) k (rw e (step-is-refused t s (length w) (λ z. n (e ∙ z)))) n r d
 
   pub step-accepted : (k : ℕ) → k ≡ firstNo (stepQuestions t s (length w)) → k ≡ 0
       → (d : Effect) → d ≡ effectOf t (decode s) → (x : Table) → x ≡ next t (decode s) → (v : List ℕ) → v ≡ cleared w
       → (_≡_ {A = Stepped} (record { answer = d .answer; used = size s + 1; table = x }) (steppedOf (step t s (length w)) s))
       × (v ≡ scratchAfter (step t s (length w) .answer .number) w)
-  step-accepted k e z = accepted-answer (step t s (length w)) (step-is-accepted (length w) k e z)
+  step-accepted k e z = accepted-answer (step t s (length w)) (step-is-accepted t s (length w) (sym e ∙ z))
 
   event-is-refused : (room : ℕ) → wellFormed t ≡ false → event t s room ≡ refused t s 4
   unfolding event settled firstNo lentTable

@@ -1,52 +1,38 @@
 -- One record of a file run: from what the step and the line writer answer to the run after it. Assumes nothing.
-use mathlib.Core.Path.{_≡_, refl, sym, ap, ap₂, _∙_}
+use mathlib.Core.Path.{_≡_, refl, sym, ap, _∙_}
 use mathlib.Core.Logic.{_≢_}
-use mathlib.Core.Bool.{true, false, cond}
+use mathlib.Core.Bool.{true, false}
 use mathlib.Core.List.{List, [], _∷_, _++_, append-nil}
 use Prim.Native.Nat.{ℕ, _+_, _-_, _≤_, _<_}
 use native.Mathlib.Omega.{arith}
 use lib.ListN.{length, take, drop, length-drop, drop-of-length-le}
-use lib.Seq.{take-all, take-append-seam}
-use lib.Dec.{eqb, leb, ltb}
-use borrow.Author.Tests.{eqb-true, eq-eqb, ne-eqb, leb-true, ltb-true}
+use lib.Seq.{take-append-seam}
+use lib.Dec.{leb}
+use borrow.Author.Tests.{eq-eqb, ne-eqb, leb-true}
 use borrow.Rule.Slice.PartMut.{midOf, postOf, putMid, put-same}
 use Rattle.lists.specs.Build.{overlay}
-use Rattle.lists.proofs.Tests.{cond-case, cond-true, cond-false, refuted}
+use Rattle.lists.proofs.Tests.{cond-true, cond-false, refuted}
 use Rattle.model.specs.Events.{appliedBy, namesOf}
 use Rattle.model.specs.Records.{size, decode}
 use Rattle.model.specs.Sized.{Sized}
 use Rattle.model.specs.WellFormed.{wellFormed}
-use Rattle.model.specs.Questions.{firstNo, lineFits, recordQuestions, stepQuestions}
-use Rattle.model.specs.Calls.{Outcome, receiver, accepted, refused, settled, step, cleared, scratchAfter, answerOf}
+use Rattle.model.specs.Questions.{firstNo, lineFits, stepQuestions}
+use Rattle.model.specs.Calls.{receiver, accepted, step, cleared, scratchAfter, answerOf}
 use Rattle.model.specs.Runs.{lineOf}
 use Rattle.model.specs.declared.Controller.{Controller}
 use Rattle.model.specs.declared.Table.{Table}
-use Rattle.model.proofs.Allowed.{no-no, step-asked}
+use Rattle.model.proofs.Allowed.{no-no}
+use Rattle.model.proofs.Steps.{step-number, step-is-accepted, accepted-within}
+use Rattle.records.proofs.Cuts.{part-rest}
 use Rattle.listing.specs.declared.Put.{Put}
 use Rattle.listing.specs.Writing.{putAnswer, tailAfter, Wrote}
 use Rattle.questions.specs.Sums.{shown}
 use Rattle.events.specs.declared.Effect.{Effect}
 use Rattle.events.specs.declared.Cursor.{Cursor}
-use Rattle.events.specs.Conditions.{Accepted}
 use Rattle.events.specs.Effects.{after, Leaves, effectOf}
 use Rattle.events.specs.Turns.{lineAt, verdict, ended, turned, turnedListing}
 use Rattle.events.proofs.Effects.{line-shown}
-use Rattle.events.proofs.Stepping.{allowed, step-is-accepted}
-
--- AN ACCEPTED STEP
-
-settled-number : (t : Table) (s : List ℕ) (k : ℕ) → settled t s k .answer .number ≡ k
-unfolding settled accepted refused
-settled-number t s k = cond-case (λ (o : Outcome). o .answer .number ≡ k) (eqb k 0) _ _ (λ e. sym (eqb-true k 0 e)) (λ _. refl)
-
-pub step-number : (t : Table) (s : List ℕ) (room : ℕ) → step t s room .answer .number ≡ firstNo (stepQuestions t s room)
-unfolding step
-step-number t s room = settled-number t s (firstNo (stepQuestions t s room))
-
-pub accepted-within : (t : Table) (s : List ℕ) (room : ℕ) → step t s room .answer .number ≡ 0 → size s < length s
-unfolding recordQuestions
-accepted-within t s room z =
-    ltb-true (size s) (length s) (no-no 4 (ltb (size s) (length s)) _ (step-asked t s room (sym (step-number t s room) ∙ z) .0) .0)
+use Rattle.events.proofs.Stepping.{allowed}
 
 -- THE VERDICT
 
@@ -64,7 +50,7 @@ unfit : (a c : ℕ) → firstNo (lineFits a c ∷ []) ≢ 0 → leb a c ≡ fals
 unfolding firstNo lineFits
 unfit a c n = refuted (leb a c) (λ e. n (rw e refl))
 
-pub fit : (a c : ℕ) → firstNo (lineFits a c ∷ []) ≡ 0 → leb a c ≡ true
+fit : (a c : ℕ) → firstNo (lineFits a c ∷ []) ≡ 0 → leb a c ≡ true
 unfolding lineFits
 fit a c e = no-no 15 (leb a c) [] e .0
 
@@ -124,7 +110,7 @@ module _ (p : Cursor) (t : Table) (s l w : List ℕ) where
 
     line-said : lineOf (p .events + 1) (receiver (decode b)) (shown t (d .controller)) (take (d .answer .size) (d .answer .names)) ≡ lineAt (p .events) t b (length w)
     unfolding lineAt accepted
-    line-said = effect-line ∙ line-shown t (decode b) (p .events + 1) z (leaves .0) ∙ rw (step-is-accepted t b w (length w) k ek ez) refl
+    line-said = effect-line ∙ line-shown t (decode b) (p .events + 1) z (leaves .0) ∙ rw (step-is-accepted t b (length w) (sym ek ∙ ez)) refl
 
     module _ (h : p .written ≤ length l) (q : Put) (m : List ℕ)
         (ew : Wrote (lineOf (p .events + 1) (receiver (decode b)) (shown t (d .controller)) (take (d .answer .size) (d .answer .names)))
@@ -133,7 +119,7 @@ module _ (p : Cursor) (t : Table) (s l w : List ℕ) where
       x = lineAt (p .events) t b (length w)
 
       mid-is : midOf (p .written) space l ≡ drop (p .written) l
-      mid-is = take-all space (drop (p .written) l) (omega (arith, length-drop (p .written) l))
+      mid-is = part-rest (p .written) l
 
       wrote : Wrote x (drop (p .written) l) m q
       wrote = rw (line-said, mid-is) at ew

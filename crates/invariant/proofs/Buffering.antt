@@ -19,8 +19,11 @@ use Rattle.model.proofs.WellFormed.{GoodMark, GoodController}
 use Rattle.invariant.proofs.Stores.{marked-held, marked-marks, marked-entry-other, marked-held-other}
 use Rattle.invariant.proofs.Logs.{Entered, last, earlier, entered, entered-in-log, entered-in-log-other, not-in-log, log-shorter}
 
+pub blank-absent : (f : ℕ) → f < seats → mark blank f ≡ absent
+blank-absent f h = ap (λ (m : ForwardNumber). m .0) (getD-replicate seats f (forwardNumber absent) (forwardNumber 0) h)
+
 pub blank-marks : (f : ℕ) → f < seats → GoodMark (getD (blank .marks) f (forwardNumber 0) .0)
-blank-marks f h = inl (ap (λ (m : ForwardNumber). m .0) (getD-replicate seats f (forwardNumber absent) (forwardNumber 0) h))
+blank-marks f h = inl (blank-absent f h)
 
 -- A slot of the run that is not applied goes into the buffer, or stays there, with good marks.
 module _ (t : Table) (i : ℕ) (c : Controller) (g : GoodController t i c) (z : SizedController c) (counted : t .count ≤ capacity)

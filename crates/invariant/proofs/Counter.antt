@@ -1,7 +1,7 @@
 -- The counter of Algorithm 4: an accepted handover adds to the receiver's sum of any weight that of the set applied, and
 -- no other sum changes. Assumes nothing.
 use mathlib.Core.Path.{_≡_, refl, ap, _∙_}
-use mathlib.Core.Bool.{Bool, true, false, _||_, cond, true≢false}
+use mathlib.Core.Bool.{true, false, _||_, cond}
 use mathlib.Core.Logic.{_≢_}
 use mathlib.Core.List.{List}
 use Prim.Native.Nat.{ℕ, _+_, _<_}
@@ -9,7 +9,7 @@ use native.Mathlib.Omega.{arith}
 use native.Mathlib.Decide.{ℕ-discrete}
 use lib.ListN.{getD}
 use Rattle.lists.specs.Below.{sum}
-use Rattle.lists.proofs.Tests.{refuted}
+use Rattle.lists.proofs.Tests.{cond-apart, refuted}
 use Rattle.lists.proofs.Below.{sum-ext, sum-plus, sum-last}
 use Rattle.model.specs.Tables.{seats, capacity, yes?, at, message, place, applied, withController, withMessage, withRead}
 use Rattle.model.specs.Delivery.{has}
@@ -63,14 +63,8 @@ module _ (t : Table) (w : WellFormed t) (z : Sized t) (r o : ℕ) (a : HandoverA
   unfolding weigh handover
   handover-weigh v =
       weigh-replaced v t r (deliver t (received t r o) (handoverSet t r o)) r
-      ∙ sum-ext (t .count) _ _ (λ s h. rw (receiver-applied s h) (go (has (handoverSet t r o) s) (applied (at t r) s) (v (message t s .payload)) (applied-new s h)))
+      ∙ sum-ext (t .count) _ _ (λ s h. rw (receiver-applied s h) (omega (arith, cond-apart (has (handoverSet t r o) s) (applied (at t r) s) (v (message t s .payload)) (applied-new s h))))
       ∙ sum-plus (t .count) _ _
-    where
-      go : (b a : Bool) (k : ℕ) → (b ≡ true → a ≡ false) → cond (b || a) k 0 ≡ cond a k 0 + cond b k 0
-      go true true k f = absurd (true≢false (f refl))
-      go true false k f = omega arith
-      go false true k f = omega arith
-      go false false k f = refl
 
 pub weigh-receiver : (t : Table) (r o : ℕ) → Sized t → WellFormed t → firstNo (eventQuestions t (Handover r o)) ≡ 0
     → (v : Payload → ℕ)

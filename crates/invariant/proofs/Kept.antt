@@ -1,23 +1,20 @@
 -- A fresh table is well formed, every accepted event keeps a well-formed table well formed, and so every call does.
 -- Assumes nothing.
-use mathlib.Core.Path.{_≡_, refl, ap}
+use mathlib.Core.Path.{_≡_, ap}
 use mathlib.Core.Bool.{true}
 use mathlib.Core.List.{List}
 use Prim.Native.Nat.{ℕ, _-_, _≤_, _<_}
 use native.Mathlib.Nat.{not-suc-le-zero}
 use native.Mathlib.Omega.{arith}
 use lib.ListN.{getD-replicate}
-use lib.Dec.{eqb}
-use borrow.Author.Tests.{eqb-true}
 use Rattle.lists.specs.Below.{greatest}
-use Rattle.lists.proofs.Tests.{cond-case}
 use Rattle.model.specs.Tables.{seats, capacity, yes?, at, none, noController, noPending, blank, idle, fresh}
 use Rattle.model.specs.Events.{next}
 use Rattle.model.specs.Records.{decode}
 use Rattle.model.specs.Sized.{Sized}
 use Rattle.model.specs.WellFormed.{greatestApplied, wellFormed}
-use Rattle.model.specs.Questions.{firstNo, lentTable, eventQuestions, stepQuestions}
-use Rattle.model.specs.Calls.{Outcome, accepted, refused, settled, step, event}
+use Rattle.model.specs.Questions.{firstNo, eventQuestions}
+use Rattle.model.specs.Calls.{Outcome, accepted, refused, step, event}
 use Rattle.model.specs.declared.MessageNumber.{MessageNumber}
 use Rattle.model.specs.declared.Pending.{Pending}
 use Rattle.model.specs.declared.Table.{Table}
@@ -26,6 +23,7 @@ use Rattle.model.specs.declared.Event.the-variants.{Send, Handover, Stop}
 use Rattle.model.proofs.WellFormed.{Named, GoodController, WellFormed}
 use Rattle.model.proofs.Tested.{facts, tested}
 use Rattle.model.proofs.Allowed.{step-asked, send-allowed, handover-allowed, stop-allowed}
+use Rattle.model.proofs.Steps.{step-case, event-number-step}
 use Rattle.invariant.proofs.Sizes.{next-sized}
 use Rattle.invariant.proofs.Sending.{send-well-formed}
 use Rattle.invariant.proofs.Receiving.{handover-well-formed}
@@ -77,16 +75,11 @@ next-well-formed t (Stop c k) z w q = stop-well-formed t w z c k (stop-allowed t
 -- CALLS
 
 pub step-kept : (t : Table) (s : List ℕ) (room : ℕ) → Sized t → wellFormed t ≡ true → Sized (step t s room .table) × (wellFormed (step t s room .table) ≡ true)
-unfolding step settled accepted refused
+unfolding accepted refused
 step-kept t s room z w =
-    cond-case (λ (o : Outcome). Sized (o .table) × (wellFormed (o .table) ≡ true)) (eqb (firstNo (stepQuestions t s room)) 0) (accepted t s) (refused t s _)
-    (λ e. (next-sized t (decode s) z, tested (next t (decode s)) (next-well-formed t (decode s) z (facts t w) (step-asked t s room (eqb-true _ 0 e) .1))))
+    step-case t s room (λ (o : Outcome). Sized (o .table) × (wellFormed (o .table) ≡ true))
+    (λ e. (next-sized t (decode s) z, tested (next t (decode s)) (next-well-formed t (decode s) z (facts t w) (step-asked t s room e .1))))
     (λ _. (z, w))
-
--- on a well-formed table the event call is a step
-pub event-number-step : (t : Table) (s : List ℕ) (room : ℕ) → wellFormed t ≡ true → event t s room ≡ step t s room
-unfolding event step firstNo lentTable
-event-number-step t s room w = rw w refl
 
 pub event-kept : (t : Table) (s : List ℕ) (room : ℕ) → Sized t → wellFormed t ≡ true → Sized (event t s room .table) × (wellFormed (event t s room .table) ≡ true)
 event-kept t s room z w = rw (event-number-step t s room w) (step-kept t s room z w)

@@ -1,33 +1,35 @@
 -- No file's listing passes 13,888 bytes: each of 7 controllers applies each of 64 messages once, and a message takes at most 31
 -- bytes of lines. So question 16 never refuses where the listing has that room. Assumes nothing.
-use mathlib.Core.Path.{_≡_, refl, ap, _∙_}
+use mathlib.Core.Path.{_≡_, refl, ap}
 use mathlib.Core.Logic.{_≢_, inl, inr}
 use mathlib.Core.Bool.{Bool, true, false, cond}
 use mathlib.Core.List.{List, [], _∷_, _++_}
-use Prim.Native.Nat.{ℕ, zero, suc, _+_, _-_, _*_, _/_, _%_, _≤_, _<_}
+use Prim.Native.Nat.{ℕ, zero, suc, _+_, _-_, _*_, _≤_, _<_}
 use native.Mathlib.Omega.{arith}
 use native.Mathlib.Decide.{ℕ-discrete}
 use lib.ListN.{length, length-append, drop}
-use lib.IntN.{ℤ, pos, negsuc}
-use lib.Dec.{eqb, leb, ltb}
-use borrow.Author.Tests.{eqb-true, leb-true, le-leb, ltb-true}
-use Rattle.lists.specs.Below.{count, sum}
-use Rattle.lists.proofs.Tests.{cond-case, and-left, and-right}
+use lib.IntN.{ℤ}
+use lib.Dec.{eqb, leb}
+use borrow.Author.Tests.{eqb-true, le-leb}
+use Rattle.lists.specs.Below.{sum}
+use Rattle.lists.proofs.Tests.{cond-case}
 use Rattle.lists.proofs.Below.{sum-ext, sum-bound}
-use Rattle.model.specs.Tables.{seats, at, message, fresh, withController, withMessage}
+use Rattle.model.specs.Tables.{at, message, fresh, withController, withMessage}
 use Rattle.model.specs.Delivery.{Slots, has}
-use Rattle.model.specs.Events.{send, handover, handoverSet, next, appliedBy, weigh, total, insert, earlier, namesBelow, namesOf, nameOf}
+use Rattle.model.specs.Events.{send, handover, handoverSet, next, appliedBy, weigh, total, insert, namesBelow, namesOf, nameOf}
 use Rattle.model.specs.Records.{byte, decode}
 use Rattle.model.specs.Sized.{Sized}
-use Rattle.model.specs.Questions.{ask, firstNo, controllerCount, fileQuestions, eventQuestions, stepQuestions, lineFits}
-use Rattle.model.specs.Calls.{Outcome, receiver, accepted, refused, settled, step}
-use Rattle.model.specs.Runs.{digits, decimal, signed, listed, line, lineOf, Progress, records, progress}
+use Rattle.model.specs.Questions.{ask, firstNo, fileQuestions, eventQuestions, stepQuestions, lineFits}
+use Rattle.model.specs.Calls.{Outcome, receiver, accepted, refused, step}
+use Rattle.model.specs.Runs.{line, lineOf, Progress, records, progress}
 use Rattle.model.specs.declared.Name.{Name}
 use Rattle.model.specs.declared.Table.{Table}
 use Rattle.model.specs.declared.Event.{Event}
 use Rattle.model.specs.declared.Event.the-variants.{Send, Handover, Stop}
 use Rattle.model.proofs.WellFormed.{WellFormed}
-use Rattle.model.proofs.Allowed.{no-no, step-asked, handover-allowed}
+use Rattle.model.proofs.Allowed.{step-asked, line-asked, file-allowed, handover-allowed}
+use Rattle.model.proofs.Steps.{step-case}
+use Rattle.model.proofs.Lengths.{length-insert, none-named, decimal-bound, signed-bound, names-bound, length-line}
 use Rattle.invariant.proofs.Sizes.{next-sized, fresh-sized}
 use Rattle.invariant.proofs.Kept.{next-well-formed, fresh-well-formed}
 use Rattle.invariant.proofs.Refusals.{step-number-range}
@@ -35,49 +37,8 @@ use Rattle.invariant.proofs.Counter.{weigh-receiver, weigh-kept}
 
 -- LINES
 
-digits-length : (f x : ℕ) → length (digits f x) ≤ f
-unfolding digits
-digits-length zero x = omega arith
-digits-length (suc f) x =
-    cond-case (λ (l : List ℕ). length l ≤ suc f) (ltb x 10) ((48 + x) ∷ []) _ (λ _. omega arith)
-    (λ _. omega (arith, digits-length f (x / 10), length-append (digits f (x / 10)) ((48 + x % 10) ∷ [])))
-
-decimal-length : (x : ℕ) → length (decimal x) ≤ 5
-unfolding decimal
-decimal-length x = digits-length 5 x
-
-signed-length : (x : ℤ) → length (signed x) ≤ 6
-unfolding signed
-signed-length (pos x) = omega (arith, decimal-length x)
-signed-length (negsuc x) = omega (arith, decimal-length (suc x))
-
-listed-length : (ms : List Name) → length (listed ms) ≤ 12 * length ms
-unfolding listed
-listed-length [] = omega arith
-listed-length (m ∷ ms) =
-    omega (
-      arith,
-      length-append (32 ∷ decimal (m .sender)) ((46 ∷ decimal (m .number .0)) ++ listed ms),
-      length-append (46 ∷ decimal (m .number .0)) (listed ms),
-      decimal-length (m .sender),
-      decimal-length (m .number .0),
-      listed-length ms,
-    )
-
 line-length : (e c : ℕ) (x : ℤ) (ms : List Name) → length (line e c x ms) ≤ 19 + 12 * length ms
-unfolding line
-line-length e c x ms =
-    omega (
-      arith,
-      length-append (decimal e) ((32 ∷ decimal c) ++ ((32 ∷ signed x) ++ (listed ms ++ (10 ∷ [])))),
-      length-append (32 ∷ decimal c) ((32 ∷ signed x) ++ (listed ms ++ (10 ∷ []))),
-      length-append (32 ∷ signed x) (listed ms ++ (10 ∷ [])),
-      length-append (listed ms) (10 ∷ []),
-      decimal-length e,
-      decimal-length c,
-      signed-length x,
-      listed-length ms,
-    )
+line-length e c x ms = omega (arith, length-line e c x ms, decimal-bound e, decimal-bound c, signed-bound x, names-bound ms)
 
 lineOf-length : (e c : ℕ) (x : ℤ) (ms : List Name) → length (lineOf e c x ms) ≤ 31 * length ms
 unfolding lineOf
@@ -105,11 +66,6 @@ deliveries-bound t w =
       w .few,
     )
 
-insert-length : (x : Name) (ys : List Name) → length (insert x ys) ≡ suc (length ys)
-unfolding insert
-insert-length x [] = refl
-insert-length x (y ∷ ys) = cond-case (λ (l : List Name). length l ≡ suc (suc (length ys))) (earlier x y) (x ∷ y ∷ ys) _ (λ _. refl) (λ _. ap suc (insert-length x ys))
-
 names-length : (k : ℕ) (t : Table) (S : Slots) → length (namesBelow k t S) ≡ sum k (λ s. cond (has S s) 1 0)
 unfolding namesBelow sum
 names-length zero t S = refl
@@ -117,7 +73,7 @@ names-length (suc k) t S = go (has S k) (names-length k t S)
   where
     go : (b : Bool) → length (namesBelow k t S) ≡ sum k (λ s. cond (has S s) 1 0)
         → length (cond b (insert (nameOf (message t k)) (namesBelow k t S)) (namesBelow k t S)) ≡ sum k (λ s. cond (has S s) 1 0) + cond b 1 0
-    go true e = omega (arith, insert-length (nameOf (message t k)) (namesBelow k t S))
+    go true e = omega (arith, length-insert (nameOf (message t k)) (namesBelow k t S))
     go false e = omega (arith, e)
 
 -- one term of a sum raised by d
@@ -135,13 +91,6 @@ unfolding next send handover withController withMessage
 next-n t (Send c p) = refl
 next-n t (Handover r o) = refl
 next-n t (Stop c k) = refl
-
-none-named : (t : Table) → length (namesOf t []) ≡ 0
-unfolding namesOf
-none-named t = names-length (t .count) t [] ∙ zeros (t .count)
-  where
-    zeros : (k : ℕ) → sum k (λ s. 0) ≡ 0
-    zeros k = omega (arith, sum-bound k (λ s. 0) 0 (λ s h. omega arith))
 
 quiet-deliveries : (t : Table) (e : Event) → Sized t → WellFormed t → firstNo (eventQuestions t e) ≡ 0 → receiver e ≡ 0 → deliveries (next t e) ≡ deliveries t
 unfolding deliveries next
@@ -162,9 +111,9 @@ handover-deliveries t r o z w q =
 deliveries-next : (t : Table) (e : Event) → Sized t → WellFormed t → firstNo (eventQuestions t e) ≡ 0
     → deliveries (next t e) ≡ deliveries t + length (namesOf t (appliedBy t e))
 unfolding appliedBy receiver
-deliveries-next t (Send c p) z w q = omega (arith, quiet-deliveries t (Send c p) z w q refl, none-named t)
+deliveries-next t (Send c p) z w q = omega (arith, quiet-deliveries t (Send c p) z w q refl, ap length (none-named t))
 deliveries-next t (Handover r o) z w q = handover-deliveries t r o z w q
-deliveries-next t (Stop c k) z w q = omega (arith, quiet-deliveries t (Stop c k) z w q refl, none-named t)
+deliveries-next t (Stop c k) z w q = omega (arith, quiet-deliveries t (Stop c k) z w q refl, ap length (none-named t))
 
 -- THE RUN
 
@@ -177,16 +126,16 @@ record Stepped (t : Table) (s : List ℕ) (o : Outcome) : Type 0 where
   then : o .answer .number ≡ 0 → Sized (o .table) × WellFormed (o .table) × (deliveries (o .table) ≡ deliveries t + length (o .answer .names))
 
 stepped : (t : Table) (s : List ℕ) (room : ℕ) → Sized t → WellFormed t → Stepped t s (step t s room)
-unfolding step settled accepted refused
+unfolding accepted refused
 stepped t s room z w =
-    cond-case (Stepped t s) (eqb (firstNo (stepQuestions t s room)) 0) (accepted t s) (refused t s (firstNo (stepQuestions t s room)))
+    step-case t s room (Stepped t s)
     (λ e.
-    let q = step-asked t s room (eqb-true _ 0 e) .1 in
+    let q = step-asked t s room e .1 in
     record {
       not-16 = omega arith;
       then = λ _. (next-sized t (decode s) z, next-well-formed t (decode s) z w q, deliveries-next t (decode s) z w q);
     })
-    (λ e. record { not-16 = refusal-not-16 t s room; then = λ h. absurd (borrow.Author.Tests.eqb-false _ 0 e h) })
+    (λ n. record { not-16 = refusal-not-16 t s room; then = λ h. absurd (n h) })
 
 -- a run that has listed no more than its deliveries allow goes on so
 record Fits (p : Progress) : Type 0 where
@@ -194,10 +143,6 @@ record Fits (p : Progress) : Type 0 where
   short : length (p .lines) ≤ 13888
 
 -- the step's number and question 16, in this order
-ended-none : (k x y : ℕ) → firstNo (ask k (eqb k 0) ∷ lineFits x y ∷ []) ≡ 0 → k ≡ 0
-unfolding firstNo
-ended-none k x y = cond-case (λ v. v ≡ 0 → k ≡ 0) (eqb k 0) (firstNo (lineFits x y ∷ [])) k (λ e _. eqb-true k 0 e) (λ _ h. h)
-
 ended-not-16 : (k x y : ℕ) → k ≢ 16 → (k ≡ 0 → x ≤ y) → firstNo (ask k (eqb k 0) ∷ lineFits x y ∷ []) ≢ 16
 unfolding firstNo lineFits
 ended-not-16 k x y n f =
@@ -218,7 +163,7 @@ records-fit (suc f) t (y ∷ s) room space e l z w h b =
     cond-case Fits (eqb (firstNo (ask (o .answer .number) (eqb (o .answer .number) 0) ∷ lineFits (length x) (space - length l) ∷ [])) 0)
     (records f (o .table) (o .answer .rest) room space (e + 1) (l ++ x)) _
     (λ q.
-    let v = d .then (ended-none (o .answer .number) (length x) (space - length l) (eqb-true _ 0 q)) in
+    let v = d .then (line-asked (o .answer .number) (length x) (space - length l) (eqb-true _ 0 q) .0) in
     records-fit f (o .table) (o .answer .rest) room space (e + 1) (l ++ x) (v .0) (v .1) h
     (omega (arith, v .2, length-append l x)))
     (λ _. record {
@@ -229,11 +174,9 @@ records-fit (suc f) t (y ∷ s) room space e l z w h b =
 
 pub listing-fits : (s : List ℕ) (room space : ℕ) → firstNo (fileQuestions s) ≡ 0 → 13888 ≤ space
     → (progress s room space .number ≢ 16) × (length (progress s room space .lines) ≤ 13888)
-unfolding progress fileQuestions controllerCount
+unfolding progress
 listing-fits s room space q h =
-    let a = no-no 2 _ [] (no-no 1 _ _ (no-no 0 _ _ q .1) .1) .0 in
+    let a = file-allowed s q in
     let n = byte s 1 in
-    let low = ltb-true 0 n (and-left (ltb 0 n) (leb n seats) a) in
-    let high = leb-true n seats (and-right (ltb 0 n) (leb n seats) a) in
-    let r = records-fit (length s) (fresh n) (drop 2 s) room space 0 [] (fresh-sized n) (fresh-well-formed n low high) h (omega arith) in
+    let r = records-fit (length s) (fresh n) (drop 2 s) room space 0 [] (fresh-sized n) (fresh-well-formed n (a .some) (a .few)) h (omega arith) in
     (r .not-16, r .short)

@@ -10,7 +10,7 @@ use lib.Dec.{eqb}
 use lib.Seq.{getD-set-same, getD-set-other}
 use borrow.Author.Tests.{ltb-true, eqb-true, lt-ltb, eq-eqb}
 use Rattle.lists.proofs.Tests.{refuted, bool-eq, contradiction}
-use Rattle.lists.proofs.Below.{count-pos, count-found, distinct-room-less}
+use Rattle.lists.proofs.Below.{count-pos, count-found, distinct-room, distinct-room-less}
 use Rattle.model.specs.Tables.{capacity, slotAt, withEntry}
 use Rattle.model.specs.Sized.{SizedController}
 use Rattle.model.specs.WellFormed.{inLog}
@@ -41,6 +41,11 @@ not-in-log c s e k h p = contradiction (in-log-of c s (record { index = k; below
 pub log-lacks : (t : Table) (i : ℕ) (c : Controller) → GoodController t i c → (s : ℕ) → t .count ≤ s → inLog c s ≡ false
 log-lacks t i c g s h = refuted (inLog c s) (λ e.
     let f = in-log-at c s e in omega (arith, g .log-run (f .index) (f .below), f .names))
+
+-- a log names no message twice, so it is no longer than the run
+pub log-within : (t : Table) (i : ℕ) (c : Controller) → GoodController t i c → c .length ≤ t .count
+log-within t i c g =
+    distinct-room (t .count) (c .length) (slotAt c) (g .log-run) (λ j k hj l p. omega (arith, g .log-once j k hj (omega arith) p))
 
 -- a message of the run that the log lacks: the log is shorter than the run
 pub log-shorter : (t : Table) (i : ℕ) (c : Controller) → GoodController t i c → (s : ℕ) → s < t .count → inLog c s ≡ false → c .length < t .count

@@ -26,13 +26,24 @@ use Rattle.invariant.proofs.Delivering.{delivered-good}
 use Rattle.invariant.proofs.Replacing.{but-one, replaced}
 
 -- no applied number is above the highest
-pub applied-number : (t : Table) (i : ℕ) (c : Controller) → GoodController t i c
+applied-number : (t : Table) (i : ℕ) (c : Controller) → GoodController t i c
     → (s : ℕ) → s < t .count → Named (t .n) (message t s .sender) → applied c s ≡ true → message t s .number .0 ≤ highest c (message t s .sender)
 unfolding greatestApplied numberOf
 applied-number t i c g s h n e =
     rw (g .highest-is (message t s .sender) n)
     (rw (e, eq-eqb (message t s .sender) (message t s .sender) refl) at
     (greatest-ge (t .count) (λ r. cond (applied c r) (numberOf (message t s .sender) (message t r)) 0) s h))
+
+-- a number above the highest was not applied
+pub above-unapplied : (t : Table) (w : WellFormed t) (i : ℕ) (c : Controller) → GoodController t i c
+    → (s : ℕ) → s < t .count → leb (message t s .number .0) (highest c (message t s .sender)) ≡ false → applied c s ≡ false
+above-unapplied t w i c g s h above = refuted (applied c s) (λ p.
+    omega (arith, applied-number t i c g s h (w .senders s h) p, leb-false (message t s .number .0) (highest c (message t s .sender)) above))
+
+-- the entry that a handover reads is of a message of the run
+pub next-slot-run : (t : Table) (w : WellFormed t) (r o : ℕ) → HandoverAllowed t r o → nextSlot t r o < t .count
+unfolding nextSlot
+next-slot-run t w r o a = w .controllers o (a .owner) .log-run (place (at t r) o) (a .unread)
 
 -- entry s of a log, at place k
 forward-good : (t : Table) (w : WellFormed t) (i : ℕ) (c : Controller) → GoodController t i c → SizedController c → yes? (c .running) ≡ true
@@ -45,8 +56,7 @@ forward-good t w i c g z running s run o k low high =
     (g .exact running s run ∙ rw (e, unapplied above) refl))
   where
     unapplied : leb (message t s .number .0) (highest c (message t s .sender)) ≡ false → applied c s ≡ false
-    unapplied above = refuted (applied c s) (λ p.
-        omega (arith, applied-number t i c g s run (w .senders s run) p, leb-false (message t s .number .0) (highest c (message t s .sender)) above))
+    unapplied = above-unapplied t w i c g s run
 
 -- a receiver's log only grows
 pub received-longer : (t : Table) (r o : ℕ) → at t r .length ≤ received t r o .length
@@ -80,15 +90,11 @@ module _ (t : Table) (w : WellFormed t) (z : Sized t) (r o : ℕ) (a : HandoverA
       places q h (yes e) = rw (e, read-place (at t r) o receiver-sized (seated (w .few) (a .owner))) (omega (arith, a .unread))
       places q h (no e) = rw (read-place-other (at t r) o q (seated (w .few) (a .owner)) (seated (w .few) h) e) (w .controllers r (a .receiver) .places q h)
 
-  pub next-slot-run : nextSlot t r o < t .count
-  unfolding nextSlot
-  next-slot-run = w .controllers o (a .owner) .log-run (place (at t r) o) (a .unread)
-
   pub received-good : GoodController t r (received t r o)
   unfolding received
   received-good =
       forward-good t w r (withRead (at t r) o) read-good (read-sized (at t r) o receiver-sized) (a .running)
-      (nextSlot t r o) next-slot-run o (place (at t r) o + 1) (omega arith) (omega (arith, a .unread, w .controllers o (a .owner) .log-room))
+      (nextSlot t r o) (next-slot-run t w r o a) o (place (at t r) o + 1) (omega arith) (omega (arith, a .unread, w .controllers o (a .owner) .log-room))
 
   -- the set applied was buffered
   pub applied-held : (s : ℕ) → s < capacity → has (handoverSet t r o) s ≡ true → held (received t r o) s ≡ true

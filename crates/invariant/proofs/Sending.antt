@@ -18,7 +18,7 @@ use Rattle.model.specs.declared.Table.{Table}
 use Rattle.model.proofs.WellFormed.{Named, GoodController, WellFormed}
 use Rattle.model.proofs.Allowed.{SendAllowed}
 use Rattle.invariant.proofs.Stores.{seated, at-sized, message-new, message-old}
-use Rattle.invariant.proofs.Logs.{log-lacks, log-shorter}
+use Rattle.invariant.proofs.Logs.{log-lacks, log-within}
 use Rattle.invariant.proofs.Sizes.{message-sized}
 use Rattle.invariant.proofs.Buffering.{blank-marks, entered-good}
 use Rattle.invariant.proofs.Replacing.{WellFormedBut, replaced}
@@ -124,9 +124,8 @@ module _ (t : Table) (w : WellFormed t) (z : Sized t) (c : ℕ) (p : Payload) (a
   log-lacks-new : inLog (at t c) (t .count) ≡ false
   log-lacks-new = log-lacks t c (at t c) (w .controllers c (a .sender)) (t .count) (omega arith)
 
-  log-within : at t c .length ≤ t .count
-  unfolding withMessage
-  log-within = omega (arith, log-shorter (withMessage t (sent t c p)) 0 (at t c) unnamed-good (t .count) (omega arith) log-lacks-new)
+  log-room : at t c .length ≤ t .count
+  log-room = log-within t c (at t c) (w .controllers c (a .sender))
 
   -- its name is new, as c's log is at least as long as any number that c sent
   sent-new : (s : ℕ) → s < t .count → message t s .sender ≡ c → message t s .number .0 ≡ at t c .length + 1 → ⊥
@@ -140,7 +139,7 @@ module _ (t : Table) (w : WellFormed t) (z : Sized t) (c : ℕ) (p : Payload) (a
     counted = omega (arith, a .room);
     names = λ i j hi hj. names i j (added t (sent t c p) z (a .room) i hi) (added t (sent t c p) z (a .room) j hj);
     senders = added-each t (sent t c p) (λ m. Named (t .n) (m .sender)) z (a .room) (a .sender) (w .senders);
-    numbers = added-each t (sent t c p) (λ m. (0 < m .number .0) × (m .number .0 ≤ 64)) z (a .room) (omega arith, omega (arith, a .room, log-within)) (w .numbers);
+    numbers = added-each t (sent t c p) (λ m. (0 < m .number .0) × (m .number .0 ≤ 64)) z (a .room) (omega arith, omega (arith, a .room, log-room)) (w .numbers);
     amounts = added-each t (sent t c p) (λ m. fairAmount (m .payload) ≡ true) z (a .room) (a .amount) (w .amounts);
     controllers = λ d h n. added-good t (sent t c p) z (a .room) d (at t d) (w .controllers d h) n;
   }
@@ -159,7 +158,7 @@ module _ (t : Table) (w : WellFormed t) (z : Sized t) (c : ℕ) (p : Payload) (a
       renamed (withMessage t (sent t c p)) 0 c (senderAfter t c)
       (entered-good (withMessage t (sent t c p)) 0 (at t c) unnamed-good (at-sized t c z (seated (w .few) (a .sender)))
       (omega (arith, a .room)) (t .count) (omega arith) (w .controllers c (a .sender) .outside (t .count) (a .room) (omega arith) .1)
-      (blank .marks) refl blank-marks c (at t c .length + 1) (omega arith) (omega (arith, a .room, log-within)) log-lacks-new)
+      (blank .marks) refl blank-marks c (at t c .length + 1) (omega arith) (omega (arith, a .room, log-room)) log-lacks-new)
       (λ r. added-each t (sent t c p) (λ m. m .sender ≡ c → m .number .0 ≤ at t c .length + 1) z (a .room) (λ _. omega arith)
       (λ s h e. omega (arith, w .controllers c (a .sender) .long r s h e)))
 

@@ -44,18 +44,6 @@ decimal-last x k e = digits-last 5 x ∙ ap (λ (n : ℕ). lastDigits n x) (sym 
 
 -- HOW MANY
 
-count-bound : (f x : ℕ) → digitCount f x ≤ f
-unfolding digitCount
-count-bound zero x = omega arith
-count-bound (suc f) x = go (ltb x 10) (count-bound f (x / 10))
-  where
-    go : (b : Bool) → digitCount f (x / 10) ≤ f → cond b 1 (suc (digitCount f (x / 10))) ≤ suc f
-    go true h = omega arith
-    go false h = omega arith
-
-pub decimal-bound : (x : ℕ) → length (decimal x) ≤ 5
-decimal-bound x = omega (arith, length-decimal x, count-bound 5 x)
-
 count-last : (f x : ℕ) → x < 10 → 1 ≡ digitCount (suc f) x
 unfolding digitCount
 count-last f x h = rw (lt-ltb x 10 h)

@@ -1,34 +1,22 @@
--- Laws of a line: its parts and its length. Assumes nothing.
+-- A line's parts, the line of a set that an array holds, and the lines around the listing. Assumes nothing.
 use mathlib.Core.Path.{_≡_, refl, sym, ap, _∙_}
 use mathlib.Core.List.{List, [], _∷_, _++_, append-assoc}
-use Prim.Native.Nat.{ℕ, zero, suc, _+_, min, _≤_, _<_}
+use Prim.Native.Nat.{ℕ, zero, suc, _+_, min, _<_}
 use native.Mathlib.Omega.{arith}
 use native.Mathlib.Decide.{decLt}
 use lib.ListN.{length, take, length-append, length-take}
 use lib.Seq.{take-all}
-use lib.IntN.{ℤ, pos, negsuc}
+use lib.IntN.{ℤ}
 use Rattle.model.specs.Runs.{decimal, signed, listed, line, lineOf, header, footer}
 use Rattle.model.specs.declared.Name.{Name}
-use Rattle.listing.proofs.Decimals.{decimal-bound}
-
-pub signed-bound : (x : ℤ) → length (signed x) ≤ 6
-unfolding signed
-signed-bound (pos n) = omega (arith, decimal-bound n)
-signed-bound (negsuc n) = omega (arith, decimal-bound (suc n))
 
 regroup : (a b k s l z : List ℕ) → ((((a ++ b) ++ k) ++ s) ++ l) ++ z ≡ a ++ (b ++ ((k ++ s) ++ (l ++ z)))
 regroup a b k s l z = simp append-assoc
 
-module _ (e c : ℕ) (x : ℤ) (ms : List Name) where
-  -- the parts, as they are stored one after the other
-  pub line-parts : ((((decimal e ++ (32 ∷ decimal c)) ++ (32 ∷ [])) ++ signed x) ++ listed ms) ++ (10 ∷ []) ≡ line e c x ms
-  unfolding line
-  line-parts = regroup (decimal e) (32 ∷ decimal c) (32 ∷ []) (signed x) (listed ms) (10 ∷ [])
-
-  pub length-line : length (line e c x ms) ≡ length (decimal e) + length (decimal c) + length (signed x) + length (listed ms) + 3
-  unfolding line
-  length-line =
-      omega (arith, length-append (decimal e) ((32 ∷ decimal c) ++ ((32 ∷ signed x) ++ (listed ms ++ (10 ∷ [])))), length-append (32 ∷ decimal c) ((32 ∷ signed x) ++ (listed ms ++ (10 ∷ []))), length-append (32 ∷ signed x) (listed ms ++ (10 ∷ [])), length-append (listed ms) (10 ∷ []))
+-- the parts, as they are stored one after the other
+pub line-parts : (e c : ℕ) (x : ℤ) (ms : List Name) → ((((decimal e ++ (32 ∷ decimal c)) ++ (32 ∷ [])) ++ signed x) ++ listed ms) ++ (10 ∷ []) ≡ line e c x ms
+unfolding line
+line-parts e c x ms = regroup (decimal e) (32 ∷ decimal c) (32 ∷ []) (signed x) (listed ms) (10 ∷ [])
 
 line-of : (e c : ℕ) (x : ℤ) (ms : List Name) → 0 < length ms → line e c x ms ≡ lineOf e c x ms
 unfolding lineOf

@@ -5,12 +5,12 @@ use Prim.Native.Nat.{ℕ, zero, suc, _+_, _*_, _≤_, _<_}
 use native.Mathlib.Nat.{le-of-suc-le-suc, not-suc-le-zero}
 use native.Mathlib.Numerals.{add-one}
 use native.Mathlib.Omega.{arith}
-use lib.ListN.{length, getD, take, length-append}
+use lib.ListN.{length, getD, take, length-append, length-take}
 use lib.Seq.{take-suc}
 use Rattle.model.specs.Runs.{decimal, listed}
 use Rattle.model.specs.Tables.{noName}
 use Rattle.model.specs.declared.Name.{Name}
-use Rattle.listing.proofs.Decimals.{decimal-bound}
+use Rattle.model.proofs.Lengths.{names-bound}
 
 pub one-name : (m : Name) → listed (m ∷ []) ≡ (32 ∷ decimal (m .sender)) ++ (46 ∷ decimal (m .number .0))
 unfolding listed
@@ -22,7 +22,7 @@ length-one-name m =
     ∙ omega (arith, length-append (32 ∷ decimal (m .sender)) (46 ∷ decimal (m .number .0)))
 
 pub one-name-bound : (m : Name) → length (listed (m ∷ [])) ≤ 12
-one-name-bound m = omega (arith, length-one-name m, decimal-bound (m .sender), decimal-bound (m .number .0))
+one-name-bound m = names-bound (m ∷ [])
 
 listed-append : (xs ys : List Name) → listed (xs ++ ys) ≡ listed xs ++ listed ys
 unfolding listed
@@ -38,10 +38,7 @@ pub length-listed-more : (names : List Name) (i : ℕ) → i < length names
 length-listed-more names i h = ap length (listed-more names i h) ∙ length-append (listed (take i names)) (listed (getD names i noName ∷ []))
 
 pub listed-bound : (names : List Name) (k : ℕ) → length (listed (take k names)) ≤ 12 * k
-unfolding listed
-listed-bound names zero = omega arith
-listed-bound [] (suc k) = omega arith
-listed-bound (m ∷ ms) (suc k) = omega (arith, listed-bound ms k, ap length (listed-append (m ∷ []) (take k ms)), length-append (listed (m ∷ [])) (listed (take k ms)), one-name-bound m)
+listed-bound names k = omega (arith, names-bound (take k names), length-take k names)
 
 -- the first of the names take at most as many bytes as more of them
 pub listed-fits : (names : List Name) (i n : ℕ) → i ≤ n → length (listed (take i names)) ≤ length (listed (take n names))

@@ -2,7 +2,7 @@
 use mathlib.Core.Path.{_≡_, refl, sym, _∙_}
 use mathlib.Core.Bool.{Bool, true, false, not, _&&_, _||_, cond, Bool·beq, true≢false, false≢true}
 use mathlib.Core.Logic.{_⊎_, inl, inr}
-use Prim.Native.Nat.{ℕ, suc, _<_}
+use Prim.Native.Nat.{ℕ, suc, _+_, _<_}
 use native.Mathlib.Omega.{arith}
 use native.Mathlib.Decide.{ℕ-discrete}
 
@@ -91,6 +91,12 @@ cond-true x y e = rw e
 
 pub cond-false {ℓ} : {A : Type ℓ} {b : Bool} (x y : A) → b ≡ false → cond b x y ≡ y
 cond-false x y e = rw e
+
+-- a number taken by one of two tests that never pass together
+pub cond-apart : (a b : Bool) (k : ℕ) → (a ≡ true → b ≡ false) → cond (a || b) k 0 ≡ cond a k 0 + cond b k 0
+cond-apart true true k f = absurd (true≢false (f refl))
+cond-apart true false k f = omega arith
+cond-apart false b k f = omega arith
 
 -- k below suc n is n or below n
 pub below-suc {ℓ} : (P : ℕ → Type ℓ) (n : ℕ) → P n → ((k : ℕ) → k < n → P k) → (k : ℕ) → k < suc n → P k

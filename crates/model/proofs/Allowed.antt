@@ -1,18 +1,19 @@
--- What an event that no question refuses may rely on: a record of facts for each kind of event. Assumes nothing.
+-- What a file, an event or a line that no question refuses may rely on: a record of facts for each kind of event. Assumes nothing.
 use mathlib.Core.Path.{_≡_, refl}
 use mathlib.Core.Bool.{Bool, true, false, _&&_}
 use mathlib.Core.List.{List, [], _∷_, _++_}
 use Prim.Native.Nat.{ℕ, suc, _≤_, _<_}
 use native.Mathlib.Omega.{arith}
-use lib.Dec.{eqb, leb}
-use borrow.Author.Tests.{ltb-true, ltb-false, leb-true, eq-eqb, not-true}
+use lib.ListN.{length}
+use lib.Dec.{eqb, leb, ltb}
+use borrow.Author.Tests.{ltb-true, ltb-false, leb-true, eqb-true, eqb-false, eq-eqb, not-true}
 use Rattle.lists.specs.Below.{count}
-use Rattle.lists.proofs.Tests.{and-left, and-right, both}
+use Rattle.lists.proofs.Tests.{cond-case, and-left, and-right, both}
 use Rattle.lists.proofs.Below.{count-pos}
-use Rattle.model.specs.Tables.{capacity, yes?, at, message, place, held}
-use Rattle.model.specs.Records.{decode}
+use Rattle.model.specs.Tables.{seats, capacity, yes?, at, message, place, held}
+use Rattle.model.specs.Records.{byte, decode}
 use Rattle.model.specs.WellFormed.{named, fairAmount}
-use Rattle.model.specs.Questions.{Question, ask, firstNo, recordQuestions, ownPending, unread, keepable, eventQuestions, scratchRoom, stepQuestions}
+use Rattle.model.specs.Questions.{Question, ask, firstNo, controllerCount, fileQuestions, recordQuestions, ownPending, unread, keepable, eventQuestions, scratchRoom, stepQuestions, lineFits}
 use Rattle.model.specs.declared.Payload.{Payload}
 use Rattle.model.specs.declared.Table.{Table}
 use Rattle.model.specs.declared.Event.{Event}
@@ -39,13 +40,13 @@ no-no-append (more {k = k} {b = b} {qs = qs} n) rs e =
     let r = no-no-append n rs (q .1) in
     (rw (q .0) (r .0), r .1)
 
-event-numbered : (t : Table) (e : Event) → Numbered (eventQuestions t e)
+pub event-numbered : (t : Table) (e : Event) → Numbered (eventQuestions t e)
 unfolding eventQuestions
 event-numbered t (Send c p) = more (more (more (more (more none))))
 event-numbered t (Handover r o) = more (more (more none))
 event-numbered t (Stop c k) = more (more (more none))
 
-record-numbered : (s : List ℕ) → Numbered (recordQuestions s)
+pub record-numbered : (s : List ℕ) → Numbered (recordQuestions s)
 unfolding recordQuestions
 record-numbered s = more (more (more none))
 
@@ -57,6 +58,38 @@ step-asked t s room e =
     let q = no-no-append (record-numbered s) (eventQuestions t (decode s) ++ (scratchRoom room ∷ [])) e in
     let r = no-no-append (event-numbered t (decode s)) (scratchRoom room ∷ []) (q .1) in
     (q .0, r .0, r .1)
+
+-- a step's number, and question 16 of its line
+pub line-asked : (k line left : ℕ) → firstNo (ask k (eqb k 0) ∷ lineFits line left ∷ []) ≡ 0 → (k ≡ 0) × (line ≤ left)
+unfolding firstNo lineFits
+line-asked k line left =
+    cond-case (λ n. n ≡ 0 → (k ≡ 0) × (line ≤ left)) (eqb k 0) _ _
+    (λ q v. (eqb-true k 0 q, leb-true line left (no-no 15 (leb line left) [] v .0))) (λ q v. absurd (eqb-false k 0 q v))
+
+-- question 3, of a file or of a request for a fresh table
+pub count-asked : (n : ℕ) → firstNo (controllerCount n ∷ []) ≡ 0 → (0 < n) × (n ≤ seats)
+unfolding controllerCount
+count-asked n e =
+    let a = no-no 2 (ltb 0 n && leb n seats) [] e .0 in
+    (ltb-true 0 n (and-left (ltb 0 n) (leb n seats) a), leb-true n seats (and-right (ltb 0 n) (leb n seats) a))
+
+pub record FileAllowed (s : List ℕ) : Type 0 where
+  pub long : 2 ≤ length s
+  pub short : length s ≤ 65535
+  pub some : 0 < byte s 1
+  pub few : byte s 1 ≤ seats
+
+pub file-allowed : (s : List ℕ) → firstNo (fileQuestions s) ≡ 0 → FileAllowed s
+unfolding fileQuestions
+file-allowed s e =
+    let q1 = no-no 0 (leb 2 (length s) && leb (length s) 65535) _ e in
+    let q3 = count-asked (byte s 1) (no-no 1 _ _ (q1 .1) .1) in
+    record {
+      long = leb-true 2 (length s) (and-left (leb 2 (length s)) (leb (length s) 65535) (q1 .0));
+      short = leb-true (length s) 65535 (and-right (leb 2 (length s)) (leb (length s) 65535) (q1 .0));
+      some = q3 .0;
+      few = q3 .1;
+    }
 
 pub record SendAllowed (t : Table) (c : ℕ) (p : Payload) : Type 0 where
   pub sender : Named (t .n) c

@@ -2,38 +2,27 @@
 use mathlib.Core.Path.{_≡_, refl, sym, ap, _∙_}
 use mathlib.Core.Logic.{_≢_}
 use mathlib.Core.List.{List, [], _∷_, _++_, append-assoc}
-use Prim.Native.Nat.{ℕ, zero, suc, _+_, _-_, _/_, _%_, _≤_}
+use Prim.Native.Nat.{ℕ, zero, suc, _+_, _-_, _≤_}
 use native.Mathlib.Nat.{le-of-suc-le-suc}
 use native.Mathlib.Omega.{arith}
 use lib.ListN.{length, take, drop, length-append, length-drop, length-take, take-append-drop}
 use lib.Seq.{take-append-seam, drop-append-seam, drop-drop}
-use lib.Dec.{ltb}
 use borrow.Author.Tests.{le-leb, eq-eqb, ne-eqb}
 use borrow.Rule.Slice.PartMut.{midOf, putMid, same-len-mid}
 use Rattle.lists.specs.Build.{overlay}
 use Rattle.lists.proofs.Build.{length-overlay}
-use Rattle.lists.proofs.Tests.{cond-case, cond-true, cond-false}
+use Rattle.lists.proofs.Tests.{cond-true, cond-false}
 use Rattle.model.specs.Records.{byte}
 use Rattle.model.specs.Questions.{firstNo, fileQuestions}
-use Rattle.model.specs.Runs.{digits, decimal, header, footer, Progress, RunOutcome, progress, ran, fileRun}
+use Rattle.model.specs.Runs.{decimal, header, footer, Progress, RunOutcome, progress, ran, fileRun}
 use Rattle.model.specs.declared.RunAnswer.{RunAnswer}
+use Rattle.model.proofs.Lengths.{decimal-bound}
 use Rattle.listing.specs.declared.Put.{Put}
 use Rattle.listing.specs.Writing.{putAnswer, tailAfter, Wrote}
 use Rattle.events.specs.Stepped.{runOf, runListing}
 use Rattle.panels.specs.Printed.{printed}
 
 -- LENGTHS
-
-digits-length : (f x : ℕ) → length (digits f x) ≤ f
-unfolding digits
-digits-length zero x = omega arith
-digits-length (suc f) x =
-    cond-case (λ (d : List ℕ). length d ≤ suc f) (ltb x 10) _ _ (λ _. omega arith)
-    (λ _. omega (arith, digits-length f (x / 10), length-append (digits f (x / 10)) ((48 + x % 10) ∷ [])))
-
-decimal-bound : (x : ℕ) → length (decimal x) ≤ 5
-unfolding decimal
-decimal-bound x = digits-length 5 x
 
 pub header-bound : (n : ℕ) → length (header n) ≤ 18
 unfolding header
@@ -158,8 +147,15 @@ module _ (s l w : List ℕ) (k : ℕ) (ek : k ≡ firstNo (fileQuestions s)) (ll
           (wv : Wrote (footer (r .events) (r .number)) (midOf (q .written + r .written) i u) v g) where
         footer-fits : length (footer (r .events) (r .number)) ≤ length (midOf (q .written + r .written) i u)
         footer-fits =
-            omega (arith, footer-bound (r .events) (r .number), start-bound, listed-bound, length-take i (drop (q .written + r .written) u),
-            length-drop (q .written + r .written) u, run-size)
+            omega (
+              arith,
+              footer-bound (r .events) (r .number),
+              start-bound,
+              listed-bound,
+              length-take i (drop (q .written + r .written) u),
+              length-drop (q .written + r .written) u,
+              run-size,
+            )
 
         pub end-bound : g .written ≤ 16
         end-bound = omega (arith, written-is (footer (r .events) (r .number)) (midOf (q .written + r .written) i u) v g wv footer-fits, footer-bound (r .events) (r .number))

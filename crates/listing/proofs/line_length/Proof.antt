@@ -3,10 +3,9 @@ use mathlib.Core.Path.{ap}
 use native.Mathlib.Omega.{arith}
 use lib.ListN.{length, take}
 use Rattle.model.specs.Runs.{signed}
-use Rattle.listing.proofs.Decimals.{decimal-bound}
+use Rattle.model.proofs.Lengths.{decimal-bound, signed-bound, length-line}
 use Rattle.listing.proofs.Signs.{read-back}
 use Rattle.listing.proofs.Names.{listed-bound}
-use Rattle.listing.proofs.Lines.{signed-bound, length-line}
 use borrow.Author.Needs.{needs}
 use Rattle.listing.proofs.line_length.Statement.{statement}
 use Rattle.listing.proofs.line_length.Tie as tie

@@ -1,6 +1,6 @@
 -- `name_length` answers how many bytes a name takes. Assumes nothing.
 use native.Mathlib.Omega.{arith}
-use Rattle.listing.proofs.Decimals.{decimal-bound}
+use Rattle.model.proofs.Lengths.{decimal-bound}
 use Rattle.listing.proofs.Names.{length-one-name}
 use borrow.Author.Needs.{needs}
 use Rattle.listing.proofs.name_length.Statement.{statement}

@@ -2,7 +2,7 @@
 use mathlib.Core.Path.{ap, _∙_}
 use native.Mathlib.Omega.{arith}
 use lib.ListN.{length}
-use Rattle.listing.proofs.Decimals.{decimal-bound}
+use Rattle.model.proofs.Lengths.{decimal-bound}
 use Rattle.listing.proofs.Signs.{signed-negative, signed-positive}
 use borrow.Author.Needs.{needs}
 use Rattle.listing.proofs.signed_length.Statement.{statement}

@@ -3,8 +3,9 @@ use mathlib.Core.Path.{ap}
 use native.Mathlib.Omega.{arith}
 use lib.ListN.{length, take}
 use Rattle.model.specs.Runs.{signed}
+use Rattle.model.proofs.Lengths.{length-line}
 use Rattle.listing.proofs.Signs.{read-back}
-use Rattle.listing.proofs.Lines.{line-parts, length-line}
+use Rattle.listing.proofs.Lines.{line-parts}
 use Rattle.listing.proofs.Storing.{stored-same, stored-then}
 use borrow.Author.Needs.{needs}
 use Rattle.listing.proofs.store_line.Statement.{statement}
