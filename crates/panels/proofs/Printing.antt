@@ -1,5 +1,5 @@
 -- What is printed is built in one text: the header line, the lines of the run behind it, the end line behind these. Assumes nothing.
-use mathlib.Core.Path.{_≡_, refl, sym, ap, _∙_}
+use mathlib.Core.Path.{_≡_, refl, sym, ap, ap₂, _∙_}
 use mathlib.Core.Logic.{_≢_}
 use mathlib.Core.List.{List, [], _∷_, _++_, append-assoc}
 use Prim.Native.Nat.{ℕ, zero, suc, _+_, _-_, _≤_}
@@ -17,6 +17,7 @@ use Rattle.model.specs.Questions.{firstNo, fileQuestions}
 use Rattle.model.specs.Runs.{decimal, header, footer, Progress, RunOutcome, progress, ran, fileRun}
 use Rattle.model.specs.declared.RunAnswer.{RunAnswer}
 use Rattle.model.proofs.Lengths.{decimal-bound}
+use Rattle.model.proofs.Steps.{file-run-ran}
 use Rattle.listing.specs.declared.Put.{Put}
 use Rattle.listing.specs.Writing.{putAnswer, tailAfter, Wrote}
 use Rattle.events.specs.Stepped.{runOf, runListing}
@@ -113,8 +114,9 @@ module _ (s l w : List ℕ) (k : ℕ) (ek : k ≡ firstNo (fileQuestions s)) (ll
       p = progress s 4096 16384
 
       run-is : fileRun s (midOf (q .written) j t) w ≡ ran p (midOf (q .written) j t) w
-      unfolding fileRun
-      run-is = rw (lw, part-size) (cond-true _ _ (eq-eqb (firstNo (fileQuestions s)) 0 (sym ek ∙ z)))
+      run-is =
+          file-run-ran s (midOf (q .written) j t) w (sym ek ∙ z)
+          ∙ ap₂ (λ (room space : ℕ). ran (progress s room space) (midOf (q .written) j t) w) lw part-size
 
       answer-is : r ≡ ran p (midOf (q .written) j t) w .answer
       unfolding runOf
