@@ -184,6 +184,7 @@ fn send_refusal(t: Table, sender: u8, payload: Payload) -> u8
     ACCEPTED
 }
 
+// Both controllers are read here: this is asked at every handover, and a function that indexes a table copies it.
 fn handover_refusal(t: Table, receiver: u8, owner: u8) -> u8
     ensures { λ r. ⌜ r ≡ firstNo (eventQuestions t (Handover receiver owner)) ⌝ }
 {
