@@ -8,7 +8,7 @@
 //!     faults random [DIR [NAME]]   the same by random cases alone, for all faults or for one; the cases found are
 //!                           made small and written to DIR
 //!     faults demand3        which faults the checker of demand 3 sees alone
-//!     program PATH N SEED   an executable's output for N run files
+//!     program PATH N SEED   an executable's output for N run files, and the library's
 //!     print                 what the program prints for the file on standard input
 //!     bench                 times
 //!
@@ -32,6 +32,7 @@ mod tables;
 use case::{hexadecimal, Case, Head};
 use faults::Fault;
 use library::{Engine, Reference};
+use reference::{LISTING, SCRATCH};
 use std::io::{Read, Write};
 use std::panic::{catch_unwind, AssertUnwindSafe};
 use std::process::{exit, Command, Stdio};
@@ -263,19 +264,36 @@ fn printed_by(path: &str, input: &[u8]) -> Vec<u8> {
     child.wait_with_output().expect("the program ends").stdout
 }
 
+/// The bytes of a case that is a file alone.
+fn file_bytes(case: &Case) -> &[u8] {
+    match &case.head {
+        Head::File { bytes, .. } => bytes,
+        _ => &[],
+    }
+}
+
+/// The same files through the program, the library and the reference.
 fn program_mode(path: &str, files: usize, seed: u64) {
     println!("seed {seed}, {files} files");
     check_printed(|input| printed_by(path, input));
-    let files_of = |case: Case| if let Head::File { bytes, .. } = case.head { Some(bytes) } else { None };
-    for bytes in (0..).filter_map(|index| files_of(generate::case(seed, index).1)).take(files) {
-        let (right, found) = (reference::program(&bytes), printed_by(path, &bytes));
-        if right != found {
+    let differs = |case: &Case| reference::program(file_bytes(case)) != printed_by(path, file_bytes(case));
+    let as_lent = |case: Case| match case.head {
+        Head::File { bytes, .. } => Some(Case { head: Head::File { bytes, listing: LISTING, scratch: SCRATCH }, calls: vec![] }),
+        _ => None,
+    };
+    for case in (0..).filter_map(|index| as_lent(generate::case(seed, index).1)).take(files) {
+        if let Some((engine, text)) = under_test().and_then(|engine| Some((engine, failure(&case, engine)?))) {
+            report_and_exit("a file", &case, engine, &text);
+        }
+        if differs(&case) {
+            let small = minimise::minimise(&case, &differs);
+            let (right, found) = (reference::program(file_bytes(&small)), printed_by(path, file_bytes(&small)));
             let (right, found) = (String::from_utf8_lossy(&right), String::from_utf8_lossy(&found));
-            println!("FAILED {}\nexpected\n{right}found\n{found}", hexadecimal(&bytes));
+            println!("FAILED, made small: {}\nexpected\n{right}found\n{found}", hexadecimal(file_bytes(&small)));
             exit(1);
         }
     }
-    println!("{files} files: program and reference print the same");
+    println!("{files} files: program, library and reference say the same");
 }
 
 fn clock() -> u64 {
