@@ -11,15 +11,16 @@ use lib.Signed.{leZ}
 use borrow.Author.Tests.{leb-true, eqb-true, le-leb}
 use Rattle.lists.proofs.Tests.{and-left, and-right, or-cases, cond-case}
 use Rattle.lists.proofs.Below.{sum-bound}
-use Rattle.model.specs.Tables.{at, message, applied}
-use Rattle.model.specs.Events.{weigh, total}
-use Rattle.model.specs.WellFormed.{magnitude, fairAmount}
+use Rattle.model.specs.Tables.{message, applied}
+use Rattle.model.specs.Events.{weigh, shown}
+use Rattle.model.specs.WellFormed.{fairMagnitude, fairAmount}
 use Rattle.model.specs.declared.Payload.{Payload}
+use Rattle.model.specs.declared.Controller.{Controller}
 use Rattle.model.specs.declared.Table.{Table}
 use Rattle.model.proofs.WellFormed.{WellFormed}
 
-magnitude-bound : (x : ℕ) → magnitude x ≡ true → x ≤ 360
-unfolding magnitude
+magnitude-bound : (x : ℕ) → fairMagnitude x ≡ true → x ≤ 360
+unfolding fairMagnitude
 magnitude-bound x e = leb-true x 360 (and-right (ltb 0 x) _ e)
 
 zero-bound : (x : ℕ) → eqb x 0 ≡ true → x ≤ 360
@@ -27,35 +28,35 @@ zero-bound x e = omega (arith, eqb-true x 0 e)
 
 fair-bounds : (p : Payload) → fairAmount p ≡ true → (p .added ≤ 360) × (p .withdrawn ≤ 360)
 unfolding fairAmount
-fair-bounds p e = kinds (or-cases (eqb (p .kind) 1 && (magnitude (p .added) && eqb (p .withdrawn) 0 || eqb (p .added) 0 && magnitude (p .withdrawn))) _ e)
+fair-bounds p e = kinds (or-cases (eqb (p .kind) 1 && (fairMagnitude (p .added) && eqb (p .withdrawn) 0 || eqb (p .added) 0 && fairMagnitude (p .withdrawn))) _ e)
   where
-    amounts : (magnitude (p .added) && eqb (p .withdrawn) 0 ≡ true) ⊎ (eqb (p .added) 0 && magnitude (p .withdrawn) ≡ true)
+    amounts : (fairMagnitude (p .added) && eqb (p .withdrawn) 0 ≡ true) ⊎ (eqb (p .added) 0 && fairMagnitude (p .withdrawn) ≡ true)
         → (p .added ≤ 360) × (p .withdrawn ≤ 360)
-    amounts (inl q) = (magnitude-bound (p .added) (and-left _ _ q), zero-bound (p .withdrawn) (and-right (magnitude (p .added)) _ q))
+    amounts (inl q) = (magnitude-bound (p .added) (and-left _ _ q), zero-bound (p .withdrawn) (and-right (fairMagnitude (p .added)) _ q))
     amounts (inr q) = (zero-bound (p .added) (and-left _ _ q), magnitude-bound (p .withdrawn) (and-right (eqb (p .added) 0) _ q))
 
-    kinds : (eqb (p .kind) 1 && (magnitude (p .added) && eqb (p .withdrawn) 0 || eqb (p .added) 0 && magnitude (p .withdrawn)) ≡ true)
+    kinds : (eqb (p .kind) 1 && (fairMagnitude (p .added) && eqb (p .withdrawn) 0 || eqb (p .added) 0 && fairMagnitude (p .withdrawn)) ≡ true)
         ⊎ (eqb (p .kind) 2 && (eqb (p .added) 0 && eqb (p .withdrawn) 0) ≡ true)
         → (p .added ≤ 360) × (p .withdrawn ≤ 360)
-    kinds (inl q) = amounts (or-cases (magnitude (p .added) && eqb (p .withdrawn) 0) _ (and-right (eqb (p .kind) 1) _ q))
+    kinds (inl q) = amounts (or-cases (fairMagnitude (p .added) && eqb (p .withdrawn) 0) _ (and-right (eqb (p .kind) 1) _ q))
     kinds (inr q) =
         let r = and-right (eqb (p .kind) 2) _ q in
         (zero-bound (p .added) (and-left _ _ r), zero-bound (p .withdrawn) (and-right (eqb (p .added) 0) _ r))
 
-weigh-bound : (t : Table) (v : Payload → ℕ) → WellFormed t → ((p : Payload) → fairAmount p ≡ true → v p ≤ 360) → (c : ℕ) → weigh v t c ≤ 23040
+weigh-bound : (t : Table) (v : Payload → ℕ) → WellFormed t → ((p : Payload) → fairAmount p ≡ true → v p ≤ 360) → (x : Controller) → weigh v t x ≤ 23040
 unfolding weigh
-weigh-bound t v w f c =
+weigh-bound t v w f x =
     omega (
       arith,
       w .counted,
       sum-bound (t .count) _ 360 (λ s h.
-          cond-case (λ k. k ≤ 360) (applied (at t c) s) (v (message t s .payload)) 0 (λ _. f (message t s .payload) (w .amounts s h)) (λ _. omega arith)),
+          cond-case (λ k. k ≤ 360) (applied x s) (v (message t s .payload)) 0 (λ _. f (message t s .payload) (w .amounts s h)) (λ _. omega arith)),
     )
 
-pub added-bound : (t : Table) → WellFormed t → (c : ℕ) → weigh (λ p. p .added) t c ≤ 23040
+pub added-bound : (t : Table) → WellFormed t → (x : Controller) → weigh (λ p. p .added) t x ≤ 23040
 added-bound t w = weigh-bound t _ w (λ p e. fair-bounds p e .0)
 
-pub withdrawn-bound : (t : Table) → WellFormed t → (c : ℕ) → weigh (λ p. p .withdrawn) t c ≤ 23040
+pub withdrawn-bound : (t : Table) → WellFormed t → (x : Controller) → weigh (λ p. p .withdrawn) t x ≤ 23040
 withdrawn-bound t w = weigh-bound t _ w (λ p e. fair-bounds p e .1)
 
 -- a difference is not below what is taken away, nor above what there was
@@ -69,9 +70,9 @@ difference-high k a zero h = le-leb _ k (omega arith)
 difference-high k a (suc b) h =
     cond-case (λ x. leZ x (pos k) ≡ true) (ltb a (suc b)) (negsuc (suc b - suc a)) (pos (a - suc b)) (λ _. refl) (λ _. le-leb (a - suc b) k (omega arith))
 
-pub total-bounds : (t : Table) → WellFormed t → (c : ℕ) → (leZ (negsuc 23039) (total t c) ≡ true) × (leZ (total t c) (pos 23040) ≡ true)
-unfolding total
-total-bounds t w c = (
-  difference-low 23039 (weigh (λ p. p .added) t c) (weigh (λ p. p .withdrawn) t c) (withdrawn-bound t w c),
-  difference-high 23040 (weigh (λ p. p .added) t c) (weigh (λ p. p .withdrawn) t c) (added-bound t w c),
+pub total-bounds : (t : Table) → WellFormed t → (x : Controller) → (leZ (negsuc 23039) (shown t x .total) ≡ true) × (leZ (shown t x .total) (pos 23040) ≡ true)
+unfolding shown
+total-bounds t w x = (
+  difference-low 23039 (weigh (λ p. p .added) t x) (weigh (λ p. p .withdrawn) t x) (withdrawn-bound t w x),
+  difference-high 23040 (weigh (λ p. p .added) t x) (weigh (λ p. p .withdrawn) t x) (added-bound t w x),
 )

@@ -9,7 +9,7 @@ use native.Mathlib.Omega.{arith}
 use native.Mathlib.Decide.{ℕ-discrete}
 use lib.ListN.{length, getD, getD-replicate}
 use Rattle.lists.proofs.Tests.{contradiction}
-use Rattle.model.specs.Tables.{seats, capacity, absent, yes?, at, slotAt, entry, held, mark, applied, blank, forwardNumber, withEntry, withMark}
+use Rattle.model.specs.Tables.{seats, capacity, absent, yes?, at, slotAt, entry, held, mark, applied, unheld, forwardNumber, withEntry, withMark}
 use Rattle.model.specs.Sized.{SizedController}
 use Rattle.model.specs.WellFormed.{inLog, greatestApplied}
 use Rattle.model.specs.declared.ForwardNumber.{ForwardNumber}
@@ -19,11 +19,11 @@ use Rattle.model.proofs.WellFormed.{GoodMark, GoodController}
 use Rattle.invariant.proofs.Stores.{marked-held, marked-marks, marked-entry-other, marked-held-other}
 use Rattle.invariant.proofs.Logs.{Entered, last, earlier, entered, entered-in-log, entered-in-log-other, not-in-log, log-shorter}
 
-pub blank-absent : (f : ℕ) → f < seats → mark blank f ≡ absent
-blank-absent f h = ap (λ (m : ForwardNumber). m .0) (getD-replicate seats f (forwardNumber absent) (forwardNumber 0) h)
+pub unheld-absent : (f : ℕ) → f < seats → mark unheld f ≡ absent
+unheld-absent f h = ap (λ (m : ForwardNumber). m .0) (getD-replicate seats f (forwardNumber absent) (forwardNumber 0) h)
 
-pub blank-marks : (f : ℕ) → f < seats → GoodMark (getD (blank .marks) f (forwardNumber 0) .0)
-blank-marks f h = inl (blank-absent f h)
+pub unheld-marks : (f : ℕ) → f < seats → GoodMark (getD (unheld .marks) f (forwardNumber 0) .0)
+unheld-marks f h = inl (unheld-absent f h)
 
 -- A slot of the run that is not applied goes into the buffer, or stays there, with good marks.
 module _ (t : Table) (i : ℕ) (c : Controller) (g : GoodController t i c) (z : SizedController c) (counted : t .count ≤ capacity)

@@ -9,7 +9,7 @@ use borrow.Author.Tests.{not-true}
 use Rattle.lists.proofs.Tests.{and-left, and-right, refuted, contradiction}
 use Rattle.lists.proofs.Below.{greatest-max}
 use Rattle.lists.proofs.Build.{getD-tabulate}
-use Rattle.model.specs.Tables.{seats, capacity, yes?, message, entry, held, mark, applied, highest, blank, none, noPending}
+use Rattle.model.specs.Tables.{seats, capacity, yes?, message, entry, held, mark, applied, highest, unheld, none, noPending}
 use Rattle.model.specs.Delivery.{Slots, has}
 use Rattle.model.specs.Events.{numberOf, highestIn, deliver}
 use Rattle.model.specs.WellFormed.{inLog, greatestApplied}
@@ -19,14 +19,14 @@ use Rattle.model.specs.declared.Table.{Table}
 use Rattle.model.proofs.WellFormed.{Named, GoodMark, GoodController}
 
 module _ (t : Table) (c : Controller) (S : Slots) where
-  pub delivered-entry : (s : ℕ) → s < capacity → entry (deliver t c S .pending) s ≡ cond (has S s) blank (entry (c .pending) s)
+  pub delivered-entry : (s : ℕ) → s < capacity → entry (deliver t c S .pending) s ≡ cond (has S s) unheld (entry (c .pending) s)
   unfolding deliver
   delivered-entry s h = getD-tabulate capacity _ noPending s h
 
   pub delivered-held : (s : ℕ) → s < capacity → held (deliver t c S) s ≡ (not (has S s) && held c s)
   delivered-held s h = rw (delivered-entry s h) (go (has S s))
     where
-      go : (b : Bool) → yes? (cond b blank (entry (c .pending) s) .held) ≡ (not b && held c s)
+      go : (b : Bool) → yes? (cond b unheld (entry (c .pending) s) .held) ≡ (not b && held c s)
       go true = refl
       go false = refl
 

@@ -8,8 +8,8 @@ use native.Mathlib.Nat.{not-suc-le-zero}
 use native.Mathlib.Omega.{arith}
 use lib.ListN.{getD-replicate}
 use Rattle.lists.specs.Below.{greatest}
-use Rattle.model.specs.Tables.{seats, capacity, yes?, at, none, noController, noPending, blank, idle, fresh}
-use Rattle.model.specs.Events.{next}
+use Rattle.model.specs.Tables.{seats, capacity, absent, yes?, at, none, noController, noPending, unheld, idle, start, fresh}
+use Rattle.model.specs.Events.{subject, after, withSent, next}
 use Rattle.model.specs.Records.{decode}
 use Rattle.model.specs.Sized.{Sized}
 use Rattle.model.specs.WellFormed.{greatestApplied, wellFormed}
@@ -31,12 +31,12 @@ use Rattle.invariant.proofs.Stopping.{stop-well-formed}
 
 -- THE FRESH TABLE
 
-pub at-fresh : (n c : ℕ) → Named seats c → at (fresh n) c ≡ idle
-unfolding at fresh
-at-fresh n c h = getD-replicate seats (c - 1) idle noController (omega arith)
+pub at-fresh : (n c : ℕ) → Named seats c → at (fresh n) c ≡ idle 1 absent
+unfolding at fresh start
+at-fresh n c h = getD-replicate seats (c - 1) (idle 1 absent) noController (omega arith)
 
-idle-good : (n i : ℕ) → n ≤ seats → GoodController (fresh n) i idle
-unfolding fresh idle greatestApplied greatest
+idle-good : (n i : ℕ) → n ≤ seats → GoodController (fresh n) i (idle 1 absent)
+unfolding fresh start idle greatestApplied greatest
 idle-good n i l = record {
   log-room = omega arith;
   log-run = λ k h. absurd (not-suc-le-zero h);
@@ -45,14 +45,14 @@ idle-good n i l = record {
   marks = λ s f h. absurd (not-suc-le-zero h);
   apart = λ s h. absurd (not-suc-le-zero h);
   outside = λ s h _.
-      (ap (λ (p : Pending). yes? (p .held)) (getD-replicate capacity s blank noPending h), ap (λ f. yes? f) (getD-replicate capacity s 0 0 h));
+      (ap (λ (p : Pending). yes? (p .held)) (getD-replicate capacity s unheld noPending h), ap (λ f. yes? f) (getD-replicate capacity s 0 0 h));
   highest-is = λ x h. ap (λ (m : MessageNumber). m .0) (getD-replicate seats (x - 1) none none (omega arith));
   exact = λ r s h. absurd (not-suc-le-zero h);
   long = λ r s h. absurd (not-suc-le-zero h);
 }
 
 pub fresh-well-formed : (n : ℕ) → 0 < n → n ≤ seats → WellFormed (fresh n)
-unfolding fresh
+unfolding fresh start
 fresh-well-formed n low high = record {
   some = low;
   few = high;
@@ -67,7 +67,7 @@ fresh-well-formed n low high = record {
 -- EVENTS
 
 pub next-well-formed : (t : Table) (e : Event) → Sized t → WellFormed t → firstNo (eventQuestions t e) ≡ 0 → WellFormed (next t e)
-unfolding next
+unfolding next subject after withSent
 next-well-formed t (Send c p) z w q = send-well-formed t w z c p (send-allowed t c p q)
 next-well-formed t (Handover r o) z w q = handover-well-formed t w z r o (handover-allowed t r o q)
 next-well-formed t (Stop c k) z w q = stop-well-formed t w z c k (stop-allowed t c k q)

@@ -9,9 +9,9 @@ use lib.Dec.{leb}
 use borrow.Author.Tests.{leb-false, eq-eqb}
 use Rattle.lists.proofs.Tests.{refuted}
 use Rattle.lists.proofs.Below.{greatest-ge}
-use Rattle.model.specs.Tables.{capacity, yes?, at, message, place, entry, held, applied, highest, blank, withRead}
+use Rattle.model.specs.Tables.{capacity, yes?, at, message, place, entry, held, applied, highest, unheld, withRead, withController}
 use Rattle.model.specs.Delivery.{has}
-use Rattle.model.specs.Events.{numberOf, forward, nextSlot, received, handoverSet, deliver, handover}
+use Rattle.model.specs.Events.{numberOf, forward, nextSlot, received, handoverSet, deliver}
 use Rattle.model.specs.Sized.{Sized, SizedController}
 use Rattle.model.specs.WellFormed.{inLog, greatestApplied}
 use Rattle.model.specs.declared.Controller.{Controller}
@@ -21,7 +21,7 @@ use Rattle.model.proofs.Allowed.{HandoverAllowed}
 use Rattle.model.proofs.Largest.{applicable-held}
 use Rattle.invariant.proofs.Stores.{seated, at-sized, read-place, read-place-other, forward-case}
 use Rattle.invariant.proofs.Sizes.{read-sized}
-use Rattle.invariant.proofs.Buffering.{blank-marks, marked-good, entered-good}
+use Rattle.invariant.proofs.Buffering.{unheld-marks, marked-good, entered-good}
 use Rattle.invariant.proofs.Delivering.{delivered-good}
 use Rattle.invariant.proofs.Replacing.{but-one, replaced}
 
@@ -52,7 +52,7 @@ forward-good t w i c g z running s run o k low high =
     forward-case (GoodController t i) c (message t s) s o k (λ _. g)
     (λ above e. marked-good t i c g z (w .counted) s run (unapplied above) (entry (c .pending) s .marks) (z .marks s (omega (arith, w .counted)))
     (λ f hf. g .marks s f run e hf) o k low high e)
-    (λ above e. entered-good t i c g z (w .counted) s run (unapplied above) (blank .marks) refl blank-marks o k low high
+    (λ above e. entered-good t i c g z (w .counted) s run (unapplied above) (unheld .marks) refl unheld-marks o k low high
     (g .exact running s run ∙ rw (e, unapplied above) refl))
   where
     unapplied : leb (message t s .number .0) (highest c (message t s .sender)) ≡ false → applied c s ≡ false
@@ -104,8 +104,8 @@ module _ (t : Table) (w : WellFormed t) (z : Sized t) (r o : ℕ) (a : HandoverA
   pub receiver-good : GoodController t r (deliver t (received t r o) (handoverSet t r o))
   receiver-good = delivered-good t r (received t r o) received-good (w .few) (w .counted) (handoverSet t r o) applied-held
 
-  pub handover-well-formed : WellFormed (handover t r o)
-  unfolding handover deliver
+  pub handover-well-formed : WellFormed (withController t r (deliver t (received t r o) (handoverSet t r o)))
+  unfolding deliver
   handover-well-formed =
       replaced t r (deliver t (received t r o) (handoverSet t r o)) z (but-one t r w) (a .receiver) receiver-good
       (omega (arith, receiver-good .places r (a .receiver), received-longer t r o))

@@ -7,8 +7,8 @@ use native.Mathlib.Omega.{arith}
 use native.Mathlib.Decide.{ℕ-discrete}
 use Rattle.lists.proofs.Tests.{contradiction}
 use Rattle.lists.proofs.Below.{greatest-ext, greatest-last}
-use Rattle.model.specs.Tables.{capacity, yes?, at, message, held, applied, blank, messageNumber, messageOf, withMessage, withEntry, withMark}
-use Rattle.model.specs.Events.{numberOf, send}
+use Rattle.model.specs.Tables.{capacity, yes?, at, message, held, applied, unheld, withController, withMessage, withEntry, withMark}
+use Rattle.model.specs.Events.{numberOf, sentMessage, sent}
 use Rattle.model.specs.Sized.{Sized}
 use Rattle.model.specs.WellFormed.{inLog, fairAmount, greatestApplied}
 use Rattle.model.specs.declared.Message.{Message}
@@ -20,7 +20,7 @@ use Rattle.model.proofs.Allowed.{SendAllowed}
 use Rattle.invariant.proofs.Stores.{seated, at-sized, message-new, message-old}
 use Rattle.invariant.proofs.Logs.{log-lacks, log-within}
 use Rattle.invariant.proofs.Sizes.{message-sized}
-use Rattle.invariant.proofs.Buffering.{blank-marks, entered-good}
+use Rattle.invariant.proofs.Buffering.{unheld-marks, entered-good}
 use Rattle.invariant.proofs.Replacing.{WellFormedBut, replaced}
 
 -- ONE MESSAGE MORE
@@ -105,17 +105,10 @@ renamed t i j c g long = record {
   long = long;
 }
 
--- the message that c sends next
-abbrev sent : Table → ℕ → Payload → Message
-sent t c p = messageOf c (messageNumber (at t c .length + 1)) p
-
--- c after it has sent
-abbrev senderAfter : Table → ℕ → Controller
-senderAfter t c = withMark (withEntry (at t c) (t .count)) (t .count) (blank .marks) c (at t c .length + 1)
-
 module _ (t : Table) (w : WellFormed t) (z : Sized t) (c : ℕ) (p : Payload) (a : SendAllowed t c p) where
   -- No controller is called 0, so nothing is asked of the numbers that it sent.
-  unnamed-good : GoodController (withMessage t (sent t c p)) 0 (at t c)
+  unnamed-good : GoodController (withMessage t (sentMessage t c p)) 0 (at t c)
+  unfolding sentMessage
   unnamed-good =
       added-good t _ z (a .room) 0 (at t c)
       (renamed t c 0 (at t c) (w .controllers c (a .sender)) (λ _ s h e. absurd (omega (arith, w .senders s h .low, e))))
@@ -131,40 +124,40 @@ module _ (t : Table) (w : WellFormed t) (z : Sized t) (c : ℕ) (p : Payload) (a
   sent-new : (s : ℕ) → s < t .count → message t s .sender ≡ c → message t s .number .0 ≡ at t c .length + 1 → ⊥
   sent-new s h e k = omega (arith, w .controllers c (a .sender) .long (a .running) s h e)
 
-  but-sender : WellFormedBut (withMessage t (sent t c p)) c
-  unfolding withMessage at
+  but-sender : WellFormedBut (withMessage t (sentMessage t c p)) c
+  unfolding withMessage at sentMessage
   but-sender = record {
     some = w .some;
     few = w .few;
     counted = omega (arith, a .room);
-    names = λ i j hi hj. names i j (added t (sent t c p) z (a .room) i hi) (added t (sent t c p) z (a .room) j hj);
-    senders = added-each t (sent t c p) (λ m. Named (t .n) (m .sender)) z (a .room) (a .sender) (w .senders);
-    numbers = added-each t (sent t c p) (λ m. (0 < m .number .0) × (m .number .0 ≤ 64)) z (a .room) (omega arith, omega (arith, a .room, log-room)) (w .numbers);
-    amounts = added-each t (sent t c p) (λ m. fairAmount (m .payload) ≡ true) z (a .room) (a .amount) (w .amounts);
-    controllers = λ d h n. added-good t (sent t c p) z (a .room) d (at t d) (w .controllers d h) n;
+    names = λ i j hi hj. names i j (added t (sentMessage t c p) z (a .room) i hi) (added t (sentMessage t c p) z (a .room) j hj);
+    senders = added-each t (sentMessage t c p) (λ m. Named (t .n) (m .sender)) z (a .room) (a .sender) (w .senders);
+    numbers = added-each t (sentMessage t c p) (λ m. (0 < m .number .0) × (m .number .0 ≤ 64)) z (a .room) (omega arith, omega (arith, a .room, log-room)) (w .numbers);
+    amounts = added-each t (sentMessage t c p) (λ m. fairAmount (m .payload) ≡ true) z (a .room) (a .amount) (w .amounts);
+    controllers = λ d h n. added-good t (sentMessage t c p) z (a .room) d (at t d) (w .controllers d h) n;
   }
     where
-      names : (i j : ℕ) → Added t (sent t c p) i → Added t (sent t c p) j
-          → message (withMessage t (sent t c p)) i .sender ≡ message (withMessage t (sent t c p)) j .sender
-          → message (withMessage t (sent t c p)) i .number .0 ≡ message (withMessage t (sent t c p)) j .number .0 → i ≡ j
+      names : (i j : ℕ) → Added t (sentMessage t c p) i → Added t (sentMessage t c p) j
+          → message (withMessage t (sentMessage t c p)) i .sender ≡ message (withMessage t (sentMessage t c p)) j .sender
+          → message (withMessage t (sentMessage t c p)) i .number .0 ≡ message (withMessage t (sentMessage t c p)) j .number .0 → i ≡ j
       names i j (new hi ei) (new hj ej) e k = hi ∙ sym hj
       names i j (new hi ei) (old hj ej) e k = absurd (sent-new j hj (sym (rw (ei, ej) at e)) (sym (rw (ei, ej) at k)))
       names i j (old hi ei) (new hj ej) e k = absurd (sent-new i hi (rw (ei, ej) at e) (rw (ei, ej) at k))
       names i j (old hi ei) (old hj ej) e k = w .names i j hi hj (rw (ei, ej) at e) (rw (ei, ej) at k)
 
-  sender-good : GoodController (withMessage t (sent t c p)) c (senderAfter t c)
-  unfolding withMessage
+  sender-good : GoodController (withMessage t (sentMessage t c p)) c (sent t c)
+  unfolding withMessage sentMessage sent
   sender-good =
-      renamed (withMessage t (sent t c p)) 0 c (senderAfter t c)
-      (entered-good (withMessage t (sent t c p)) 0 (at t c) unnamed-good (at-sized t c z (seated (w .few) (a .sender)))
+      renamed (withMessage t (sentMessage t c p)) 0 c (sent t c)
+      (entered-good (withMessage t (sentMessage t c p)) 0 (at t c) unnamed-good (at-sized t c z (seated (w .few) (a .sender)))
       (omega (arith, a .room)) (t .count) (omega arith) (w .controllers c (a .sender) .outside (t .count) (a .room) (omega arith) .1)
-      (blank .marks) refl blank-marks c (at t c .length + 1) (omega arith) (omega (arith, a .room, log-room)) log-lacks-new)
-      (λ r. added-each t (sent t c p) (λ m. m .sender ≡ c → m .number .0 ≤ at t c .length + 1) z (a .room) (λ _. omega arith)
+      (unheld .marks) refl unheld-marks c (at t c .length + 1) (omega arith) (omega (arith, a .room, log-room)) log-lacks-new)
+      (λ r. added-each t (sentMessage t c p) (λ m. m .sender ≡ c → m .number .0 ≤ at t c .length + 1) z (a .room) (λ _. omega arith)
       (λ s h e. omega (arith, w .controllers c (a .sender) .long r s h e)))
 
-  pub send-well-formed : WellFormed (send t c p)
-  unfolding send withMessage at
+  pub send-well-formed : WellFormed (withController (withMessage t (sentMessage t c p)) c (sent t c))
+  unfolding sent withMessage at
   send-well-formed =
-      replaced (withMessage t (sent t c p)) c (senderAfter t c) (message-sized t (sent t c p) z) but-sender (a .sender) sender-good
+      replaced (withMessage t (sentMessage t c p)) c (sent t c) (message-sized t (sentMessage t c p) z) but-sender (a .sender) sender-good
       (omega (arith, w .controllers c (a .sender) .places c (a .sender)))
       (λ r h _. omega (arith, w .controllers r h .places c (a .sender)))

@@ -1,5 +1,6 @@
 -- Every event leaves arrays of their types' lengths, accepted or not. Assumes nothing.
 use mathlib.Core.Path.{_≡_, refl, ap, _∙_}
+use mathlib.Core.Logic.{_≢_}
 use mathlib.Core.List.{List}
 use Prim.Native.Nat.{ℕ, _+_, _-_, _<_}
 use native.Mathlib.Omega.{arith}
@@ -8,9 +9,9 @@ use lib.ListN.{length, getD, set, length-set, getD-replicate}
 use lib.Seq.{getD-set-same, getD-set-other}
 use Rattle.lists.proofs.Tests.{cond-case}
 use Rattle.lists.proofs.Build.{length-tabulate, getD-tabulate}
-use Rattle.model.specs.Tables.{seats, capacity, at, place, entry, highest, noController, noPending, blank, idle, fresh, withController, withMessage, withEntry, withRead, withMark}
+use Rattle.model.specs.Tables.{seats, capacity, absent, at, place, entry, highest, noController, noPending, unheld, idle, start, fresh, withController, withMessage, withEntry, withRead, withMark}
 use Rattle.model.specs.Delivery.{Slots, has}
-use Rattle.model.specs.Events.{send, forward, received, deliver, handover, next}
+use Rattle.model.specs.Events.{sent, forward, received, deliver, subject, after, withSent, next}
 use Rattle.model.specs.Sized.{Sized, SizedController}
 use Rattle.model.specs.declared.ForwardNumber.{ForwardNumber}
 use Rattle.model.specs.declared.Message.{Message}
@@ -19,7 +20,8 @@ use Rattle.model.specs.declared.Controller.{Controller}
 use Rattle.model.specs.declared.Table.{Table}
 use Rattle.model.specs.declared.Event.{Event}
 use Rattle.model.specs.declared.Event.the-variants.{Send, Handover, Stop}
-use Rattle.invariant.proofs.Stores.{forward-case}
+use Rattle.model.proofs.WellFormed.{Named}
+use Rattle.invariant.proofs.Stores.{at-same, at-other, forward-case}
 
 -- CONTROLLERS
 
@@ -66,7 +68,7 @@ delivered-sized t c S z = record {
   read = z .read;
   pending = length-tabulate capacity _;
   marks = λ s h. rw (getD-tabulate capacity _ noPending s h)
-      (cond-case (λ (p : Pending). length (p .marks) ≡ seats) (has S s) blank (entry (c .pending) s) (λ _. refl) (λ _. z .marks s h));
+      (cond-case (λ (p : Pending). length (p .marks) ≡ seats) (has S s) unheld (entry (c .pending) s) (λ _. refl) (λ _. z .marks s h));
   applied = length-tabulate capacity _;
   highest = length-tabulate seats _;
 }
@@ -75,7 +77,7 @@ pub forward-sized : (c : Controller) (m : Message) (s o k : ℕ) → SizedContro
 forward-sized c m s o k z =
     forward-case SizedController c m s o k (λ _. z)
     (λ _ _. marked-sized c s (entry (c .pending) s .marks) o k z (z .marks s))
-    (λ _ _. marked-sized (withEntry c s) s (blank .marks) o k (entered-sized c s z) (λ _. refl))
+    (λ _ _. marked-sized (withEntry c s) s (unheld .marks) o k (entered-sized c s z) (λ _. refl))
 
 pub received-sized : (t : Table) (r o : ℕ) → SizedController (at t r) → SizedController (received t r o)
 unfolding received
@@ -106,10 +108,10 @@ message-sized t m z = record {
 }
 
 pub next-sized : (t : Table) (e : Event) → Sized t → Sized (next t e)
-unfolding next send handover withMessage at
+unfolding next subject after withSent sent withMessage at
 next-sized t (Send c p) z =
     replaced-sized (withMessage t _) c _ (message-sized t _ z)
-    (λ zc. marked-sized (withEntry (at t c) (t .count)) (t .count) (blank .marks) c (at t c .length + 1) (entered-sized (at t c) (t .count) zc) (λ _. refl))
+    (λ zc. marked-sized (withEntry (at t c) (t .count)) (t .count) (unheld .marks) c (at t c .length + 1) (entered-sized (at t c) (t .count) zc) (λ _. refl))
 next-sized t (Handover r o) z = replaced-sized t r _ z (λ zr. delivered-sized t _ _ (received-sized t r o zr))
 next-sized t (Stop c k) z = replaced-sized t c _ z (λ zc. record {
   log = zc .log;
@@ -120,16 +122,40 @@ next-sized t (Stop c k) z = replaced-sized t c _ z (λ zc. record {
   highest = zc .highest;
 })
 
+-- THE CONTROLLERS AFTER AN EVENT
+
+sent-sized : (t : Table) (e : Event) → Sized t → Sized (withSent t e)
+unfolding withSent
+sent-sized t (Send c p) z = message-sized t _ z
+sent-sized t (Handover r o) z = z
+sent-sized t (Stop c k) z = z
+
+sent-at : (t : Table) (e : Event) (d : ℕ) → at (withSent t e) d ≡ at t d
+unfolding withSent withMessage at
+sent-at t (Send c p) d = refl
+sent-at t (Handover r o) d = refl
+sent-at t (Stop c k) d = refl
+
+pub next-same : (t : Table) (e : Event) → Sized t → Named seats (subject e) → at (next t e) (subject e) ≡ after t e
+unfolding next
+next-same t e z h = at-same (withSent t e) (subject e) (after t e) (sent-sized t e z) h
+
+pub next-other : (t : Table) (e : Event) (d : ℕ) → Named seats (subject e) → Named seats d → d ≢ subject e → at (next t e) d ≡ at t d
+unfolding next
+next-other t e d h k n = at-other (withSent t e) (subject e) d (after t e) h k n ∙ sent-at t e d
+
+-- THE FRESH TABLE
+
 pub fresh-sized : (n : ℕ) → Sized (fresh n)
-unfolding fresh idle
+unfolding fresh start idle
 fresh-sized n = record {
   messages = refl;
   controllers = refl;
-  each = λ i h. rw (getD-replicate seats i idle noController h) (record {
+  each = λ i h. rw (getD-replicate seats i (idle 1 absent) noController h) (record {
     log = refl;
     read = refl;
     pending = refl;
-    marks = λ s l. ap (λ (p : Pending). length (p .marks)) (getD-replicate capacity s blank noPending l);
+    marks = λ s l. ap (λ (p : Pending). length (p .marks)) (getD-replicate capacity s unheld noPending l);
     applied = refl;
     highest = refl;
   });

@@ -10,7 +10,7 @@ use lib.ListN.{length, getD, set}
 use lib.Dec.{leb}
 use lib.Seq.{getD-set-same, getD-set-other}
 use Rattle.lists.proofs.Tests.{cond-case}
-use Rattle.model.specs.Tables.{seats, capacity, yes?, at, message, place, entry, held, mark, highest, blank, noController, noMessage, noPending, forwardNumber, withController, withMessage, withEntry, withRead, withMark}
+use Rattle.model.specs.Tables.{seats, capacity, yes?, at, message, place, entry, held, mark, highest, unheld, noController, noMessage, noPending, forwardNumber, withController, withMessage, withEntry, withRead, withMark}
 use Rattle.model.specs.Events.{forward}
 use Rattle.model.specs.Sized.{Sized, SizedController}
 use Rattle.model.specs.declared.ForwardNumber.{ForwardNumber}
@@ -83,7 +83,7 @@ module _ (c : Controller) (s : ℕ) (ms : List ForwardNumber) (o k : ℕ) where
 pub forward-case : (P : Controller → Type 0) (c : Controller) (m : Message) (s o k : ℕ)
     → (leb (m .number .0) (highest c (m .sender)) ≡ true → P c)
     → (leb (m .number .0) (highest c (m .sender)) ≡ false → held c s ≡ true → P (withMark c s (entry (c .pending) s .marks) o k))
-    → (leb (m .number .0) (highest c (m .sender)) ≡ false → held c s ≡ false → P (withMark (withEntry c s) s (blank .marks) o k))
+    → (leb (m .number .0) (highest c (m .sender)) ≡ false → held c s ≡ false → P (withMark (withEntry c s) s (unheld .marks) o k))
     → P (forward c m s o k)
 unfolding forward
 forward-case P c m s o k passed marked entered =

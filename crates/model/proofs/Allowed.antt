@@ -11,6 +11,7 @@ use Rattle.lists.specs.Below.{count}
 use Rattle.lists.proofs.Tests.{cond-case, and-left, and-right, both}
 use Rattle.lists.proofs.Below.{count-pos}
 use Rattle.model.specs.Tables.{seats, capacity, yes?, at, message, place, held}
+use Rattle.model.specs.Events.{subject}
 use Rattle.model.specs.Records.{byte, decode}
 use Rattle.model.specs.WellFormed.{named, fairAmount}
 use Rattle.model.specs.Questions.{Question, ask, firstNo, controllerCount, fileQuestions, recordQuestions, ownPending, unread, keepable, eventQuestions, scratchRoom, stepQuestions, lineFits}
@@ -156,3 +157,10 @@ stop-allowed t c k e =
       read-kept = λ r h. leb-true (place (at t r) c) k
           (all-named (t .n) (λ r. leb (place (at t r) c) k) (and-right (leb k (at t c .length)) _ (q14 .0)) r h);
     }
+
+-- an event that is allowed changes a controller of the table
+pub subject-allowed : (t : Table) (e : Event) → firstNo (eventQuestions t e) ≡ 0 → Named (t .n) (subject e)
+unfolding subject
+subject-allowed t (Send c p) q = send-allowed t c p q .sender
+subject-allowed t (Handover r o) q = handover-allowed t r o q .receiver
+subject-allowed t (Stop c k) q = stop-allowed t c k q .controller

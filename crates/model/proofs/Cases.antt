@@ -1,4 +1,5 @@
--- The cases that document 01 marks P, and one for each pair of questions in a row that can both be no: one table, one theorem.
+-- The cases that document 01 marks P; and of each call, for each two questions that it is put one after the other and that can
+-- both be no at once, a row in which both are and the first gives the number. One table, one theorem.
 -- Assumes nothing.
 use mathlib.Core.Path.{_≡_, refl}
 use Prim.Native.Nat.{ℕ, zero, suc, _+_, _*_, _/_, _%_, _-_}
@@ -68,7 +69,7 @@ called : Table → Call → Given
 called t (single s room) =
     let a = event t s room .answer in
     record { number = a .number; sets = cond (eqb (a .number) 0) (map coded (a .names) ∷ []) []; shown = pos 0 }
-called t (panel c) = let a = look t c in record { number = a .number; sets = []; shown = a .total }
+called t (panel c) = let a = look t c in record { number = a .number; sets = []; shown = a .panel .total }
 
 played : Table → List (List ℕ) → Call → Given
 played t [] c = called t c
@@ -144,7 +145,7 @@ table =
     ∷ quiet 4 three (stop 1 2) 4096 0 8
     ∷ quiet 4 three (stop 1 3) 4096 0 8
     ∷ quiet 4 three (stop 1 4) 4096 14 7
-    -- 4 before 5, 5 before 6, 6 before 7, 7 before 8
+    -- an event: 4 before 5 before 6 before 7 before 8
     ∷ quiet 0 [] [] 0 4 0
     ∷ quiet 1 [] [] 0 5 0
     ∷ quiet 1 [] (3 ∷ 9 ∷ 1 ∷ []) 0 5 0
@@ -160,9 +161,12 @@ table =
     -- P: the 65th message gives 12
     ∷ case 1 (full 64) (report 1 1) 0 12 (each 64 101)
     ∷ quiet 1 [] (report 1 1) 4095 15 0
-    -- a sync: 8 before 10
-    ∷ quiet 2 (stop 1 0 ∷ []) (sync 3) 0 8 1
-    ∷ quiet 2 (stop 1 0 ∷ []) (sync 1) 0 10 1
+    -- a sync: 8 before 10 before 11 before 12 before 15; no controller 8 runs
+    ∷ quiet 2 [] (sync 8) 0 8 0
+    ∷ quiet 2 (report 1 1 ∷ stop 1 1 ∷ []) (sync 1) 0 10 2
+    ∷ case 1 (full 63 ++ (report 1 1 ∷ [])) (sync 1) 0 11 (each 63 101 ++ ([] ∷ []))
+    ∷ case 1 (full 64) (sync 1) 0 12 (each 64 101)
+    ∷ quiet 1 [] (sync 1) 4095 15 0
     -- a handover: 8 before 10 before 13 before 15
     ∷ quiet 2 (stop 1 0 ∷ []) (handover 1 3) 0 8 1
     ∷ quiet 2 (stop 1 0 ∷ []) (handover 1 2) 0 10 1
@@ -171,14 +175,15 @@ table =
     -- a log owner need not run
     ∷ quiet 2 (report 2 1 ∷ stop 2 1 ∷ []) (handover 1 2) 4096 0 3
     -- a stop: 8 before 10 before 14 before 15
-    ∷ quiet 2 [] (stop 3 1) 0 8 0
+    ∷ quiet 2 [] (stop 8 1) 0 8 0
     ∷ quiet 2 (stop 1 0 ∷ []) (stop 1 1) 0 10 1
     ∷ quiet 2 [] (stop 1 1) 0 14 0
     ∷ quiet 2 [] (stop 1 0) 4095 15 0
-    -- a file: 1 before 2 before 3 before 5; 15 before 16
+    -- a file: 1 before 2 before 3 before 5; 16 where a line does not fit, which only an accepted event has
     ∷ row (file (1 ∷ [])) 1 []
     ∷ row (file (2 ∷ [])) 1 []
     ∷ row (file (2 ∷ 8 ∷ [])) 2 []
+    ∷ row (file (1 ∷ 8 ∷ [])) 3 []
     ∷ row (file (1 ∷ 8 ∷ 9 ∷ [])) 3 []
     ∷ row (file (1 ∷ 0 ∷ [])) 3 []
     ∷ row (file (1 ∷ 3 ∷ [])) 0 []

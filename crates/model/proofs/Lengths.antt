@@ -10,6 +10,7 @@ use Rattle.lists.proofs.Tests.{cond-case}
 use Rattle.model.specs.Events.{earlier, insert, namesBelow, namesOf}
 use Rattle.model.specs.Runs.{digits, decimal, signed, listed, line}
 use Rattle.model.specs.declared.Name.{Name}
+use Rattle.model.specs.declared.Panel.{Panel}
 use Rattle.model.specs.declared.Table.{Table}
 
 -- NAMES
@@ -60,14 +61,14 @@ names-bound (m ∷ ms) =
       names-bound ms,
     )
 
-pub length-line : (e c : ℕ) (x : ℤ) (ms : List Name)
-    → length (line e c x ms) ≡ length (decimal e) + length (decimal c) + length (signed x) + length (listed ms) + 3
+pub length-line : (e c : ℕ) (p : Panel) (ms : List Name)
+    → length (line e c p ms) ≡ length (decimal e) + length (decimal c) + length (signed (p .total)) + length (listed ms) + 3
 unfolding line
-length-line e c x ms =
+length-line e c p ms =
     omega (
       arith,
-      length-append (decimal e) ((32 ∷ decimal c) ++ ((32 ∷ signed x) ++ (listed ms ++ (10 ∷ [])))),
-      length-append (32 ∷ decimal c) ((32 ∷ signed x) ++ (listed ms ++ (10 ∷ []))),
-      length-append (32 ∷ signed x) (listed ms ++ (10 ∷ [])),
+      length-append (decimal e) ((32 ∷ decimal c) ++ ((32 ∷ signed (p .total)) ++ (listed ms ++ (10 ∷ [])))),
+      length-append (32 ∷ decimal c) ((32 ∷ signed (p .total)) ++ (listed ms ++ (10 ∷ []))),
+      length-append (32 ∷ signed (p .total)) (listed ms ++ (10 ∷ [])),
       length-append (listed ms) (10 ∷ []),
     )

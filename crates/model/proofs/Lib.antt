@@ -3,6 +3,8 @@ pub mod Tested
 pub mod Allowed
 pub mod Steps
 pub mod Lengths
+pub mod Runs
 pub mod Largest
 pub mod Computed
 pub mod Cases
+pub mod Owned

@@ -3,31 +3,29 @@ use Prim.Native.Nat.{ℕ}
 use mathlib.Core.Bool.{Bool, false, cond}
 use mathlib.Core.List.{List, [], _∷_}
 use lib.ListN.{length, replicate}
-use lib.IntN.{ℤ, pos}
 use lib.Dec.{eqb}
 use Rattle.lists.specs.Build.{over, overlay}
-use Rattle.model.specs.Tables.{capacity, noName, fresh, blankTable}
-use Rattle.model.specs.Events.{next, appliedBy, namesOf, finishes, total}
+use Rattle.model.specs.Tables.{capacity, scratchSize, noName, noPanel, fresh, zeroTable}
+use Rattle.model.specs.Events.{subject, next, appliedBy, panelOf, namesOf, finishes}
 use Rattle.model.specs.Records.{behind, decode}
 use Rattle.model.specs.WellFormed.{named}
 use Rattle.model.specs.Questions.{ask, firstNo, controllerCount, lentTable, stepQuestions}
 use Rattle.model.specs.declared.Name.{Name}
+use Rattle.model.specs.declared.Panel.{Panel}
 use Rattle.model.specs.declared.Table.{Table}
-use Rattle.model.specs.declared.Event.{Event}
 use Rattle.model.specs.declared.Answer.{Answer}
 use Rattle.model.specs.declared.FreshAnswer.{FreshAnswer}
 use Rattle.model.specs.declared.LookAnswer.{LookAnswer}
-use Rattle.model.specs.declared.Event.the-variants.{Send, Handover, Stop}
 
 -- THE SINGLE EVENT
 
 -- The answer: the refusal number, 0 if accepted; the set applied, by sender and then number; whether a sync of the
--- receiver's own is in it, and then that sync's answer, the total after the set; the unread rest of the bytes.
+-- receiver's own is in it, and then that sync's answer, what the panel shows after the set; the unread rest of the bytes.
 pub record EventAnswer : Type 0 where
   pub number : ℕ
   pub names : List Name
   pub finished : Bool
-  pub total : ℤ
+  pub panel : Panel
   pub rest : List ℕ
 
 -- what an event call leaves besides
@@ -35,25 +33,19 @@ pub record Outcome : Type 0 where
   pub answer : EventAnswer
   pub table : Table
 
--- the controller that a handover names as its receiver; 0 for another event
-unfoldable pub receiver : Event → ℕ
-receiver (Send c p) = 0
-receiver (Handover r o) = r
-receiver (Stop c k) = 0
-
 unfoldable pub accepted : Table → List ℕ → Outcome
 accepted t s =
     let e = decode s in
     let t′ = next t e in
     let S = appliedBy t e in
-    let f = finishes t S (receiver e) in
-    let x = total t′ (receiver e) in
+    let f = finishes t S (subject e) in
+    let p = panelOf t′ (subject e) in
     record {
       answer = record {
         number = 0;
         names = namesOf t S;
         finished = f;
-        total = cond f x (pos 0);
+        panel = cond f p noPanel;
         rest = behind s;
       };
       table = t′;
@@ -61,7 +53,7 @@ accepted t s =
 
 unfoldable pub refused : Table → List ℕ → ℕ → Outcome
 refused t s k = record {
-  answer = record { number = k; names = []; finished = false; total = pos 0; rest = s };
+  answer = record { number = k; names = []; finished = false; panel = noPanel; rest = s };
   table = t;
 }
 
@@ -79,7 +71,7 @@ event t s room = settled t s (firstNo (lentTable t ∷ stepQuestions t s room))
 
 -- the first 4,096 bytes zero, later ones as they were
 unfoldable pub cleared : List ℕ → List ℕ
-cleared s = over (λ i. 0) 4096 s
+cleared s = over (λ i. 0) scratchSize s
 
 -- the scratch area after an event with this number
 unfoldable pub scratchAfter : ℕ → List ℕ → List ℕ
@@ -90,7 +82,7 @@ unfoldable pub answerOf : EventAnswer → Answer
 answerOf a = record {
   number = a .number;
   finished = cond (a .finished) 1 0;
-  total = a .total;
+  panel = a .panel;
   size = length (a .names);
   names = overlay (a .names) (replicate capacity noName);
 }
@@ -100,11 +92,11 @@ answerOf a = record {
 unfoldable pub freshTable : ℕ → FreshAnswer
 freshTable n =
     let k = firstNo (controllerCount n ∷ []) in
-    record { number = k; table = cond (eqb k 0) (fresh n) blankTable }
+    record { number = k; table = cond (eqb k 0) (fresh n) zeroTable }
 
 -- THE PANEL LOOK (a local read)
 
 unfoldable pub look : Table → ℕ → LookAnswer
 look t c =
     let k = firstNo (lentTable t ∷ ask 8 (named t c) ∷ []) in
-    record { number = k; total = cond (eqb k 0) (total t c) (pos 0) }
+    record { number = k; panel = cond (eqb k 0) (panelOf t c) noPanel }

@@ -3,28 +3,30 @@ use Prim.Native.Nat.{ℕ, zero, suc, _+_, max}
 use mathlib.Core.Bool.{Bool, _&&_, _||_, cond}
 use mathlib.Core.List.{List, [], _∷_}
 use lib.ListN.{getD}
-use lib.IntN.{ℤ, pos, _-ℤ_}
+use lib.IntN.{pos, _-ℤ_}
 use lib.Dec.{eqb, leb, ltb}
 use Rattle.lists.specs.Below.{count, sum, greatest}
 use Rattle.lists.specs.Build.{tabulate}
-use Rattle.model.specs.Tables.{seats, capacity, messageNumber, messageOf, blank, at, message, slotAt, place, entry, held, applied, highest, withController, withMessage, withEntry, withRead, withMark, withDelivered, withStop}
+use Rattle.model.specs.Tables.{seats, capacity, messageNumber, messageOf, unheld, at, message, slotAt, place, entry, held, applied, highest, withController, withMessage, withEntry, withRead, withMark, withDelivered, withStop}
 use Rattle.model.specs.Delivery.{Slots, has, applicable}
 use Rattle.model.specs.declared.Payload.{Payload}
 use Rattle.model.specs.declared.Message.{Message}
 use Rattle.model.specs.declared.Name.{Name}
 use Rattle.model.specs.declared.Controller.{Controller}
+use Rattle.model.specs.declared.Panel.{Panel}
 use Rattle.model.specs.declared.Table.{Table}
 use Rattle.model.specs.declared.Event.{Event}
 use Rattle.model.specs.declared.Event.the-variants.{Send, Handover, Stop}
 
 -- 1. REPORT AND SYNC (scd-broadcast): lines 1 and 5 to 12 with i = sd = g
 
--- A message of c, numbered by its log, is buffered with c's own mark and ends c's log.
-unfoldable pub send : Table → ℕ → Payload → Table
-send t c p =
-    let k = at t c .length + 1 in
-    let s = t .count in
-    withController (withMessage t (messageOf c (messageNumber k) p)) c (withMark (withEntry (at t c) s) s (blank .marks) c k)
+-- the message that c sends next, numbered by its log
+unfoldable pub sentMessage : Table → ℕ → Payload → Message
+sentMessage t c p = messageOf c (messageNumber (at t c .length + 1)) p
+
+-- c with a message of the next slot: buffered with c's own mark, and at the end of c's log
+unfoldable pub sent : Table → ℕ → Controller
+sent t c = let s = t .count in withMark (withEntry (at t c) s) s (unheld .marks) c (at t c .length + 1)
 
 -- 2. HANDOVER (fifo-delivery from o): lines 3 to 14
 
@@ -33,7 +35,7 @@ unfoldable pub forward : Controller → Message → ℕ → ℕ → ℕ → Cont
 forward c m s o k =
     cond (leb (m .number .0) (highest c (m .sender))) c
     (cond (held c s) (withMark c s (entry (c .pending) s .marks) o k)
-    (withMark (withEntry c s) s (blank .marks) o k))
+    (withMark (withEntry c s) s (unheld .marks) o k))
 
 -- the slot that r reads next in the log of o
 unfoldable pub nextSlot : Table → ℕ → ℕ → ℕ
@@ -63,19 +65,31 @@ highestIn t S x = greatest (t .count) (λ s. let k = numberOf x (message t s) in
 unfoldable pub deliver : Table → Controller → Slots → Controller
 deliver t c S =
     withDelivered c
-    (tabulate capacity (λ s. cond (has S s) blank (entry (c .pending) s)))
+    (tabulate capacity (λ s. cond (has S s) unheld (entry (c .pending) s)))
     (tabulate capacity (λ s. cond (has S s) 1 (getD (c .applied) s 0)))
     (tabulate seats (λ x. messageNumber (max (highest c (suc x)) (highestIn t S (suc x)))))
 
-unfoldable pub handover : Table → ℕ → ℕ → Table
-handover t r o = withController t r (deliver t (received t r o) (handoverSet t r o))
-
 -- 4. STOP (crash), and every event
 
+-- the controller that an event changes, and that controller afterwards
+unfoldable pub subject : Event → ℕ
+subject (Send c p) = c
+subject (Handover r o) = r
+subject (Stop c k) = c
+
+unfoldable pub after : Table → Event → Controller
+after t (Send c p) = sent t c
+after t (Handover r o) = deliver t (received t r o) (handoverSet t r o)
+after t (Stop c k) = withStop (at t c) k
+
+-- the table with the message that an event sends
+unfoldable pub withSent : Table → Event → Table
+withSent t (Send c p) = withMessage t (sentMessage t c p)
+withSent t (Handover r o) = t
+withSent t (Stop c k) = t
+
 unfoldable pub next : Table → Event → Table
-next t (Send c p) = send t c p
-next t (Handover r o) = handover t r o
-next t (Stop c k) = withController t c (withStop (at t c) k)
+next t e = withController (withSent t e) (subject e) (after t e)
 
 -- the set that an event applies
 unfoldable pub appliedBy : Table → Event → Slots
@@ -83,14 +97,19 @@ appliedBy t (Send c p) = []
 appliedBy t (Handover r o) = handoverSet t r o
 appliedBy t (Stop c k) = []
 
--- TOTALS: the counter of Algorithm 4, widened to signed amounts
+-- WHAT A PANEL SHOWS (a local read): the counter of Algorithm 4, widened to signed amounts
 
--- the sum of a weight over what c has applied
-unfoldable pub weigh : (Payload → ℕ) → Table → ℕ → ℕ
-weigh w t c = sum (t .count) (λ s. let x = w (message t s .payload) in cond (applied (at t c) s) x 0)
+-- the sum of a weight over what x has applied
+unfoldable pub weigh : (Payload → ℕ) → Table → Controller → ℕ
+weigh w t x = sum (t .count) (λ s. let v = w (message t s .payload) in cond (applied x s) v 0)
 
-unfoldable pub total : Table → ℕ → ℤ
-total t c = pos (weigh (λ p. p .added) t c) -ℤ pos (weigh (λ p. p .withdrawn) t c)
+-- the panel of a controller that is x
+unfoldable pub shown : Table → Controller → Panel
+shown t x = record { total = pos (weigh (λ p. p .added) t x) -ℤ pos (weigh (λ p. p .withdrawn) t x) }
+
+-- the panel of controller c
+unfoldable pub panelOf : Table → ℕ → Panel
+panelOf t c = shown t (at t c)
 
 -- NAMES
 

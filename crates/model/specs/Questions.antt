@@ -5,7 +5,7 @@ use mathlib.Core.List.{List, [], _∷_, _++_}
 use lib.ListN.{length}
 use lib.Dec.{eqb, leb, ltb}
 use Rattle.lists.specs.Below.{count, all}
-use Rattle.model.specs.Tables.{seats, capacity, yes?, at, message, place, held}
+use Rattle.model.specs.Tables.{seats, capacity, scratchSize, yes?, at, message, place, held}
 use Rattle.model.specs.Records.{byte, size, kind, sizeOf, decode}
 use Rattle.model.specs.WellFormed.{named, fairAmount, wellFormed}
 use Rattle.model.specs.declared.Table.{Table}
@@ -81,7 +81,7 @@ eventQuestions t (Stop c k) =
 
 -- question 15, of a scratch area of so many bytes
 unfoldable pub scratchRoom : ℕ → Question
-scratchRoom room = ask 15 (leb 4096 room)
+scratchRoom room = ask 15 (leb scratchSize room)
 
 -- questions 5 to 15
 unfoldable pub stepQuestions : Table → List ℕ → ℕ → List Question

@@ -6,12 +6,13 @@ use lib.ListN.{length, drop}
 use lib.IntN.{ℤ, pos, negsuc}
 use lib.Dec.{eqb, ltb}
 use Rattle.lists.specs.Build.{overlay}
-use Rattle.model.specs.Tables.{fresh, blankTable}
-use Rattle.model.specs.Events.{total}
-use Rattle.model.specs.Records.{byte, decode}
+use Rattle.model.specs.Tables.{fresh, zeroTable}
+use Rattle.model.specs.Events.{subject, panelOf}
+use Rattle.model.specs.Records.{byte, behind, decode}
 use Rattle.model.specs.Questions.{ask, firstNo, fileQuestions, lineFits}
-use Rattle.model.specs.Calls.{step, receiver, cleared}
+use Rattle.model.specs.Calls.{step, cleared}
 use Rattle.model.specs.declared.Name.{Name}
+use Rattle.model.specs.declared.Panel.{Panel}
 use Rattle.model.specs.declared.Table.{Table}
 use Rattle.model.specs.declared.RunAnswer.{RunAnswer}
 
@@ -35,16 +36,16 @@ unfoldable pub listed : List Name → List ℕ
 listed [] = []
 listed (m ∷ ms) = (32 ∷ decimal (m .sender)) ++ ((46 ∷ decimal (m .number .0)) ++ listed ms)
 
--- the line of event number e, in which controller c applied a set and then shows x
-unfoldable pub line : ℕ → ℕ → ℤ → List Name → List ℕ
-line e c x ms = decimal e ++ ((32 ∷ decimal c) ++ ((32 ∷ signed x) ++ (listed ms ++ (10 ∷ []))))
+-- the line of event number e, in which controller c applied a set and its panel then shows p
+unfoldable pub line : ℕ → ℕ → Panel → List Name → List ℕ
+line e c p ms = decimal e ++ ((32 ∷ decimal c) ++ ((32 ∷ signed (p .total)) ++ (listed ms ++ (10 ∷ []))))
 
 -- no line for an empty set
-unfoldable pub lineOf : ℕ → ℕ → ℤ → List Name → List ℕ
-lineOf e c x [] = []
-lineOf e c x (m ∷ ms) = line e c x (m ∷ ms)
+unfoldable pub lineOf : ℕ → ℕ → Panel → List Name → List ℕ
+lineOf e c p [] = []
+lineOf e c p (m ∷ ms) = line e c p (m ∷ ms)
 
--- THE RUN
+-- ONE RECORD OF A RUN. The scratch area has `room` bytes and the listing `space`.
 
 -- what a run has done: the refusal number, the events accepted, its lines, its table
 pub record Progress : Type 0 where
@@ -53,22 +54,49 @@ pub record Progress : Type 0 where
   pub lines : List ℕ
   pub table : Table
 
--- The records of s, from a table on, with e events accepted and l listed, until the first refusal: at most f records.
--- The scratch area has `room` bytes and the listing `space`.
-unfoldable pub records : ℕ → Table → List ℕ → ℕ → ℕ → ℕ → List ℕ → Progress
-records zero t s room space e l = record { number = 0; events = e; lines = l; table = t }
-records (suc f) t [] room space e l = record { number = 0; events = e; lines = l; table = t }
-records (suc f) t (b ∷ s) room space e l =
-    let o = step t (b ∷ s) room in
-    let c = receiver (decode (b ∷ s)) in
-    let x = lineOf (e + 1) c (total (o .table) c) (o .answer .names) in
-    let k = firstNo (ask (o .answer .number) (eqb (o .answer .number) 0) ∷ lineFits (length x) (space - length l) ∷ []) in
-    let on = records f (o .table) (o .answer .rest) room space (e + 1) (l ++ x) in
-    cond (eqb k 0) on (record { number = k; events = e; lines = l; table = t })
+-- the line of the record that s begins with
+unfoldable pub lineAt : Progress → List ℕ → ℕ → List ℕ
+lineAt p s room =
+    let o = step (p .table) s room in
+    let c = subject (decode s) in
+    lineOf (p .events + 1) c (panelOf (o .table) c) (o .answer .names)
+
+-- its refusal number, question 16 put last
+unfoldable pub verdict : Progress → List ℕ → ℕ → ℕ → ℕ
+verdict p s room space =
+    let k = step (p .table) s room .answer .number in
+    let line = lineFits (length (lineAt p s room)) (space - length (p .lines)) in
+    firstNo (ask k (eqb k 0) ∷ line ∷ [])
+
+-- the run after it: one event more, with its line; or refused, and else as it was
+unfoldable pub advance : Progress → List ℕ → ℕ → ℕ → Progress
+advance p s room space =
+    let k = verdict p s room space in
+    let on : Progress = record {
+      number = 0;
+      events = p .events + 1;
+      lines = p .lines ++ lineAt p s room;
+      table = step (p .table) s room .table;
+    } in
+    cond (eqb k 0) on (record { number = k; events = p .events; lines = p .lines; table = p .table })
+
+-- THE RUN
+
+-- the records of s, at most f of them, until the first refusal
+unfoldable pub records : ℕ → Progress → List ℕ → ℕ → ℕ → Progress
+records zero p s room space = p
+records (suc f) p [] room space = p
+records (suc f) p (b ∷ s) room space =
+    let q = advance p (b ∷ s) room space in
+    let on = records f q (behind (b ∷ s)) room space in
+    cond (eqb (q .number) 0) on q
+
+unfoldable pub begun : ℕ → Progress
+begun n = record { number = 0; events = 0; lines = []; table = fresh n }
 
 -- the records of a whole file, of which there are fewer than bytes
 unfoldable pub progress : List ℕ → ℕ → ℕ → Progress
-progress s room space = records (length s) (fresh (byte s 1)) (drop 2 s) room space 0 []
+progress s room space = records (length s) (begun (byte s 1)) (drop 2 s) room space
 
 -- what a file run answers, and what it leaves
 pub record RunOutcome : Type 0 where
@@ -89,7 +117,7 @@ fileRun s listing scratch =
     let on = ran (progress s (length scratch) (length listing)) listing scratch in
     cond (eqb k 0) on
     (record {
-      answer = record { number = k; events = 0; written = 0; table = blankTable };
+      answer = record { number = k; events = 0; written = 0; table = zeroTable };
       listing = listing;
       scratch = scratch;
     })

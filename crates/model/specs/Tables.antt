@@ -4,6 +4,7 @@ use Prim.Native.Nat.{ℕ, _+_, _-_, _≤_, _<_}
 use mathlib.Core.Bool.{Bool}
 use mathlib.Core.List.{List, []}
 use lib.ListN.{getD, set, replicate}
+use lib.IntN.{pos}
 use lib.Dec.{ltb}
 use Rattle.model.specs.declared.ForwardNumber.{ForwardNumber}
 use Rattle.model.specs.declared.MessageNumber.{MessageNumber}
@@ -12,6 +13,7 @@ use Rattle.model.specs.declared.Message.{Message}
 use Rattle.model.specs.declared.Name.{Name}
 use Rattle.model.specs.declared.Pending.{Pending}
 use Rattle.model.specs.declared.Controller.{Controller}
+use Rattle.model.specs.declared.Panel.{Panel}
 use Rattle.model.specs.declared.Table.{Table}
 
 -- LIMITS
@@ -22,6 +24,10 @@ seats = 7
 
 abbrev pub capacity : ℕ
 capacity = 64
+
+-- the scratch bytes that an event asks for
+abbrev pub scratchSize : ℕ
+scratchSize = 4096
 
 -- a controller's name, of n
 pub record Named (n c : ℕ) : Type 0 where
@@ -39,10 +45,10 @@ yes? f = ltb 0 f
 -- MESSAGES
 
 abbrev pub report : ℕ → ℕ → Payload
-report a w = record { kind = 1; added = a; withdrawn = w }
+report a w = record { kind = 1; spare = 0; added = a; withdrawn = w }
 
 abbrev pub sync : Payload
-sync = record { kind = 2; added = 0; withdrawn = 0 }
+sync = record { kind = 2; spare = 0; added = 0; withdrawn = 0 }
 
 -- a place in a log, and a sender's number: separate counters, each from 1
 abbrev pub forwardNumber : ℕ → ForwardNumber
@@ -63,47 +69,50 @@ abbrev pub noName : Name
 noName = record { sender = 0; number = none }
 
 abbrev pub noMessage : Message
-noMessage = record { sender = 0; number = none; payload = record { kind = 0; added = 0; withdrawn = 0 } }
+noMessage = record { sender = 0; number = none; payload = record { kind = 0; spare = 0; added = 0; withdrawn = 0 } }
+
+-- a panel that shows nothing, as refusals answer it
+abbrev pub noPanel : Panel
+noPanel = record { total = pos 0 }
 
 abbrev pub noPending : Pending
 noPending = record { held = 0; marks = [] }
 
 abbrev pub noController : Controller
-noController = record { running = 0; length = 0; log = []; read = []; pending = []; applied = []; highest = [] }
+noController = record { length = 0; log = []; read = []; pending = []; applied = []; highest = []; running = 0 }
 
--- A FRESH TABLE, AND ONE OF ZEROS
+-- A TABLE IN WHICH NOTHING WAS SENT
+
+-- not pending, with every mark so
+abbrev pub unmarked : ℕ → Pending
+unmarked m = record { held = 0; marks = replicate 7 (record { 0 = m }) }
 
 -- not pending: every mark is absent
-abbrev pub blank : Pending
-blank = record { held = 0; marks = replicate 7 (record { 0 = absent }) }
+abbrev pub unheld : Pending
+unheld = unmarked absent
 
-unfoldable pub idle : Controller
-idle = record {
-  running = 1;
+-- a controller that has done nothing, with this flag and these marks
+unfoldable pub idle : ℕ → ℕ → Controller
+idle f m = record {
   length = 0;
   log = replicate 64 0;
   read = replicate 7 0;
-  pending = replicate 64 blank;
+  pending = replicate 64 (unmarked m);
   applied = replicate 64 0;
   highest = replicate 7 none;
+  running = f;
 }
 
+unfoldable pub start : ℕ → ℕ → ℕ → Table
+start n f m = record { n = n; count = 0; messages = replicate 64 noMessage; controllers = replicate 7 (idle f m) }
+
+-- all n controllers run
 unfoldable pub fresh : ℕ → Table
-fresh n = record { n = n; count = 0; messages = replicate 64 noMessage; controllers = replicate 7 idle }
+fresh n = start n 1 absent
 
-unfoldable pub zeroController : Controller
-zeroController = record {
-  running = 0;
-  length = 0;
-  log = replicate 64 0;
-  read = replicate 7 0;
-  pending = replicate 64 (record { held = 0; marks = replicate 7 (record { 0 = 0 }) });
-  applied = replicate 64 0;
-  highest = replicate 7 none;
-}
-
-unfoldable pub blankTable : Table
-blankTable = record { n = 0; count = 0; messages = replicate 64 noMessage; controllers = replicate 7 zeroController }
+-- every field is zero
+unfoldable pub zeroTable : Table
+zeroTable = start 0 0 0
 
 -- READS
 
@@ -154,59 +163,59 @@ withMessage t m = record { n = t .n; count = t .count + 1; messages = set (t .me
 -- a slot at the end of the log
 abbrev pub withEntry : Controller → ℕ → Controller
 withEntry c s = record {
-  running = c .running;
   length = c .length + 1;
   log = set (c .log) (c .length) s;
   read = c .read;
   pending = c .pending;
   applied = c .applied;
   highest = c .highest;
+  running = c .running;
 }
 
 -- one entry more of the log of o read
 abbrev pub withRead : Controller → ℕ → Controller
 withRead c o = record {
-  running = c .running;
   length = c .length;
   log = c .log;
   read = set (c .read) (o - 1) (place c o + 1);
   pending = c .pending;
   applied = c .applied;
   highest = c .highest;
+  running = c .running;
 }
 
 -- slot s in the buffer with these marks, and place k of controller o marked
 abbrev pub withMark : Controller → ℕ → List ForwardNumber → ℕ → ℕ → Controller
 withMark c s ms o k = record {
-  running = c .running;
   length = c .length;
   log = c .log;
   read = c .read;
   pending = set (c .pending) s (record { held = 1; marks = set ms (o - 1) (forwardNumber k) });
   applied = c .applied;
   highest = c .highest;
+  running = c .running;
 }
 
 -- another buffer, and what was applied
 abbrev pub withDelivered : Controller → List Pending → List ℕ → List MessageNumber → Controller
 withDelivered c P A H = record {
-  running = c .running;
   length = c .length;
   log = c .log;
   read = c .read;
   pending = P;
   applied = A;
   highest = H;
+  running = c .running;
 }
 
 -- stopped, with the first k entries of the log
 abbrev pub withStop : Controller → ℕ → Controller
 withStop c k = record {
-  running = 0;
   length = k;
   log = c .log;
   read = c .read;
   pending = c .pending;
   applied = c .applied;
   highest = c .highest;
+  running = 0;
 }

@@ -15,12 +15,12 @@ unfoldable pub named : Table → ℕ → Bool
 named t c = ltb 0 c && leb c (t .n)
 
 -- A report's amount is from -360 to 360 and not 0; a sync has none.
-unfoldable pub magnitude : ℕ → Bool
-magnitude x = ltb 0 x && leb x 360
+unfoldable pub fairMagnitude : ℕ → Bool
+fairMagnitude x = ltb 0 x && leb x 360
 
 unfoldable pub fairAmount : Payload → Bool
 fairAmount p =
-    eqb (p .kind) 1 && (magnitude (p .added) && eqb (p .withdrawn) 0 || eqb (p .added) 0 && magnitude (p .withdrawn))
+    eqb (p .kind) 1 && (fairMagnitude (p .added) && eqb (p .withdrawn) 0 || eqb (p .added) 0 && fairMagnitude (p .withdrawn))
     || eqb (p .kind) 2 && (eqb (p .added) 0 && eqb (p .withdrawn) 0)
 
 unfoldable pub sameName : Message → Message → Bool

@@ -1,7 +1,9 @@
 // The table of all controllers, its limits, its constructors and what an amount may be. What each function answers is a definition of specs/.
 ghost use mathlib.Core.Path.{_≡_};
-ghost use Rattle.model.specs.WellFormed.{magnitude, fairAmount};
-ghost use Rattle.model.specs.Tables.{report, sync, messageOf, forwardNumber, messageNumber, fresh, blankTable};
+ghost use Rattle.model.specs.WellFormed.{fairMagnitude, fairAmount};
+ghost use Rattle.model.specs.Tables.{report, sync, messageOf, forwardNumber, messageNumber, start, fresh, zeroTable};
+
+pub mod refusal;
 
 // A place in a log (the source's sn_g), 1 to 64; 255 is absent.
 #[repr(C)]
@@ -11,10 +13,12 @@ pub struct ForwardNumber(pub u8);
 #[repr(C)]
 pub struct MessageNumber(pub u8);
 
-// What a message says: kind 1 is a report and 2 a sync; the amount is two magnitudes, at most one of them not 0.
+// What a message says: kind 1 is a report and 2 a sync; the amount is two magnitudes, at most one of them not 0. The
+// spare byte fills the place of a hole: it is written 0, and neither tested nor used.
 #[repr(C)]
 pub struct Payload {
     pub kind: u8,
+    pub spare: u8,
     pub added: u16,
     pub withdrawn: u16,
 }
@@ -44,15 +48,17 @@ pub struct Pending {
 // A process: what it has forwarded, read, buffered and scd-delivered. Logs hold slots; pending and applied go by slot.
 #[repr(C)]
 pub struct Controller {
-    pub running: u8,
     pub length: usize,
     pub log: [u8; 64],
     pub read: [usize; 7],
     pub pending: [Pending; 64],
     pub applied: [u8; 64],
     pub highest: [MessageNumber; 7],
+    pub running: u8,
 }
 
+// The whole machine: how many controllers and messages there are, the messages in the order sent, the controllers. No
+// field of a table, or of what stands in it, has padding before or behind it.
 #[repr(C)]
 pub struct Table {
     pub n: usize,
@@ -61,13 +67,19 @@ pub struct Table {
     pub controllers: [Controller; 7],
 }
 
+// What a panel shows (a local read): the total of what its controller has applied.
+#[repr(C)]
+pub struct Panel {
+    pub total: i32,
+}
+
 // What the single-event call answers: the refusal number, 0 if accepted; whether a sync of the receiver's own is in the
 // set applied, and then its answer; how many messages are in the set, and their names, zeros behind them.
 #[repr(C)]
 pub struct Answer {
     pub number: u8,
     pub finished: u8,
-    pub total: i32,
+    pub panel: Panel,
     pub size: usize,
     pub names: [Name; 64],
 }
@@ -83,7 +95,7 @@ pub struct FreshAnswer {
 #[repr(C)]
 pub struct LookAnswer {
     pub number: u8,
-    pub total: i32,
+    pub panel: Panel,
 }
 
 // What a file run answers: the refusal number, the events accepted, the listing bytes written and the last table.
@@ -136,6 +148,7 @@ impl Payload {
     {
         Payload {
             kind: Payload::REPORT,
+            spare: 0,
             added,
             withdrawn,
         }
@@ -146,13 +159,14 @@ impl Payload {
     {
         Payload {
             kind: Payload::SYNC,
+            spare: 0,
             added: 0,
             withdrawn: 0,
         }
     }
 
-    fn magnitude(x: u16) -> bool
-        ensures { λ r. ⌜ r ≡ magnitude x ⌝ }
+    fn fair_magnitude(x: u16) -> bool
+        ensures { λ r. ⌜ r ≡ fairMagnitude x ⌝ }
     {
         (0 < x) & (x <= Payload::AMOUNT)
     }
@@ -161,8 +175,8 @@ impl Payload {
     pub fn fair(p: Payload) -> bool
         ensures { λ r. ⌜ r ≡ fairAmount p ⌝ }
     {
-        let a = Payload::magnitude(p.added) & (p.withdrawn == 0);
-        let w = (p.added == 0) & Payload::magnitude(p.withdrawn);
+        let a = Payload::fair_magnitude(p.added) & (p.withdrawn == 0);
+        let w = (p.added == 0) & Payload::fair_magnitude(p.withdrawn);
         ((p.kind == Payload::REPORT) & (a | w))
             | ((p.kind == Payload::SYNC) & ((p.added == 0) & (p.withdrawn == 0)))
     }
@@ -187,31 +201,32 @@ impl Table {
 
     pub const SCRATCH: usize = 4096;
 
-    // A table of n controllers in which nothing was sent.
-    pub fn fresh(n: usize) -> Table
-        ensures { λ r. ⌜ r ≡ fresh n ⌝ }
+    // A table in which nothing was sent, of n controllers with this flag, every mark being `mark`.
+    fn start(n: usize, running: u8, mark: u8) -> Table
+        ensures { λ r. ⌜ r ≡ start n running mark ⌝ }
     {
         let none = Message {
             sender: 0,
             number: MessageNumber(MessageNumber::NONE),
             payload: Payload {
                 kind: 0,
+                spare: 0,
                 added: 0,
                 withdrawn: 0,
             },
         };
-        let nothing = Pending {
+        let unheld = Pending {
             held: 0,
-            marks: [ForwardNumber(ForwardNumber::ABSENT); 7],
+            marks: [ForwardNumber(mark); 7],
         };
         let idle = Controller {
-            running: 1,
             length: 0,
             log: [0; 64],
             read: [0; 7],
-            pending: [nothing; 64],
+            pending: [unheld; 64],
             applied: [0; 64],
             highest: [MessageNumber(MessageNumber::NONE); 7],
+            running,
         };
         Table {
             n,
@@ -221,37 +236,17 @@ impl Table {
         }
     }
 
-    // The table with every field zero, which a refused request answers.
-    pub fn blank() -> Table
-        ensures { λ r. ⌜ r ≡ blankTable ⌝ }
+    // A table of n controllers in which nothing was sent.
+    pub fn fresh(n: usize) -> Table
+        ensures { λ r. ⌜ r ≡ fresh n ⌝ }
     {
-        let none = Message {
-            sender: 0,
-            number: MessageNumber(0),
-            payload: Payload {
-                kind: 0,
-                added: 0,
-                withdrawn: 0,
-            },
-        };
-        let nothing = Pending {
-            held: 0,
-            marks: [ForwardNumber(0); 7],
-        };
-        let zero = Controller {
-            running: 0,
-            length: 0,
-            log: [0; 64],
-            read: [0; 7],
-            pending: [nothing; 64],
-            applied: [0; 64],
-            highest: [MessageNumber(0); 7],
-        };
-        Table {
-            n: 0,
-            count: 0,
-            messages: [none; 64],
-            controllers: [zero; 7],
-        }
+        Table::start(n, 1, ForwardNumber::ABSENT)
+    }
+
+    // The table with every field zero, which a refused request answers.
+    pub fn zero() -> Table
+        ensures { λ r. ⌜ r ≡ zeroTable ⌝ }
+    {
+        Table::start(0, 0, 0)
     }
 }

@@ -1,18 +1,34 @@
 -- `Payload::fair` is the rule of question 9 for a report, and of a sync. Assumes nothing.
-use Rattle.model.specs.WellFormed.{fairAmount}
+use mathlib.Core.Path.{_≡_}
+use mathlib.Core.Bool.{Bool, _&&_, _||_}
+use lib.Dec.{eqb}
+use Rattle.model.specs.WellFormed.{fairMagnitude, fairAmount}
+use Rattle.model.specs.declared.Payload.{Payload}
 use borrow.Author.Needs.{needs}
 use Rattle.model.proofs.Payload.fair.Statement.{statement}
 use Rattle.model.proofs.Payload.fair.Tie as tie
 
-magnitude-requires : tie.Need-magnitude-requires
-magnitude-requires c κs = search needs
+-- from the end to the second magnitude, and from there to the first
+abbrev second : tie.After-struct-known6 → tie.After-fair-magnitude2
+second c = c .before .before .before .before
 
-magnitude-requires-2 : tie.Need-magnitude-requires-2
-magnitude-requires-2 c κs = search needs
+abbrev first : tie.After-fair-magnitude2 → tie.After-fair-magnitude
+first c = c .before .before .before
+
+fair-magnitude-requires : tie.Need-fair-magnitude-requires
+fair-magnitude-requires c κs = search needs
+
+fair-magnitude-requires-2 : tie.Need-fair-magnitude-requires-2
+fair-magnitude-requires-2 c κs = search needs
+
+fair-is : (p : Payload) (a w : Bool) → a ≡ fairMagnitude (p .added) → w ≡ fairMagnitude (p .withdrawn)
+    → (eqb (p .kind) 1 && (a && eqb (p .withdrawn) 0 || eqb (p .added) 0 && w) || eqb (p .kind) 2 && (eqb (p .added) 0 && eqb (p .withdrawn) 0))
+    ≡ fairAmount p
+unfolding fairAmount
+fair-is p a w e f = rw (e, f)
 
 returns : tie.Need-returns
-unfolding fairAmount
-returns c = rw (c .before .before .before .before .before .before .before .magnitude .ensures, c .before .before .before .before .magnitude2 .ensures)
+returns c = fair-is _ _ _ (first (second c) .fair-magnitude .ensures) (second c .fair-magnitude2 .ensures)
 
 pub fair-spec : {M : Type 1} → statement M
-fair-spec = tie.close (tie.spec magnitude-requires magnitude-requires-2 returns)
+fair-spec = tie.close (tie.spec fair-magnitude-requires fair-magnitude-requires-2 returns)
