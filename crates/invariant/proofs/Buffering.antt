@@ -22,19 +22,19 @@ use Rattle.invariant.proofs.Logs.{Entered, last, earlier, entered, ente
 pub unheld-absent : (f : ℕ) → f < seats → mark unheld f ≡ absent
 unheld-absent f h = ap (λ (m : ForwardNumber). m .0) (getD-replicate seats f (forwardNumber absent) (forwardNumber 0) h)
 
-pub unheld-marks : (f : ℕ) → f < seats → GoodMark (getD (unheld .marks) f (forwardNumber 0) .0)
-unheld-marks f h = inl (unheld-absent f h)
+pub unheld-marks : {n : ℕ} → n ≤ seats → (f : ℕ) → f < n → GoodMark (getD (unheld .marks) f (forwardNumber 0) .0)
+unheld-marks few f h = inl (unheld-absent f (omega arith))
 
 -- A slot of the run that is not applied goes into the buffer, or stays there, with good marks.
-module _ (t : Table) (i : ℕ) (c : Controller) (g : GoodController t i c) (z : SizedController c) (counted : t .count ≤ capacity)
+module _ (t : Table) (i : ℕ) (c : Controller) (g : GoodController t i c) (z : SizedController c) (few : t .n ≤ seats) (counted : t .count ≤ capacity)
     (s : ℕ) (run : s < t .count) (fresh : applied c s ≡ false)
-    (ms : List ForwardNumber) (sized : length ms ≡ seats) (good : (f : ℕ) → f < seats → GoodMark (getD ms f (forwardNumber 0) .0))
+    (ms : List ForwardNumber) (sized : length ms ≡ seats) (good : (f : ℕ) → f < t .n → GoodMark (getD ms f (forwardNumber 0) .0))
     (o k : ℕ) (low : 0 < k) (high : k ≤ 64) where
-  marked-good-marks : (r f : ℕ) → r < t .count → held (withMark c s ms o k) r ≡ true → f < seats → GoodMark (mark (entry (withMark c s ms o k .pending) r) f)
+  marked-good-marks : (r f : ℕ) → r < t .count → held (withMark c s ms o k) r ≡ true → f < t .n → GoodMark (mark (entry (withMark c s ms o k .pending) r) f)
   marked-good-marks r f h e hf = go (ℕ-discrete r s)
     where
       go : Dec (r ≡ s) → GoodMark (mark (entry (withMark c s ms o k .pending) r) f)
-      go (yes p) = rw p (marked-marks c s ms o k GoodMark z (omega arith) sized (inr (low, high)) good f hf)
+      go (yes p) = rw p (marked-marks c s ms o k GoodMark z (omega arith) sized (inr (low, high)) f (omega arith) (good f hf))
       go (no p) =
           rw (marked-entry-other c s ms o k r p)
           (g .marks r f h (sym (marked-held-other c s ms o k r p) ∙ e) hf)

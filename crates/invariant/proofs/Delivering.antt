@@ -83,7 +83,7 @@ module _ (t : Table) (i : ℕ) (c : Controller) (g : GoodController t i c) (few 
     long = g .long;
   }
     where
-      marks : (s f : ℕ) → s < t .count → (has S s ≡ false) × (held c s ≡ true) → f < seats → GoodMark (mark (entry (deliver t c S .pending) s) f)
+      marks : (s f : ℕ) → s < t .count → (has S s ≡ false) × (held c s ≡ true) → f < t .n → GoodMark (mark (entry (deliver t c S .pending) s) f)
       marks s f h k hf = rw (delivered-entry t c S s (omega arith), k .0) (g .marks s f h (k .1) hf)
 
       outside : (s : ℕ) → s < capacity → (held c s ≡ false) × (applied c s ≡ false) → (held (deliver t c S) s ≡ false) × (applied (deliver t c S) s ≡ false)

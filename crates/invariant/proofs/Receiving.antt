@@ -50,9 +50,9 @@ forward-good : (t : Table) (w : WellFormed t) (i : ℕ) (c : Controller) → Goo
     → (s : ℕ) → s < t .count → (o k : ℕ) → 0 < k → k ≤ 64 → GoodController t i (forward c (message t s) s o k)
 forward-good t w i c g z running s run o k low high =
     forward-case (GoodController t i) c (message t s) s o k (λ _. g)
-    (λ above e. marked-good t i c g z (w .counted) s run (unapplied above) (entry (c .pending) s .marks) (z .marks s (omega (arith, w .counted)))
+    (λ above e. marked-good t i c g z (w .few) (w .counted) s run (unapplied above) (entry (c .pending) s .marks) (z .marks s (omega (arith, w .counted)))
     (λ f hf. g .marks s f run e hf) o k low high e)
-    (λ above e. entered-good t i c g z (w .counted) s run (unapplied above) (unheld .marks) refl unheld-marks o k low high
+    (λ above e. entered-good t i c g z (w .few) (w .counted) s run (unapplied above) (unheld .marks) refl (unheld-marks (w .few)) o k low high
     (g .exact running s run ∙ rw (e, unapplied above) refl))
   where
     unapplied : leb (message t s .number .0) (highest c (message t s .sender)) ≡ false → applied c s ≡ false

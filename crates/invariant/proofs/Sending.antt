@@ -149,9 +149,9 @@ module _ (t : Table) (w : WellFormed t) (z : Sized t) (c : ℕ) (p : Payload) (a
   unfolding withMessage sentMessage sent
   sender-good =
       renamed (withMessage t (sentMessage t c p)) 0 c (sent t c)
-      (entered-good (withMessage t (sentMessage t c p)) 0 (at t c) unnamed-good (at-sized t c z (seated (w .few) (a .sender)))
+      (entered-good (withMessage t (sentMessage t c p)) 0 (at t c) unnamed-good (at-sized t c z (seated (w .few) (a .sender))) (w .few)
       (omega (arith, a .room)) (t .count) (omega arith) (w .controllers c (a .sender) .outside (t .count) (a .room) (omega arith) .1)
-      (unheld .marks) refl unheld-marks c (at t c .length + 1) (omega arith) (omega (arith, a .room, log-room)) log-lacks-new)
+      (unheld .marks) refl (unheld-marks (w .few)) c (at t c .length + 1) (omega arith) (omega (arith, a .room, log-room)) log-lacks-new)
       (λ r. added-each t (sentMessage t c p) (λ m. m .sender ≡ c → m .number .0 ≤ at t c .length + 1) z (a .room) (λ _. omega arith)
       (λ s h e. omega (arith, w .controllers c (a .sender) .long r s h e)))
 

@@ -62,15 +62,14 @@ module _ (c : Controller) (s : ℕ) (ms : List ForwardNumber) (o k : ℕ) where
   pub marked-held : SizedController c → s < capacity → held (withMark c s ms o k) s ≡ true
   marked-held z h = ap (λ (p : Pending). yes? (p .held)) (getD-set-same (c .pending) s _ noPending (omega (arith, z .pending)))
 
-  -- a property that the new mark and the given marks have
+  -- a property that the new mark and the given mark of f have
   pub marked-marks : (P : ℕ → Type 0) → SizedController c → s < capacity → length ms ≡ seats → P k
-      → ((f : ℕ) → f < seats → P (getD ms f (forwardNumber 0) .0))
-      → (f : ℕ) → f < seats → P (mark (entry (withMark c s ms o k .pending) s) f)
-  marked-marks P z h l pk pms f hf = rw (getD-set-same (c .pending) s _ noPending (omega (arith, z .pending))) (go (ℕ-discrete f (o - 1)))
+      → (f : ℕ) → f < seats → P (getD ms f (forwardNumber 0) .0) → P (mark (entry (withMark c s ms o k .pending) s) f)
+  marked-marks P z h l pk f hf pf = rw (getD-set-same (c .pending) s _ noPending (omega (arith, z .pending))) (go (ℕ-discrete f (o - 1)))
     where
       go : Dec (f ≡ o - 1) → P (getD (set ms (o - 1) (forwardNumber k)) f (forwardNumber 0) .0)
       go (yes e) = rw (e, getD-set-same ms (o - 1) (forwardNumber k) (forwardNumber 0) (omega arith)) pk
-      go (no e) = rw (getD-set-other ms (o - 1) f (forwardNumber k) (forwardNumber 0) e) (pms f hf)
+      go (no e) = rw (getD-set-other ms (o - 1) f (forwardNumber k) (forwardNumber 0) e) pf
 
   pub marked-entry-other : (r : ℕ) → r ≢ s → entry (withMark c s ms o k .pending) r ≡ entry (c .pending) r
   marked-entry-other r f = getD-set-other (c .pending) s r _ noPending f

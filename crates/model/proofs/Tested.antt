@@ -82,7 +82,7 @@ module _ (t : Table) (i : ℕ) (c : Controller) where
             distinct-same (c .length) _ (and-right (all (c .length) (λ k. ltb (slotAt c k) (t .count))) _ entries) j k hj hk
             (eq-eqb (slotAt c j) (slotAt c k) p) (eq-eqb (slotAt c k) (slotAt c j) (sym p));
         places = λ o h. leb-true (place c o) (at t o .length) (all-named (t .n) (λ o. leb (place c o) (at t o .length)) places o h);
-        marks = λ s f h p hf. mark-fact (mark (entry (c .pending) s) f) (all-at seats _ (implies-at (held c s) _ (all-at (t .count) _ marks s h) p) f hf);
+        marks = λ s f h p hf. mark-fact (mark (entry (c .pending) s) f) (all-at (t .n) _ (implies-at (held c s) _ (all-at (t .count) _ marks s h) p) f hf);
         apart = λ s h. not-both (held c s) (applied c s) (all-at (t .count) _ (and-left _ _ buffer) s h);
         outside = λ s h l.
             let w = elsewhere (ltb s (t .count)) _ (le-ltb s (t .count) l)
@@ -107,7 +107,7 @@ module _ (t : Table) (i : ℕ) (c : Controller) where
       (both (all-of (c .length) _ (λ k h. lt-ltb (slotAt c k) (t .count) (g .log-run k h)))
       (distinct-of (c .length) _ (λ j k hj l. ne-eqb (slotAt c j) (slotAt c k) (λ p. omega (arith, g .log-once j k hj (omega arith) p))))))
       (both (all-named-of (t .n) (λ o. leb (place c o) (at t o .length)) (λ o h. le-leb (place c o) (at t o .length) (g .places o h)))
-      (both (all-of (t .count) _ (λ s h. implies-of (held c s) _ (λ p. all-of seats _ (λ f hf. mark-test (mark (entry (c .pending) s) f) (g .marks s f h p hf)))))
+      (both (all-of (t .count) _ (λ s h. implies-of (held c s) _ (λ p. all-of (t .n) _ (λ f hf. mark-test (mark (entry (c .pending) s) f) (g .marks s f h p hf)))))
       (both (both (all-of (t .count) _ (λ s h. not-both-of (held c s) (applied c s) (g .apart s h)))
       (all-of capacity _ (λ s h. or-of (ltb s (t .count)) _ (λ p.
       let w = g .outside s h (ltb-false s (t .count) p) in both (ap not (w .0)) (ap not (w .1))))))

@@ -22,7 +22,7 @@ pub record GoodController (t : Table) (i : ℕ) (c : Controller) : Type 0 where
   pub log-once : (j k : ℕ) → j < c .length → k < c .length → slotAt c j ≡ slotAt c k → j ≡ k
   -- "read positions do not pass log ends"
   pub places : (o : ℕ) → Named (t .n) o → place c o ≤ at t o .length
-  pub marks : (s f : ℕ) → s < t .count → held c s ≡ true → f < seats → GoodMark (mark (entry (c .pending) s) f)
+  pub marks : (s f : ℕ) → s < t .count → held c s ≡ true → f < t .n → GoodMark (mark (entry (c .pending) s) f)
   -- "No message is both pending and applied at a controller"
   pub apart : (s : ℕ) → s < t .count → held c s ≡ true → applied c s ≡ true → ⊥
   -- and neither is a message that the run has not

@@ -63,7 +63,7 @@ unfoldable pub goodMark : ℕ → Bool
 goodMark k = eqb k absent || (ltb 0 k && leb k 64)
 
 unfoldable pub goodMarks : Table → Controller → Bool
-goodMarks t c = all (t .count) (λ s. not (held c s) || all seats (λ f. goodMark (mark (entry (c .pending) s) f)))
+goodMarks t c = all (t .count) (λ s. not (held c s) || all (t .n) (λ f. goodMark (mark (entry (c .pending) s) f)))
 
 -- "No message is both pending and applied at a controller"; and none of either is out of the run
 unfoldable pub goodBuffer : Table → Controller → Bool

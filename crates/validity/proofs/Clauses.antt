@@ -38,7 +38,7 @@ module _ (n k : ℕ) (M : List Message) (i : ℕ) (c : Controller) (places log :
   log-fits f = leb-true (c .length) 64 (and-left (leb (c .length) 64) _ (sym l ∙ f))
 
   pub log-holds : log ≡ true → (marks buffer highest running : Bool)
-      → marks ≡ goodMarks (part 0 k []) c → buffer ≡ goodBuffer (part 0 k []) c → highest ≡ goodHighest (part n k M) c → running ≡ goodRunning (part 0 k M) i c
+      → marks ≡ goodMarks (part n k []) c → buffer ≡ goodBuffer (part 0 k []) c → highest ≡ goodHighest (part n k M) c → running ≡ goodRunning (part 0 k M) i c
       → (places && (marks && (buffer && (highest && running)))) ≡ (goodLog (part n k M) c && (places && rest (part n k M) i c))
   unfolding goodLog goodMarks goodBuffer goodRunning message
   log-holds f marks buffer highest running m b h r =

@@ -142,37 +142,39 @@ fn good_mark(k: u8) -> bool
     (k == ForwardNumber::ABSENT) | ((0 < k) & ((k as usize) <= Table::MESSAGES))
 }
 
-fn each_mark(p: Pending) -> bool
-    ensures { λ r. ⌜ r ≡ all 7 (λ f. goodMark (mark p f)) ⌝ }
+fn each_mark(n: usize, p: Pending) -> bool
+    requires { ⌜ n ≤ 7 ⌝ }
+    ensures { λ r. ⌜ r ≡ all n (λ f. goodMark (mark p f)) ⌝ }
 {
     let marks = p.marks;
     let mut good = true;
-    for f in 0..Table::CONTROLLERS {
+    for f in 0..n {
         good = good_mark(marks[f].0) & good;
     }
     good
 }
 
 // The marks of a message that is not in the buffer are not read.
-fn good_entry(p: Pending) -> bool
-    ensures { λ r. ⌜ r ≡ (not (yes? (p .held)) || all 7 (λ f. goodMark (mark p f))) ⌝ }
+fn good_entry(n: usize, p: Pending) -> bool
+    requires { ⌜ n ≤ 7 ⌝ }
+    ensures { λ r. ⌜ r ≡ (not (yes? (p .held)) || all n (λ f. goodMark (mark p f))) ⌝ }
 {
     let held = p.held;
     if 0 < held {
-        return each_mark(p);
+        return each_mark(n, p);
     }
     true
 }
 
-fn good_marks(count: usize, c: Controller) -> bool
-    requires { ⌜ count ≤ 64 ⌝ }
-    ensures { λ r. ⌜ r ≡ goodMarks (part 0 count []) c ⌝ }
+fn good_marks(n: usize, count: usize, c: Controller) -> bool
+    requires { ⌜ (n ≤ 7) × (count ≤ 64) ⌝ }
+    ensures { λ r. ⌜ r ≡ goodMarks (part n count []) c ⌝ }
 {
     let pending = c.pending;
     let mut good = true;
     for s in 0..count {
         let entry = pending[s];
-        good = good_entry(entry) & good;
+        good = good_entry(n, entry) & good;
     }
     good
 }
@@ -344,7 +346,7 @@ fn good_controller(
     if !good_log(count, c) {
         return false;
     }
-    let marks = good_marks(count, c);
+    let marks = good_marks(n, count, c);
     let buffer = good_buffer(count, c);
     let highest = good_highest(n, count, messages, c);
     let running = good_running(i, count, messages, c);

@@ -11,13 +11,13 @@ use Rattle.validity.proofs.each_mark.Statement.{statement}
 use Rattle.validity.proofs.each_mark.Tie as tie
 
 abbrev Inv-loop : tie.InvT-loop
-Inv-loop marks good₀ f₀ good f = (f ≤ 7) × (good ≡ all f (λ x. goodMark ((getD marks x (record { 0 = 0 })) .0)))
+Inv-loop n marks good₀ f₀ good f = (f ≤ n) × (n ≤ 7) × (good ≡ all f (λ x. goodMark ((getD marks x (record { 0 = 0 })) .0)))
 
 abbrev μ-loop : tie.MeasureT-loop
-μ-loop marks good₀ f₀ good f = 7 - f
+μ-loop n marks good₀ f₀ good f = n - f
 
 loop-holds : tie.Need-loop-holds Inv-loop μ-loop
-loop-holds c = (search needs, all-start _)
+loop-holds c = (search needs, search needs, all-start _)
 
 element-copy-out-good-mark : tie.Need-element-copy-out-good-mark Inv-loop μ-loop
 element-copy-out-good-mark c = search needs
@@ -32,10 +32,10 @@ loop-less : tie.Need-loop-less Inv-loop μ-loop
 loop-less c = search needs
 
 loop-again : tie.Need-loop-again Inv-loop μ-loop
-loop-again c = (search needs, all-turn _ _ _ _ (c .before .before .loop .inv .1) (c .good-mark .ensures))
+loop-again c = (search needs, search needs, all-turn _ _ _ _ (c .before .before .loop .inv .2) (c .good-mark .ensures))
 
 returns : tie.Need-returns Inv-loop μ-loop
-returns c = all-end _ _ _ _ (omega arith) (c .before .loop .inv .1)
+returns c = all-end _ _ _ _ (omega arith) (c .before .loop .inv .2)
 
 pub each-mark-spec : {M : Type 1} → statement M
 each-mark-spec =

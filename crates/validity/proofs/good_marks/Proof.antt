@@ -12,13 +12,13 @@ use Rattle.validity.proofs.good_marks.Statement.{statement}
 use Rattle.validity.proofs.good_marks.Tie as tie
 
 abbrev Inv-loop : tie.InvT-loop
-Inv-loop count pending good₀ s₀ good s = (s ≤ count) × (count ≤ 64) × (good ≡ all s (λ x. not (yes? (entry pending x .held)) || all 7 (λ f. goodMark (mark (entry pending x) f))))
+Inv-loop n count pending good₀ s₀ good s = (s ≤ count) × (n ≤ 7) × (count ≤ 64) × (good ≡ all s (λ x. not (yes? (entry pending x .held)) || all n (λ f. goodMark (mark (entry pending x) f))))
 
 abbrev μ-loop : tie.MeasureT-loop
-μ-loop count pending good₀ s₀ good s = count - s
+μ-loop n count pending good₀ s₀ good s = count - s
 
 loop-holds : tie.Need-loop-holds Inv-loop μ-loop
-loop-holds c = (search needs, search needs, all-start _)
+loop-holds c = (search needs, search needs, search needs, all-start _)
 
 mul-entry : tie.Need-mul-entry Inv-loop μ-loop
 mul-entry c = search needs
@@ -36,11 +36,11 @@ loop-less : tie.Need-loop-less Inv-loop μ-loop
 loop-less c = search needs
 
 loop-again : tie.Need-loop-again Inv-loop μ-loop
-loop-again c = (search needs, search needs, all-turn _ _ _ _ (c .before .before .before .loop .inv .2) (c .good-entry .ensures))
+loop-again c = (search needs, search needs, search needs, all-turn _ _ _ _ (c .before .before .before .loop .inv .3) (c .good-entry .ensures))
 
 returns : tie.Need-returns Inv-loop μ-loop
 unfolding goodMarks
-returns c = all-end _ _ _ _ (omega arith) (c .before .loop .inv .2)
+returns c = all-end _ _ _ _ (omega arith) (c .before .loop .inv .3)
 
 pub good-marks-spec : {M : Type 1} → statement M
 good-marks-spec =
