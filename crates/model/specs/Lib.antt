@@ -7,3 +7,4 @@ pub mod WellFormed
 pub mod Questions
 pub mod Calls
 pub mod Runs
+pub mod Parts
