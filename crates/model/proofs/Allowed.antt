@@ -14,7 +14,7 @@ use Rattle.model.specs.Tables.{seats, capacity, yes?, at, message, place
 use Rattle.model.specs.Events.{subject}
 use Rattle.model.specs.Records.{byte, decode}
 use Rattle.model.specs.WellFormed.{named, fairAmount}
-use Rattle.model.specs.Questions.{Question, ask, firstNo, controllerCount, fileQuestions, recordQuestions, ownPending, unread, keepable, eventQuestions, scratchRoom, stepQuestions, lineFits}
+use Rattle.model.specs.Questions.{Question, ask, firstNo, controllerCount, fileQuestions, kindQuestions, recordQuestions, ownPending, unread, keepable, eventQuestions, scratchRoom, stepQuestions, lineFits}
 use Rattle.model.specs.declared.Payload.{Payload}
 use Rattle.model.specs.declared.Table.{Table}
 use Rattle.model.specs.declared.Event.{Event}
@@ -48,7 +48,7 @@ event-numbered t (Handover r o) = more (more (more none))
 event-numbered t (Stop c k) = more (more (more none))
 
 pub record-numbered : (s : List ℕ) → Numbered (recordQuestions s)
-unfolding recordQuestions
+unfolding recordQuestions kindQuestions
 record-numbered s = more (more (more none))
 
 -- the questions of a step: of the record, of the event, and of the scratch area

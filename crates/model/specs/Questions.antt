@@ -40,13 +40,16 @@ fileQuestions s =
 unfoldable pub lentTable : Table → Question
 lentTable t = ask 4 (wellFormed t)
 
+-- questions 6 and 7, of a record of this kind with so many bytes behind its length byte
+unfoldable pub kindQuestions : ℕ → ℕ → List Question
+kindQuestions n k =
+    ask 6 (ltb 0 n && (ltb 0 k && leb k 4))
+    ∷ ask 7 (eqb n (sizeOf k))
+    ∷ []
+
 -- questions 5 to 7, of the record that the bytes begin with
 unfoldable pub recordQuestions : List ℕ → List Question
-recordQuestions s =
-    ask 5 (ltb (size s) (length s))
-    ∷ ask 6 (ltb 0 (size s) && (ltb 0 (kind s) && leb (kind s) 4))
-    ∷ ask 7 (eqb (size s) (sizeOf (kind s)))
-    ∷ []
+recordQuestions s = ask 5 (ltb (size s) (length s)) ∷ kindQuestions (size s) (kind s)
 
 -- 11: c has a message of its own in its buffer
 unfoldable pub ownPending : Table → ℕ → Bool

@@ -8,9 +8,9 @@ use native.Mathlib.Omega.{arith}
 use borrow.Author.Tests.{ltb-true, lt-ltb, le-ltb}
 use lib.ListN.{length, take, drop, length-drop, drop-of-length-le}
 use lib.Seq.{take-all}
-use Rattle.model.specs.Records.{size, behind}
+use Rattle.model.specs.Records.{size}
 use Rattle.model.specs.Questions.{firstNo}
-use Rattle.records.specs.Cuts.{Found, whole, cut, found, remaining}
+use Rattle.records.specs.Cuts.{Found, whole, cut, found}
 use Rattle.records.specs.declared.Cut.{Cut}
 use Rattle.records.specs.declared.Cut.the-variants.{Whole, Short}
 
@@ -57,13 +57,3 @@ part-rest k s = take-all (length s - k) (drop k s) (omega (arith, length-drop k 
 pub part-past : (k : ℕ) (s : List ℕ) → length s < k → take (length s - length s) (drop (length s) s) ≡ drop k s
 part-past k s h =
     part-rest (length s) s ∙ drop-of-length-le s (le-refl (length s)) ∙ sym (drop-of-length-le s {i = k} (omega (arith, h)))
-
--- WHAT IS LEFT
-
-pub remaining-whole : (s : List ℕ) (k : ℕ) → IsWhole s k → drop (k + 1) s ≡ remaining s
-unfolding remaining behind
-remaining-whole s k w = rw (w .test, ← w .counted)
-
-pub remaining-short : (s : List ℕ) → whole s ≡ false → s ≡ remaining s
-unfolding remaining
-remaining-short s e = rw e

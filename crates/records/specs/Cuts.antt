@@ -1,12 +1,13 @@
--- Question 5: the record that the bytes begin with is cut off, or is not there whole.
-use Prim.Native.Nat.{ℕ}
+-- The record that the bytes begin with: cut off, or not there whole (question 5), and then asked and decoded.
+use Prim.Native.Nat.{ℕ, _+_}
 use mathlib.Core.Bool.{Bool, cond}
 use mathlib.Core.List.{List, [], _∷_}
 use lib.ListN.{length}
-use lib.Dec.{ltb}
-use Rattle.model.specs.Records.{size, behind}
-use Rattle.model.specs.Questions.{ask, firstNo}
+use lib.Dec.{eqb, ltb}
+use Rattle.model.specs.Records.{size, decode}
+use Rattle.model.specs.Questions.{ask, firstNo, recordQuestions}
 use Rattle.records.specs.declared.Cut.{Cut}
+use Rattle.records.specs.declared.Record.{Record}
 use Rattle.records.specs.declared.Cut.the-variants.{Whole, Short}
 
 -- the length byte and all the bytes it counts are there
@@ -26,6 +27,8 @@ unfoldable pub found : Cut → Found
 found (Whole k) = record { number = 0; size = k }
 found Short = record { number = 5; size = 0 }
 
--- what is left behind a whole record; all the bytes where the record is not whole
-unfoldable pub remaining : List ℕ → List ℕ
-remaining s = cond (whole s) (behind s) s
+-- the record that the bytes begin with: asked, how many bytes it takes, and decoded
+unfoldable pub recordOf : List ℕ → Record
+recordOf s =
+    let k = firstNo (recordQuestions s) in
+    record { number = k; used = cond (eqb k 0) (size s + 1) 0; event = decode s }

@@ -1,19 +1,28 @@
 // The record cutter and the decoder: what the bytes of a run file say, before any table is asked.
 use model::Event;
 use model::Payload;
+use model::refusal;
 ghost use mathlib.Core.Path.{_≡_};
 ghost use Prim.Native.Nat.{_<_};
 ghost use mathlib.Core.Bool.{_&&_};
 ghost use lib.Dec.{leb, ltb};
 ghost use lib.ListN.{drop};
 ghost use Rattle.model.specs.Records.{byte, word, sizeOf, amount, decode};
-ghost use Rattle.model.specs.Questions.{firstNo, recordQuestions};
-ghost use Rattle.records.specs.Cuts.{cut, found, remaining};
+ghost use Rattle.model.specs.Questions.{firstNo, kindQuestions};
+ghost use Rattle.records.specs.Cuts.{cut, found, recordOf};
 
 // The record at the head of the bytes is whole, and so many bytes follow its length byte; or it is not.
 pub enum Cut {
     Whole(usize),
     Short,
+}
+
+// A record that was read: the first no of questions 5 to 7, 0 if there is none; how many bytes it takes, 0 if refused; and
+// the event that it names.
+pub struct Record {
+    pub number: u8,
+    pub used: usize,
+    pub event: Event,
 }
 
 // A byte; 0 past the end.
@@ -37,8 +46,8 @@ pub fn cut_record(bytes: &[u8]) -> Cut
     Cut::Short
 }
 
-// The part after the bytes used; empty where more are named than there are.
-pub fn rest(bytes: &[u8], used: usize) -> &[u8]
+// What is left behind so many bytes; nothing where there are fewer.
+pub fn behind(bytes: &[u8], used: usize) -> &[u8]
     ensures { λ r. ⌜ now r ≡ drop used (now (bytes .entry)) ⌝ }
 {
     let have = bytes.len();
@@ -46,16 +55,6 @@ pub fn rest(bytes: &[u8], used: usize) -> &[u8]
         return &bytes[used..];
     }
     &bytes[have..]
-}
-
-// What is left behind the record at the head of the bytes; all of them where that record is not whole.
-pub fn behind(bytes: &[u8]) -> &[u8]
-    ensures { λ r. ⌜ now r ≡ remaining (now (bytes .entry)) ⌝ }
-{
-    let Cut::Whole(size) = cut_record(bytes) else {
-        return bytes;
-    };
-    rest(bytes, size + 1)
 }
 
 // The lengths of the kinds 1 report, 2 sync, 3 handover, 4 stop.
@@ -81,19 +80,19 @@ fn has_kind(size: usize, kind: u8) -> bool
     0 < kind && kind <= 4
 }
 
-// The first no of questions 5 to 7; 0 if there is none.
-pub fn shape(bytes: &[u8]) -> u8
-    ensures { λ r. ⌜ r ≡ firstNo (recordQuestions (now (bytes .entry))) ⌝ }
+// The first no of questions 6 and 7.
+fn kind_refusal(size: usize, kind: u8) -> u8
+    ensures { λ r. ⌜ r ≡ firstNo (kindQuestions size kind) ⌝ }
 {
-    let Cut::Whole(size) = cut_record(bytes) else {
-        return 5;
-    };
-    let kind = byte_at(bytes, 1);
     if !has_kind(size, kind) {
-        return 6;
+        return refusal::KIND;
     }
     let due = size_of_kind(kind);
-    if size == due { 0 } else { 7 }
+    if size == due {
+        refusal::ACCEPTED
+    } else {
+        refusal::LENGTH
+    }
 }
 
 // Two bytes, the high one first.
@@ -119,7 +118,7 @@ fn amount_of(x: u16) -> Payload
 const HANDOVER: u8 = 3;
 
 // The event of a record of kind 1 to 4 and of that kind's length.
-pub fn decode_record(bytes: &[u8]) -> Event
+fn decode_record(bytes: &[u8]) -> Event
     ensures { λ r. ⌜ r ≡ decode (now (bytes .entry)) ⌝ }
 {
     let kind = byte_at(bytes, 1);
@@ -145,5 +144,32 @@ pub fn decode_record(bytes: &[u8]) -> Event
     Event::Stop {
         controller: first,
         kept: word_at(bytes, 3) as usize,
+    }
+}
+
+// Cuts off the record at the head of the bytes, puts questions 5 to 7 to it and decodes it.
+pub fn read_record(bytes: &[u8]) -> Record
+    ensures { λ r. ⌜ r ≡ recordOf (now (bytes .entry)) ⌝ }
+{
+    let event = decode_record(bytes);
+    let Cut::Whole(size) = cut_record(bytes) else {
+        return Record {
+            number: refusal::RECORD,
+            used: 0,
+            event,
+        };
+    };
+    let number = kind_refusal(size, byte_at(bytes, 1));
+    if number != 0 {
+        return Record {
+            number,
+            used: 0,
+            event,
+        };
+    }
+    Record {
+        number,
+        used: size + 1,
+        event,
     }
 }
