@@ -8,7 +8,7 @@ use Rattle.model.specs.Delivery.{majority}
 use Rattle.model.specs.Sized.{Sized}
 use Rattle.model.specs.declared.Controller.{Controller}
 use Rattle.model.specs.declared.Table.{Table}
-use Rattle.model.proofs.WellFormed.{Named, WellFormed}
+use Rattle.model.specs.Facts.{Named, WellFormed}
 use Rattle.model.proofs.Largest.{majority-more}
 use Rattle.broadcast.specs.State.{System, State}
 use Rattle.broadcast.proofs.Runs.{All}

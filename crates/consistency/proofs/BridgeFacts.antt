@@ -14,7 +14,7 @@ use Rattle.model.specs.Tables.{seats, yes?, at, message, slotAt, place, held, a
 use Rattle.model.specs.WellFormed.{inLog}
 use Rattle.model.specs.declared.Controller.{Controller}
 use Rattle.model.specs.declared.Table.{Table}
-use Rattle.model.proofs.WellFormed.{Named, GoodController, WellFormed}
+use Rattle.model.specs.Facts.{Named, GoodController, WellFormed}
 use Rattle.model.specs.Delivery.{majorities, majority}
 use Rattle.invariant.proofs.Stores.{seated}
 use Rattle.invariant.proofs.Logs.{in-log-at, in-log-of}

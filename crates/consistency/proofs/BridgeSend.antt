@@ -14,7 +14,7 @@ use Rattle.model.specs.declared.Payload.{Payload}
 use Rattle.model.specs.declared.Controller.{Controller}
 use Rattle.model.specs.declared.Table.{Table}
 use Rattle.model.specs.declared.Event.the-variants.{Send}
-use Rattle.model.proofs.WellFormed.{GoodController}
+use Rattle.model.specs.Facts.{GoodController}
 use Rattle.model.proofs.Allowed.{SendAllowed}
 use Rattle.invariant.proofs.Stores.{seated, at-sized, message-new, message-old}
 use Rattle.invariant.proofs.Sizes.{message-sized, next-sized}

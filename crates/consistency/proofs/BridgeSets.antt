@@ -15,8 +15,9 @@ use Rattle.model.specs.Tables.{seats, capacity, absent, held}
 use Rattle.model.specs.Delivery.{Slots, has, majority, markCount, beforeCount, goesBefore, applicable}
 use Rattle.model.specs.declared.Controller.{Controller}
 use Rattle.model.specs.declared.Table.{Table}
-use Rattle.model.proofs.WellFormed.{WellFormed}
-use Rattle.model.proofs.Largest.{Closed as ClosedSlots, inBuffer, candidate, precedes, applicable-largest, applicable-held}
+use Rattle.model.specs.Facts.{WellFormed}
+use Rattle.model.specs.Largest.{Closed as ClosedSlots, inBuffer, candidate, precedes}
+use Rattle.model.proofs.Largest.{applicable-largest, applicable-held}
 use Rattle.broadcast.specs.State.{State}
 use Rattle.broadcast.specs.Delivery.{Largest}
 use Rattle.broadcast.proofs.Slots.{Slot, Agrees, SlotClosed, SlotLargest, largest-names}

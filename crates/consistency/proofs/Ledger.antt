@@ -21,7 +21,7 @@ use Rattle.model.specs.declared.Message.{Message}
 use Rattle.model.specs.declared.Payload.{Payload}
 use Rattle.model.specs.declared.Controller.{Controller}
 use Rattle.model.specs.declared.Table.{Table}
-use Rattle.model.proofs.WellFormed.{Named, GoodController, WellFormed}
+use Rattle.model.specs.Facts.{Named, GoodController, WellFormed}
 use Rattle.invariant.proofs.Sizes.{fresh-sized}
 use Rattle.invariant.proofs.Kept.{at-fresh, fresh-well-formed}
 use Rattle.consistency.specs.Demand3.{has, Distinct, join, Sent, Ledger, start, sentNames}

@@ -10,7 +10,7 @@ use Rattle.model.specs.Tables.{seats, at, withController}
 use Rattle.model.specs.Sized.{Sized}
 use Rattle.model.specs.declared.Controller.{Controller}
 use Rattle.model.specs.declared.Table.{Table}
-use Rattle.model.proofs.WellFormed.{Named}
+use Rattle.model.specs.Facts.{Named}
 use Rattle.invariant.proofs.Stores.{at-same, at-other}
 use Rattle.consistency.specs.Demand3.{put}
 

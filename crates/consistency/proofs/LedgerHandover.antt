@@ -18,7 +18,7 @@ use Rattle.model.specs.declared.Name.{Name}
 use Rattle.model.specs.declared.Controller.{Controller}
 use Rattle.model.specs.declared.Table.{Table}
 use Rattle.model.specs.declared.Event.the-variants.{Handover}
-use Rattle.model.proofs.WellFormed.{Named, GoodController, WellFormed}
+use Rattle.model.specs.Facts.{Named, GoodController, WellFormed}
 use Rattle.model.proofs.Allowed.{HandoverAllowed}
 use Rattle.invariant.proofs.Stores.{seated, at-sized, read-place, read-place-other, forward-case}
 use Rattle.invariant.proofs.Sizes.{read-sized}

@@ -15,7 +15,7 @@ use Rattle.model.specs.Questions.{firstNo, eventQuestions, stepQuestions}
 use Rattle.model.specs.Calls.{Outcome, accepted, refused, step, event, look}
 use Rattle.model.specs.declared.Name.{Name}
 use Rattle.model.specs.declared.Table.{Table}
-use Rattle.model.proofs.WellFormed.{Named}
+use Rattle.model.specs.Facts.{Named}
 use Rattle.model.proofs.Tested.{tested}
 use Rattle.model.proofs.Allowed.{step-asked}
 use Rattle.model.proofs.Steps.{step-case, event-number-step}

@@ -9,7 +9,7 @@ use borrow.Author.Tests.{leb-true}
 use Rattle.model.specs.Tables.{at, message, applied, highest}
 use Rattle.model.specs.Events.{nextSlot}
 use Rattle.model.specs.declared.Table.{Table}
-use Rattle.model.proofs.WellFormed.{Named, WellFormed}
+use Rattle.model.specs.Facts.{Named, WellFormed}
 use Rattle.model.proofs.Allowed.{HandoverAllowed}
 use Rattle.invariant.proofs.Receiving.{next-slot-run}
 use Rattle.invariant.proofs.Highest.{highest-applied}

@@ -10,7 +10,7 @@ use Rattle.model.specs.Records.{decode}
 use Rattle.model.specs.Calls.{Outcome, accepted, refused}
 use Rattle.model.specs.declared.Name.{Name}
 use Rattle.model.specs.declared.Table.{Table}
-use Rattle.model.proofs.WellFormed.{WellFormed}
+use Rattle.model.specs.Facts.{WellFormed}
 use Rattle.model.proofs.Steps.{step-case}
 use Rattle.consistency.proofs.Decimal.{Every}
 use Rattle.consistency.proofs.Reader.{Readable}

@@ -25,7 +25,7 @@ use Rattle.model.specs.declared.Name.{Name}
 use Rattle.model.specs.declared.Message.{Message}
 use Rattle.model.specs.declared.Controller.{Controller}
 use Rattle.model.specs.declared.Table.{Table}
-use Rattle.model.proofs.WellFormed.{GoodController, WellFormed}
+use Rattle.model.specs.Facts.{GoodController, WellFormed}
 use Rattle.invariant.proofs.Stores.{message-old}
 use Rattle.consistency.specs.Demand3.{same, has, Distinct}
 use Rattle.consistency.proofs.Names.{same-true, same-self, same-sym, has-insert, distinct-insert, has-tabulate, distinct-tabulate}

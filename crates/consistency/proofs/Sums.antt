@@ -19,7 +19,7 @@ use Rattle.model.specs.WellFormed.{inLog}
 use Rattle.model.specs.declared.Name.{Name}
 use Rattle.model.specs.declared.Payload.{Payload}
 use Rattle.model.specs.declared.Table.{Table}
-use Rattle.model.proofs.WellFormed.{Named}
+use Rattle.model.specs.Facts.{Named}
 use Rattle.consistency.specs.Demand3.{same, has, Distinct, Sent, Ledger, applied, sentNames, remaining, amountOf, amounts}
 use Rattle.consistency.proofs.Names.{same-true, same-sym, has-tabulate-at, has-less, distinct-less}
 use Rattle.consistency.proofs.SlotNames.{nameAt, slots-differ}

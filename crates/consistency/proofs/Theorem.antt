@@ -27,7 +27,7 @@ use Rattle.model.specs.declared.Name.{Name}
 use Rattle.model.specs.declared.Payload.{Payload}
 use Rattle.model.specs.declared.Table.{Table}
 use Rattle.model.specs.declared.LookAnswer.{LookAnswer}
-use Rattle.model.proofs.WellFormed.{WellFormed}
+use Rattle.model.specs.Facts.{WellFormed}
 use Rattle.model.proofs.Tested.{named-at, named-of, facts, tested}
 use Rattle.model.proofs.Allowed.{no-no, count-asked, file-allowed}
 use Rattle.model.proofs.Steps.{settled-case, step-number, step-is-accepted, event-number-step, accepted-asked, accepted-table}

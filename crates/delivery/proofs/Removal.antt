@@ -9,14 +9,15 @@ use native.Mathlib.Omega.{arith}
 use borrow.Author.Tests.{not-true, not-false}
 use lib.ListN.{length, set, length-set}
 use lib.Seq.{getD-set-same, getD-set-other}
-use Rattle.lists.specs.Below.{count}
+use Rattle.lists.specs.Below.{count, Within}
 use Rattle.lists.proofs.Tests.{and-left, and-right, contradiction}
-use Rattle.lists.proofs.Below.{Within, count-le, count-eq}
+use Rattle.lists.proofs.Below.{count-le, count-eq}
 use Rattle.lists.proofs.Build.{length-tabulate, getD-tabulate, tabulate-self}
 use Rattle.model.specs.Tables.{capacity}
 use Rattle.model.specs.Delivery.{Slots, has, largest, applicable}
 use Rattle.model.specs.declared.Pending.{Pending}
-use Rattle.model.proofs.Largest.{Closed, largest-is, largest-unique, Reached, candidates, removal, reached-size, reached-fit, removals-end, inBuffer, candidate, precedes}
+use Rattle.model.specs.Largest.{Closed, Reached, candidates, removal, inBuffer, candidate, precedes}
+use Rattle.model.proofs.Largest.{largest-is, largest-unique, reached-size, reached-fit, removals-end}
 use Rattle.delivery.specs.Apply
 use Rattle.delivery.specs.Apply.{flag, Flags, others}
 

@@ -13,7 +13,7 @@ use Rattle.model.specs.Sized.{Sized}
 use Rattle.model.specs.declared.Payload.{Payload}
 use Rattle.model.specs.declared.Table.{Table}
 use Rattle.model.specs.declared.Event.the-variants.{Send, Handover, Stop}
-use Rattle.model.proofs.WellFormed.{Named, WellFormed}
+use Rattle.model.specs.Facts.{Named, WellFormed}
 use Rattle.model.proofs.Tested.{facts}
 use Rattle.model.proofs.Largest.{applicable-largest}
 use Rattle.model.proofs.Allowed.{HandoverAllowed, send-allowed, handover-allowed, stop-allowed}

@@ -20,7 +20,7 @@ use Rattle.model.specs.declared.Event.{Event}
 use Rattle.model.specs.declared.Answer.{Answer}
 use Rattle.model.specs.declared.Event.the-variants.{Send, Handover, Stop}
 use Rattle.model.proofs.Event as event
-use Rattle.model.proofs.WellFormed.{Named}
+use Rattle.model.specs.Facts.{Named}
 use Rattle.model.proofs.Lengths.{none-named}
 use Rattle.invariant.proofs.Stores.{at-same}
 use Rattle.questions.specs.Sums.{shown}

@@ -16,7 +16,7 @@ use Rattle.model.specs.declared.Pending.{Pending}
 use Rattle.model.specs.declared.Controller.{Controller}
 use Rattle.model.specs.declared.Table.{Table}
 use Rattle.model.specs.declared.Event.the-variants.{Handover}
-use Rattle.model.proofs.WellFormed.{Named}
+use Rattle.model.specs.Facts.{Named}
 use Rattle.delivery.specs.Apply.{applyAnswer, applyScratch, Applied}
 use Rattle.questions.specs.Sums.{shown}
 use Rattle.events.specs.declared.Names.{Names}

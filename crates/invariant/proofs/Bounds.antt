@@ -17,7 +17,7 @@ use Rattle.model.specs.WellFormed.{fairMagnitude, fairAmount}
 use Rattle.model.specs.declared.Payload.{Payload}
 use Rattle.model.specs.declared.Controller.{Controller}
 use Rattle.model.specs.declared.Table.{Table}
-use Rattle.model.proofs.WellFormed.{WellFormed}
+use Rattle.model.specs.Facts.{WellFormed}
 
 magnitude-bound : (x : ℕ) → fairMagnitude x ≡ true → x ≤ 360
 unfolding fairMagnitude

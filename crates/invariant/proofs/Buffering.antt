@@ -15,7 +15,7 @@ use Rattle.model.specs.WellFormed.{inLog, greatestApplied}
 use Rattle.model.specs.declared.ForwardNumber.{ForwardNumber}
 use Rattle.model.specs.declared.Controller.{Controller}
 use Rattle.model.specs.declared.Table.{Table}
-use Rattle.model.proofs.WellFormed.{GoodMark, GoodController}
+use Rattle.model.specs.Facts.{GoodMark, GoodController}
 use Rattle.invariant.proofs.Stores.{marked-held, marked-marks, marked-entry-other, marked-held-other}
 use Rattle.invariant.proofs.Logs.{Entered, last, earlier, entered, entered-in-log, entered-in-log-other, not-in-log, log-shorter}
 

@@ -23,7 +23,7 @@ use Rattle.model.specs.declared.Controller.{Controller}
 use Rattle.model.specs.declared.Table.{Table}
 use Rattle.model.specs.declared.Event.{Event}
 use Rattle.model.specs.declared.Event.the-variants.{Send, Handover, Stop}
-use Rattle.model.proofs.WellFormed.{Named, WellFormed}
+use Rattle.model.specs.Facts.{Named, WellFormed}
 use Rattle.model.proofs.Allowed.{HandoverAllowed, send-allowed, handover-allowed, subject-allowed}
 use Rattle.invariant.proofs.Stores.{seated, message-old, forward-case}
 use Rattle.invariant.proofs.Sizes.{next-same, next-other}

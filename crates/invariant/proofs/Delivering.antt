@@ -16,7 +16,7 @@ use Rattle.model.specs.WellFormed.{inLog, greatestApplied}
 use Rattle.model.specs.declared.MessageNumber.{MessageNumber}
 use Rattle.model.specs.declared.Controller.{Controller}
 use Rattle.model.specs.declared.Table.{Table}
-use Rattle.model.proofs.WellFormed.{Named, GoodMark, GoodController}
+use Rattle.model.specs.Facts.{Named, GoodMark, GoodController}
 
 module _ (t : Table) (c : Controller) (S : Slots) where
   pub delivered-entry : (s : ℕ) → s < capacity → entry (deliver t c S .pending) s ≡ cond (has S s) unheld (entry (c .pending) s)

@@ -12,7 +12,7 @@ use Rattle.model.specs.Events.{numberOf}
 use Rattle.model.specs.WellFormed.{greatestApplied}
 use Rattle.model.specs.declared.Controller.{Controller}
 use Rattle.model.specs.declared.Table.{Table}
-use Rattle.model.proofs.WellFormed.{Named, GoodController}
+use Rattle.model.specs.Facts.{Named, GoodController}
 
 -- an argument below n at which f is greatest
 record Attained (n : ℕ) (f : ℕ → ℕ) (k : ℕ) : Type 0 where

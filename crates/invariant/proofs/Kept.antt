@@ -20,7 +20,7 @@ use Rattle.model.specs.declared.Pending.{Pending}
 use Rattle.model.specs.declared.Table.{Table}
 use Rattle.model.specs.declared.Event.{Event}
 use Rattle.model.specs.declared.Event.the-variants.{Send, Handover, Stop}
-use Rattle.model.proofs.WellFormed.{Named, GoodController, WellFormed}
+use Rattle.model.specs.Facts.{Named, GoodController, WellFormed}
 use Rattle.model.proofs.Tested.{facts, tested}
 use Rattle.model.proofs.Allowed.{step-asked, send-allowed, handover-allowed, stop-allowed}
 use Rattle.model.proofs.Steps.{step-case, event-number-step}

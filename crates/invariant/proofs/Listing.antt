@@ -26,7 +26,7 @@ use Rattle.model.specs.declared.Name.{Name}
 use Rattle.model.specs.declared.Table.{Table}
 use Rattle.model.specs.declared.Event.{Event}
 use Rattle.model.specs.declared.Event.the-variants.{Send, Handover, Stop}
-use Rattle.model.proofs.WellFormed.{WellFormed}
+use Rattle.model.specs.Facts.{WellFormed}
 use Rattle.model.proofs.Allowed.{step-asked, line-asked, file-allowed, handover-allowed}
 use Rattle.model.proofs.Steps.{step-case}
 use Rattle.model.proofs.Lengths.{length-insert, none-named, decimal-bound, signed-bound, names-bound, length-line}

@@ -16,7 +16,7 @@ use Rattle.model.specs.Sized.{SizedController}
 use Rattle.model.specs.WellFormed.{inLog}
 use Rattle.model.specs.declared.Controller.{Controller}
 use Rattle.model.specs.declared.Table.{Table}
-use Rattle.model.proofs.WellFormed.{GoodController}
+use Rattle.model.specs.Facts.{GoodController}
 
 -- where a log names a slot
 pub record Entry (c : Controller) (s : ℕ) : Type 0 where

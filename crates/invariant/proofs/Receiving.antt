@@ -16,7 +16,7 @@ use Rattle.model.specs.Sized.{Sized, SizedController}
 use Rattle.model.specs.WellFormed.{inLog, greatestApplied}
 use Rattle.model.specs.declared.Controller.{Controller}
 use Rattle.model.specs.declared.Table.{Table}
-use Rattle.model.proofs.WellFormed.{Named, GoodController, WellFormed}
+use Rattle.model.specs.Facts.{Named, GoodController, WellFormed}
 use Rattle.model.proofs.Allowed.{HandoverAllowed}
 use Rattle.model.proofs.Largest.{applicable-held}
 use Rattle.invariant.proofs.Stores.{seated, at-sized, read-place, read-place-other, forward-case}

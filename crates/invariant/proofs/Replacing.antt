@@ -10,7 +10,7 @@ use Rattle.model.specs.Sized.{Sized}
 use Rattle.model.specs.WellFormed.{fairAmount, greatestApplied}
 use Rattle.model.specs.declared.Controller.{Controller}
 use Rattle.model.specs.declared.Table.{Table}
-use Rattle.model.proofs.WellFormed.{Named, GoodController, WellFormed}
+use Rattle.model.specs.Facts.{Named, GoodController, WellFormed}
 use Rattle.invariant.proofs.Stores.{seated, at-same, at-other}
 
 -- well formed, but perhaps for controller c

@@ -15,7 +15,7 @@ use Rattle.model.specs.declared.Message.{Message}
 use Rattle.model.specs.declared.Payload.{Payload}
 use Rattle.model.specs.declared.Controller.{Controller}
 use Rattle.model.specs.declared.Table.{Table}
-use Rattle.model.proofs.WellFormed.{Named, GoodController, WellFormed}
+use Rattle.model.specs.Facts.{Named, GoodController, WellFormed}
 use Rattle.model.proofs.Allowed.{SendAllowed}
 use Rattle.invariant.proofs.Stores.{seated, at-sized, message-new, message-old}
 use Rattle.invariant.proofs.Logs.{log-lacks, log-within}

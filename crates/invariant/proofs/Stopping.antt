@@ -7,7 +7,7 @@ use Rattle.model.specs.Sized.{Sized}
 use Rattle.model.specs.WellFormed.{greatestApplied}
 use Rattle.model.specs.declared.Controller.{Controller}
 use Rattle.model.specs.declared.Table.{Table}
-use Rattle.model.proofs.WellFormed.{GoodController, WellFormed}
+use Rattle.model.specs.Facts.{GoodController, WellFormed}
 use Rattle.model.proofs.Allowed.{StopAllowed}
 use Rattle.invariant.proofs.Replacing.{but-one, replaced}
 

@@ -18,7 +18,7 @@ use Rattle.model.specs.declared.Message.{Message}
 use Rattle.model.specs.declared.Pending.{Pending}
 use Rattle.model.specs.declared.Controller.{Controller}
 use Rattle.model.specs.declared.Table.{Table}
-use Rattle.model.proofs.WellFormed.{Named}
+use Rattle.model.specs.Facts.{Named}
 
 -- every named controller has a seat
 pub seated : {n c : ℕ} → n ≤ seats → Named n c → Named seats c

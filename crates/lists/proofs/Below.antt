@@ -9,7 +9,7 @@ use native.Mathlib.Omega.{arith}
 use native.Mathlib.Decide.{ℕ-discrete}
 use lib.Dec.{eqb, ltb}
 use borrow.Author.Tests.{lt-ltb, eq-eqb, ne-eqb, not-true}
-use Rattle.lists.specs.Below.{tally, count, all, distinct, sum, greatest}
+use Rattle.lists.specs.Below.{tally, count, all, Within, distinct, sum, greatest}
 use Rattle.lists.proofs.Tests.{and-left, and-right, both, below-suc}
 
 -- ALL
@@ -35,10 +35,6 @@ unfolding distinct
 distinct-of n same f = all-of n _ (λ i h. all-of i _ (λ j l. ap not (f i j h l)))
 
 -- COUNT
-
--- tests of which the first implies the second, below n
-abbrev pub Within : ℕ → (ℕ → Bool) → (ℕ → Bool) → Type 0
-Within n p q = (k : ℕ) → k < n → p k ≡ true → q k ≡ true
 
 tally-le : (a b : Bool) (x y : ℕ) → (a ≡ true → b ≡ true) → x ≤ y → tally a x ≤ tally b y
 tally-le true true x y f h = omega arith

@@ -1,5 +1,6 @@
 -- Counting, testing, adding and comparing over the numbers below a bound.
-use Prim.Native.Nat.{ℕ, zero, suc, _+_, max}
+use Prim.Native.Nat.{ℕ, zero, suc, _+_, max, _<_}
+use mathlib.Core.Path.{_≡_}
 use mathlib.Core.Bool.{Bool, true, false, _&&_, not}
 
 -- one more where the test passes
@@ -16,6 +17,10 @@ count (suc k) p = tally (p k) (count k p)
 unfoldable pub all : ℕ → (ℕ → Bool) → Bool
 all zero p = true
 all (suc k) p = p k && all k p
+
+-- every number below n that passes the first test passes the second
+abbrev pub Within : ℕ → (ℕ → Bool) → (ℕ → Bool) → Type 0
+Within n p q = (k : ℕ) → k < n → p k ≡ true → q k ≡ true
 
 -- whether no two numbers below n are alike
 unfoldable pub distinct : ℕ → (ℕ → ℕ → Bool) → Bool

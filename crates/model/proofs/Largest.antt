@@ -11,26 +11,17 @@ use lib.ListN.{length, getD, set, length-set}
 use lib.Seq.{ext-getD, getD-set-same, getD-set-other}
 use lib.Dec.{eqb, leb, ltb}
 use borrow.Author.Tests.{eqb-true, eqb-false, ltb-true, leb-true}
-use Rattle.lists.specs.Below.{count, all}
+use Rattle.lists.specs.Below.{count, all, Within}
 use Rattle.lists.specs.Build.{tabulate}
 use Rattle.lists.proofs.Tests.{cond-case, and-left, and-right, both, bool-eq, contradiction}
-use Rattle.lists.proofs.Below.{all-at, all-of, Within, count-le, count-eq, count-pos, count-bound, apart-count}
+use Rattle.lists.proofs.Below.{all-at, all-of, count-le, count-eq, count-pos, count-bound, apart-count}
 use Rattle.lists.proofs.Build.{length-tabulate, getD-tabulate}
 use Rattle.model.specs.Tables.{seats, capacity, yes?, entry, mark}
 use Rattle.model.specs.Delivery.{Slots, has, clears, round, settle, largest, majorities, majority, markCount, beforeCount, goesBefore, applicable}
+use Rattle.model.specs.Largest.{Closed, Largest, Reached, candidates, removal, inBuffer, candidate, precedes}
 use Rattle.model.specs.declared.Pending.{Pending}
 
 module _ (N : ℕ) (held fit : ℕ → Bool) (before : ℕ → ℕ → Bool) where
-  -- each member may be chosen, and goes before each held slot that is no member
-  pub record Closed (S : Slots) : Type 0 where
-    pub chosen : (s : ℕ) → s < N → has S s ≡ true → (held s && fit s) ≡ true
-    pub first : (s t : ℕ) → s < N → t < N → has S s ≡ true → held t ≡ true → has S t ≡ false → before s t ≡ true
-
-  pub record Largest (S : Slots) : Type 0 where
-    pub size : length S ≡ N
-    pub closed : Closed S
-    pub contains : (R : Slots) → Closed R → Within N (has R) (has S)
-
   -- the test of one pair, and what it says
   keep-true : (a b c : Bool) → (a || (not b || c)) ≡ true → b ≡ true → a ≡ false → c ≡ true
   keep-true true b c e p q = absurd (true≢false q)
@@ -61,7 +52,7 @@ module _ (N : ℕ) (held fit : ℕ → Bool) (before : ℕ → ℕ → Bool) whe
       go false e = e
 
   -- a round keeps the members of a closed set
-  round-contains : (S R : Slots) → Closed R → Within N (has R) (has S) → Within N (has R) (has (round N held fit before S))
+  round-contains : (S R : Slots) → Closed N held fit before R → Within N (has R) (has S) → Within N (has R) (has (round N held fit before S))
   unfolding clears
   round-contains S R c w s h e =
       has-round S s h ∙ both (w s h e)
@@ -72,27 +63,27 @@ module _ (N : ℕ) (held fit : ℕ → Bool) (before : ℕ → ℕ → Bool) whe
   Fit S = Within N (has S) (λ s. held s && fit s)
 
   -- what a round leaves as it was is closed
-  stable-closed : (S : Slots) → Fit S → count N (has (round N held fit before S)) ≡ count N (has S) → Closed S
+  stable-closed : (S : Slots) → Fit S → count N (has (round N held fit before S)) ≡ count N (has S) → Closed N held fit before S
   stable-closed S f e = record {
     chosen = f;
     first = λ s t hs ht m.
         clears-at S s (and-right (has S s) _ (sym (has-round S s hs) ∙ count-eq N (has (round N held fit before S)) (has S) (round-within S) e s hs m)) t ht;
   }
 
-  settle-closed : (k : ℕ) (S : Slots) → count N (has S) ≤ k → Fit S → Closed (settle N held fit before k S)
+  settle-closed : (k : ℕ) (S : Slots) → count N (has S) ≤ k → Fit S → Closed N held fit before (settle N held fit before k S)
   unfolding settle
   settle-closed zero S le f = record {
     chosen = f;
     first = λ s t hs ht m. absurd (omega (arith, count-pos N (has S) s hs m));
   }
   settle-closed (suc k) S le f =
-      cond-case Closed (eqb (count N (has (round N held fit before S))) (count N (has S))) S _
+      cond-case (Closed N held fit before) (eqb (count N (has (round N held fit before S))) (count N (has S))) S _
       (λ e. stable-closed S f (eqb-true _ _ e))
       (λ e. settle-closed k (round N held fit before S)
       (omega (arith, count-le N (has (round N held fit before S)) (has S) (round-within S), eqb-false (count N (has (round N held fit before S))) (count N (has S)) e))
       (λ s h m. f s h (round-within S s h m)))
 
-  settle-contains : (R : Slots) → Closed R → (k : ℕ) (S : Slots) → Within N (has R) (has S) → Within N (has R) (has (settle N held fit before k S))
+  settle-contains : (R : Slots) → Closed N held fit before R → (k : ℕ) (S : Slots) → Within N (has R) (has S) → Within N (has R) (has (settle N held fit before k S))
   unfolding settle
   settle-contains R c zero S w = w
   settle-contains R c (suc k) S w =
@@ -106,7 +97,7 @@ module _ (N : ℕ) (held fit : ℕ → Bool) (before : ℕ → ℕ → Bool) whe
       cond-case (λ X. length X ≡ N) (eqb (count N (has (round N held fit before S))) (count N (has S))) S _
       (λ _. e) (λ _. settle-size k (round N held fit before S) (length-tabulate N _))
 
-  pub largest-is : Largest (largest N held fit before)
+  pub largest-is : Largest N held fit before (largest N held fit before)
   unfolding largest
   largest-is = record {
     size = settle-size N _ (length-tabulate N _);
@@ -114,20 +105,14 @@ module _ (N : ℕ) (held fit : ℕ → Bool) (before : ℕ → ℕ → Bool) whe
     contains = λ R c. settle-contains R c N _ (λ s h m. getD-tabulate N _ false s h ∙ c .chosen s h m);
   }
 
-  pub largest-unique : (S R : Slots) → Largest S → Largest R → S ≡ R
+  pub largest-unique : (S R : Slots) → Largest N held fit before S → Largest N held fit before R → S ≡ R
   largest-unique S R p q =
       ext-getD false S R (p .size ∙ sym (q .size))
       (λ s h. let hn : s < N = rw (p .size) at h in bool-eq (has S s) (has R s) (q .contains S (p .closed) s hn) (p .contains R (q .closed) s hn))
 
   -- THE LOOP OF LINE 16
 
-  -- the candidates of line 15, and sets that its loop reaches from them: a member is removed that does not go before some held non-member
-  pub data Reached : Slots → Type 0 where
-    candidates : Reached (tabulate N (λ s. held s && fit s))
-    removal : {S : Slots} (s t : ℕ) → s < N → t < N → has S s ≡ true → held t ≡ true → has S t ≡ false → before s t ≡ false
-        → Reached S → Reached (set S s false)
-
-  pub reached-size : {S : Slots} → Reached S → length S ≡ N
+  pub reached-size : {S : Slots} → Reached N held fit before S → length S ≡ N
   reached-size candidates = length-tabulate N _
   reached-size (removal {S = S} s t hs ht m h q b r) = length-set S s false ∙ reached-size r
 
@@ -135,7 +120,7 @@ module _ (N : ℕ) (held fit : ℕ → Bool) (before : ℕ → ℕ → Bool) whe
   removed-other : (S : Slots) (s k : ℕ) → k ≢ s → has (set S s false) k ≡ has S k
   removed-other S s k d = getD-set-other S s k false false d
 
-  pub reached-fit : {S : Slots} → Reached S → Fit S
+  pub reached-fit : {S : Slots} → Reached N held fit before S → Fit S
   reached-fit candidates s h m = sym (getD-tabulate N _ false s h) ∙ m
   reached-fit (removal {S = S} s t hs ht m h q b r) k l e = go (ℕ-discrete k s) (λ m′. reached-fit r k l m′)
     where
@@ -143,7 +128,7 @@ module _ (N : ℕ) (held fit : ℕ → Bool) (before : ℕ → ℕ → Bool) whe
       go (yes p) f = contradiction e (rw p (getD-set-same S s false false (omega (arith, reached-size r))))
       go (no p) f = f (sym (removed-other S s k p) ∙ e)
 
-  reached-contains : {S : Slots} → Reached S → (R : Slots) → Closed R → Within N (has R) (has S)
+  reached-contains : {S : Slots} → Reached N held fit before S → (R : Slots) → Closed N held fit before R → Within N (has R) (has S)
   reached-contains candidates R c s h m = getD-tabulate N _ false s h ∙ c .chosen s h m
   reached-contains (removal {S = S} s t hs ht m h q b r) R c k l e = go (ℕ-discrete k s) (λ k′ l′ e′. reached-contains r R c k′ l′ e′)
     where
@@ -152,7 +137,7 @@ module _ (N : ℕ) (held fit : ℕ → Bool) (before : ℕ → ℕ → Bool) whe
       go (no p) w = removed-other S s k p ∙ w k l e
 
   -- where nothing is left to remove, the loop has found the largest set
-  pub removals-end : {S : Slots} → Reached S
+  pub removals-end : {S : Slots} → Reached N held fit before S
       → ((s t : ℕ) → s < N → t < N → has S s ≡ true → held t ≡ true → has S t ≡ false → before s t ≡ true)
       → S ≡ largest N held fit before
   removals-end {S} r f =
@@ -161,25 +146,16 @@ module _ (N : ℕ) (held fit : ℕ → Bool) (before : ℕ → ℕ → Bool) whe
 -- THE SET THAT A CONTROLLER APPLIES
 
 module _ (n : ℕ) (P : List Pending) where
-  abbrev pub inBuffer : ℕ → Bool
-  inBuffer s = yes? (entry P s .held)
-
-  abbrev pub candidate : ℕ → Bool
-  candidate s = leb (majority n) (markCount n (entry P s))
-
-  abbrev pub precedes : ℕ → ℕ → Bool
-  precedes s t = goesBefore n (entry P s) (entry P t)
-
-  pub applicable-largest : Largest capacity inBuffer candidate precedes (applicable n P)
+  pub applicable-largest : Largest capacity (inBuffer n P) (candidate n P) (precedes n P) (applicable n P)
   unfolding applicable
-  applicable-largest = largest-is capacity inBuffer candidate precedes
+  applicable-largest = largest-is capacity (inBuffer n P) (candidate n P) (precedes n P)
 
-  pub applicable-unique : (S : Slots) → Largest capacity inBuffer candidate precedes S → S ≡ applicable n P
-  applicable-unique S l = largest-unique capacity inBuffer candidate precedes S (applicable n P) l applicable-largest
+  pub applicable-unique : (S : Slots) → Largest capacity (inBuffer n P) (candidate n P) (precedes n P) S → S ≡ applicable n P
+  applicable-unique S l = largest-unique capacity (inBuffer n P) (candidate n P) (precedes n P) S (applicable n P) l applicable-largest
 
   -- what is applied was in the buffer
-  pub applicable-held : (s : ℕ) → s < capacity → has (applicable n P) s ≡ true → inBuffer s ≡ true
-  applicable-held s h m = and-left (inBuffer s) (candidate s) (applicable-largest .closed .chosen s h m)
+  pub applicable-held : (s : ℕ) → s < capacity → has (applicable n P) s ≡ true → inBuffer n P s ≡ true
+  applicable-held s h m = and-left (inBuffer n P s) (candidate n P s) (applicable-largest .closed .chosen s h m)
 
 -- MAJORITIES
 

@@ -1,4 +1,3 @@
-pub mod WellFormed
 pub mod Tested
 pub mod Allowed
 pub mod Steps

@@ -15,7 +15,7 @@ use Rattle.model.specs.WellFormed.{named, fairAmount, sameName, goodMark
 use Rattle.model.specs.declared.Message.{Message}
 use Rattle.model.specs.declared.Controller.{Controller}
 use Rattle.model.specs.declared.Table.{Table}
-use Rattle.model.proofs.WellFormed.{Named, GoodMark, GoodController, WellFormed}
+use Rattle.model.specs.Facts.{Named, GoodMark, GoodController, WellFormed}
 
 -- NAMES OF CONTROLLERS
 

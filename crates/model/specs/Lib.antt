@@ -1,9 +1,11 @@
 pub mod Tables
 pub mod Sized
 pub mod Delivery
+pub mod Largest
 pub mod Events
 pub mod Records
 pub mod WellFormed
+pub mod Facts
 pub mod Questions
 pub mod Calls
 pub mod Runs

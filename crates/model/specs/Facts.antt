@@ -1,5 +1,5 @@
 -- What question 4 tests, as named facts: one for each clause of document 01's "Well formed" and for the readings of it.
--- The test passes exactly where the facts hold: proofs/Tested.antt. Assumes nothing.
+-- The test passes exactly where the facts hold: proofs/Tested.antt.
 use mathlib.Core.Path.{_≡_}
 use mathlib.Core.Bool.{true, false, _||_}
 use mathlib.Core.Logic.{_⊎_}
