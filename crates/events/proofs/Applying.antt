@@ -1,18 +1,18 @@
 -- A set applied one message at a time, in the order of the slots, is applied as one. Assumes nothing.
 use mathlib.Core.Path.{_≡_, refl, sym, ap, _∙_}
 use mathlib.Core.Bool.{true, false, cond}
-use Prim.Native.Nat.{ℕ, suc, _+_, _-_, max, _≤_, _<_}
+use Prim.Native.Nat.{ℕ, zero, suc, _+_, _-_, max, _≤_, _<_}
 use native.Mathlib.Numerals.{add-one}
 use native.Mathlib.Omega.{arith}
 use lib.ListN.{length, getD, set}
 use borrow.Author.Tests.{eq-eqb, ne-eqb}
 use Rattle.lists.specs.Below.{greatest}
 use Rattle.lists.specs.Build.{tabulate, over}
-use Rattle.lists.proofs.Tests.{cond-true, cond-false, refuted}
+use Rattle.lists.proofs.Tests.{cond-true, cond-false, refuted, contradiction}
 use Rattle.lists.proofs.Below.{greatest-last}
 use Rattle.lists.proofs.Build.{getD-tabulate, tabulate-ext, tabulate-self, over-more}
 use Rattle.lists.proofs.Stores.{over-same, over-enough, set-tabulate}
-use Rattle.model.specs.Tables.{seats, capacity, message, entry, highest, blank, none, noPending, messageNumber, withDelivered}
+use Rattle.model.specs.Tables.{seats, capacity, message, entry, highest, unheld, none, noPending, messageNumber, withDelivered}
 use Rattle.model.specs.Delivery.{Slots, has}
 use Rattle.model.specs.Events.{numberOf, highestIn, deliver}
 use Rattle.model.specs.declared.MessageNumber.{MessageNumber}
@@ -41,7 +41,7 @@ other-number x m d = cond-false (m .number .0) 0 (ne-eqb (m .sender) x d)
 
 module _ (t : Table) (c : Controller) (S : Slots) where
   abbrev pub buffer : ℕ → Pending
-  buffer s = cond (has S s) blank (entry (c .pending) s)
+  buffer s = cond (has S s) unheld (entry (c .pending) s)
 
   abbrev pub marks : ℕ → ℕ
   marks s = cond (has S s) 1 (getD (c .applied) s 0)
@@ -69,7 +69,7 @@ module _ (t : Table) (c : Controller) (S : Slots) where
   unfolding partly
   partly-skip k out x e =
       rw (
-        over-same buffer (c .pending) noPending k (cond-false blank (entry (c .pending) k) out),
+        over-same buffer (c .pending) noPending k (cond-false unheld (entry (c .pending) k) out),
         over-same marks (c .applied) 0 k (cond-false 1 (getD (c .applied) k 0) out),
         tabulate-ext seats (numbers (k + 1)) (numbers k) none (λ y h.
             ap (λ (z : ℕ). messageNumber (max (highest c (suc y)) z)) (greatest-last k (member (suc y)) (cond-false (numberOf (suc y) (message t k)) 0 out))),
@@ -95,7 +95,7 @@ module _ (t : Table) (c : Controller) (S : Slots) where
   partly-more k m low high x y e f =
       f ∙ rw (
         e,
-        over-more buffer k (c .pending) _ blank refl (sym (cond-true blank (entry (c .pending) k) m)),
+        over-more buffer k (c .pending) _ unheld refl (sym (cond-true unheld (entry (c .pending) k) m)),
         over-more marks k (c .applied) _ 1 refl (sym (cond-true 1 (getD (c .applied) k 0) m)),
         raised k m low high,
       )
@@ -106,9 +106,18 @@ module _ (t : Table) (c : Controller) (S : Slots) where
   partly-end lp la h run k x p e =
       e ∙ rw (
         p,
-        over-enough buffer (c .pending) noPending (t .count) capacity h lp (λ i l. cond-false blank (entry (c .pending) i) (out i l)),
+        over-enough buffer (c .pending) noPending (t .count) capacity h lp (λ i l. cond-false unheld (entry (c .pending) i) (out i l)),
         over-enough marks (c .applied) 0 (t .count) capacity h la (λ i l. cond-false 1 (getD (c .applied) i 0) (out i l)),
       )
     where
       out : (i : ℕ) → t .count ≤ i → has S i ≡ false
       out i l = refuted (has S i) (λ m. omega (arith, run i m))
+
+  -- a set without members changes nothing
+  pub deliver-none : length (c .highest) ≡ seats → length (c .pending) ≡ capacity → length (c .applied) ≡ capacity → t .count ≤ capacity
+      → ((s : ℕ) → has S s ≡ false) → c ≡ deliver t c S
+  deliver-none lh lp la h out = partly-end lp la h (λ s m. contradiction m (out s)) (t .count) c refl (skipped (t .count))
+    where
+      skipped : (k : ℕ) → c ≡ partly k
+      skipped zero = partly-none lh
+      skipped (suc k) = rw (← add-one) (partly-skip k (out k) c (skipped k))

@@ -1,4 +1,5 @@
--- What an event does to its subject is all that it does to the table, but for a send's message; and what the subject then shows is its total. Assumes nothing.
+-- What an event does to its subject is all that it does to the table, but for a send's message; and what the subject's panel then
+-- shows. Assumes nothing.
 use mathlib.Core.Path.{_≡_, refl, ap}
 use mathlib.Core.List.{[]}
 use mathlib.Core.Logic.{_⊎_, inl, inr}
@@ -8,8 +9,8 @@ use lib.ListN.{set}
 use denote.Enum.Declared.{tagOf}
 use Rattle.lists.proofs.Clipped.{any-none}
 use Rattle.model.specs.Tables.{seats, capacity, message, messageNumber, messageOf, withController, withMessage}
-use Rattle.model.specs.Events.{send, handover, next, appliedBy, weigh, total, namesOf, finishes}
-use Rattle.model.specs.Calls.{receiver}
+use Rattle.model.specs.Events.{sentMessage, sent, subject, after, withSent, next, appliedBy, weigh, shown, panelOf, namesOf, finishes}
+use Rattle.model.specs.Facts.{Named}
 use Rattle.model.specs.Runs.{lineOf}
 use Rattle.model.specs.Sized.{Sized}
 use Rattle.model.specs.declared.Payload.{Payload}
@@ -20,28 +21,25 @@ use Rattle.model.specs.declared.Event.{Event}
 use Rattle.model.specs.declared.Answer.{Answer}
 use Rattle.model.specs.declared.Event.the-variants.{Send, Handover, Stop}
 use Rattle.model.proofs.Event as event
-use Rattle.model.specs.Facts.{Named}
+use Rattle.model.proofs.Tested.{facts}
+use Rattle.model.proofs.Allowed.{subject-allowed}
 use Rattle.model.proofs.Lengths.{none-named}
-use Rattle.invariant.proofs.Stores.{at-same}
-use Rattle.questions.specs.Sums.{shown}
-use Rattle.events.specs.declared.Effect.{Effect}
-use Rattle.events.specs.Effects.{subject, after, Leaves, noSet, effectOf}
+use Rattle.invariant.proofs.Stores.{seated, at-same}
+use Rattle.events.specs.declared.effects.Effect.{Effect}
+use Rattle.events.specs.Effects.{Leaves, noSet, effectOf}
 use Rattle.events.specs.Conditions.{Accepted}
-use Rattle.events.proofs.Accepted.{sendable, handable, stoppable}
+use Rattle.events.proofs.Accepted.{sendable, handable}
 
 -- THE SUBJECT
 
--- what r shows as x, where it stands in the table
-pub shown-total : (t : Table) (r : ℕ) (x : Controller) → Sized t → Named seats r → shown t x ≡ total (withController t r x) r
-unfolding shown total weigh withController message
-shown-total t r x z h = rw (at-same t r x z h) refl
+-- what the panel of r shows as x, where it stands in the table
+pub shown-panel : (t : Table) (r : ℕ) (x : Controller) → Sized t → Named seats r → shown t x ≡ panelOf (withController t r x) r
+unfolding shown panelOf weigh withController message
+shown-panel t r x z h = rw (at-same t r x z h) refl
 
 -- the subject of an accepted event has a seat
 pub subject-seated : (t : Table) (e : Event) → Accepted t e → Named seats (subject e)
-unfolding subject
-subject-seated t (Send c p) q = sendable t c p q .sender
-subject-seated t (Handover r o) q = handable t r o q .receiver
-subject-seated t (Stop c k) q = stoppable t c k q
+subject-seated t e q = seated (facts t (q .0) .few) (subject-allowed t e (q .1))
 
 -- AN EVENT THAT APPLIES NOTHING
 
@@ -54,18 +52,18 @@ quiet-effect t e n a ea c ec = rw (ea, ec, n, none-named t, ← any-none (t .cou
 
 -- the log of a sender, of which a message's number is the length
 pub sent-length : (t : Table) (c : ℕ) (p : Payload) (x : Controller) → Leaves t (Send c p) x → x .length ≤ capacity
-unfolding after
+unfolding after sent
 sent-length t c p x l = let h = sendable t c p (l .0) in omega (arith, ap (λ (y : Controller). y .length) (l .1), h .room)
 
 pub stored-send : (t : Table) (c : ℕ) (p : Payload) (x : Controller) → x ≡ after t (Send c p) → (m : Message) → m ≡ messageOf c (messageNumber (x .length)) p
     → _≡_ {A = Table} (record { n = t .n; count = t .count + 1; messages = set (t .messages) (t .count) m; controllers = set (t .controllers) (c - 1) x }) (next t (Send c p))
-unfolding next send after withController withMessage
+unfolding next subject after withSent sentMessage sent withController withMessage
 stored-send t c p x e m f = rw (f, e) refl
 
 -- an event of another kind
 pub stored-else : (t : Table) (e : Event) (x : Controller) → (tagOf event.the-type e ≡ 1) ⊎ (tagOf event.the-type e ≡ 2) → x ≡ after t e
     → _≡_ {A = Table} (record { n = t .n; count = t .count; messages = t .messages; controllers = set (t .controllers) (subject e - 1) x }) (next t e)
-unfolding next handover after withController subject
+unfolding next withSent withController
 stored-else t (Send c p) x (inl q) f = absurd (omega arith)
 stored-else t (Send c p) x (inr q) f = absurd (omega arith)
 stored-else t (Handover r o) x q f = rw f refl
@@ -75,8 +73,8 @@ stored-else t (Stop c k) x q f = rw f refl
 
 -- an event lists what its subject shows, where it lists anything
 pub line-shown : (t : Table) (e : Event) (k : ℕ) → Sized t → Accepted t e
-    → lineOf k (receiver e) (shown t (after t e)) (namesOf t (appliedBy t e)) ≡ lineOf k (receiver e) (total (next t e) (receiver e)) (namesOf t (appliedBy t e))
-unfolding lineOf appliedBy receiver after next handover
+    → lineOf k (subject e) (shown t (after t e)) (namesOf t (appliedBy t e)) ≡ lineOf k (subject e) (panelOf (next t e) (subject e)) (namesOf t (appliedBy t e))
+unfolding lineOf appliedBy subject next withSent
 line-shown t (Send c p) k z q = rw (none-named t) refl
-line-shown t (Handover r o) k z q = rw (shown-total t r _ z (handable t r o q .receiver)) refl
+line-shown t (Handover r o) k z q = rw (shown-panel t r (after t (Handover r o)) z (handable t r o q .receiver)) refl
 line-shown t (Stop c j) k z q = rw (none-named t) refl

@@ -8,7 +8,7 @@ use lib.ListN.{length}
 use lib.Dec.{leb, ltb}
 use borrow.Author.Tests.{eq-eqb, ne-eqb}
 use Rattle.lists.proofs.Tests.{cond-false}
-use Rattle.model.specs.Tables.{blankTable}
+use Rattle.model.specs.Tables.{zeroTable}
 use Rattle.model.specs.Records.{byte}
 use Rattle.model.specs.Questions.{firstNo, controllerCount, fileQuestions}
 use Rattle.model.specs.Runs.{RunOutcome, progress, ran, fileRun}
@@ -38,11 +38,11 @@ module _ (s : List ℕ) where
 
 module _ (s l w : List ℕ) (k : ℕ) (e : k ≡ firstNo (fileQuestions s)) where
   run-isnt : k ≢ 0
-      → _≡_ {A = RunOutcome} (record { answer = record { number = k; events = 0; written = 0; table = blankTable }; listing = l; scratch = w }) (fileRun s l w)
+      → _≡_ {A = RunOutcome} (record { answer = record { number = k; events = 0; written = 0; table = zeroTable }; listing = l; scratch = w }) (fileRun s l w)
   unfolding fileRun
   run-isnt n = rw e (sym (cond-false _ _ (ne-eqb (firstNo (fileQuestions s)) 0 (λ z. n (e ∙ z)))))
 
-  pub run-refused : k ≢ 0 → (x : Table) → x ≡ blankTable
+  pub run-refused : k ≢ 0 → (x : Table) → x ≡ zeroTable
       → (_≡_ {A = RunAnswer} (record { number = k; events = 0; written = 0; table = x }) (runOf s l w)) × (l ≡ runListing s l w) × (w ≡ runScratch s l w)
   unfolding runOf runListing runScratch
   run-refused n x b = rw b (ap (λ (o : RunOutcome). o .answer) (run-isnt n), ap (λ (o : RunOutcome). o .listing) (run-isnt n), ap (λ (o : RunOutcome). o .scratch) (run-isnt n))

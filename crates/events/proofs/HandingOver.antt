@@ -1,43 +1,96 @@
 -- A handover: the set that the delivery rule answers is the definition's, and what the code stores is its answer. Assumes nothing.
-use mathlib.Core.Path.{_≡_, refl, _∙_}
-use mathlib.Core.Bool.{Bool, cond}
-use mathlib.Core.List.{List}
-use Prim.Native.Nat.{ℕ, _≤_}
+use mathlib.Core.Path.{_≡_, refl, sym, ap, _∙_}
+use mathlib.Core.Bool.{Bool, true, false, cond}
+use mathlib.Core.List.{List, []}
+use Prim.Native.Nat.{ℕ, zero, suc, _≤_, _<_}
+use native.Mathlib.Omega.{arith}
+use native.Mathlib.Decide.{ℕ-discrete}
 use lib.ListN.{length}
-use lib.IntN.{ℤ, pos}
+use lib.Seq.{take-all}
 use borrow.Author.Tests.{le-leb}
-use Rattle.lists.proofs.Tests.{cond-true}
-use Rattle.model.specs.Tables.{seats}
-use Rattle.model.specs.Delivery.{Slots, applicable}
-use Rattle.model.specs.Events.{received, handoverSet, deliver, handover, next, appliedBy, namesOf, finishes}
-use Rattle.model.specs.Calls.{receiver, cleared, answerOf}
-use Rattle.model.specs.Sized.{Sized}
+use Rattle.lists.proofs.Tests.{cond-true, refuted, contradiction}
+use Rattle.lists.proofs.Clipped.{any-none}
+use Rattle.model.specs.Tables.{seats, scratchSize, noPanel, message}
+use Rattle.model.specs.Delivery.{Slots, has, applicable}
+use Rattle.model.specs.Events.{received, handoverSet, deliver, subject, after, withSent, next, appliedBy, shown, nameOf, insert, namesBelow, namesOf, finishes}
+use Rattle.model.specs.Calls.{cleared, answerOf}
+use Rattle.model.specs.Facts.{Named}
+use Rattle.model.specs.Parts.{part}
+use Rattle.model.specs.Sized.{Sized, SizedController}
+use Rattle.model.specs.declared.Name.{Name}
+use Rattle.model.specs.declared.Panel.{Panel}
 use Rattle.model.specs.declared.Pending.{Pending}
 use Rattle.model.specs.declared.Controller.{Controller}
 use Rattle.model.specs.declared.Table.{Table}
+use Rattle.model.specs.declared.Answer.{Answer}
 use Rattle.model.specs.declared.Event.the-variants.{Handover}
-use Rattle.model.specs.Facts.{Named}
+use Rattle.model.proofs.Lengths.{length-insert}
 use Rattle.delivery.specs.Apply.{applyAnswer, applyScratch, Applied}
-use Rattle.questions.specs.Sums.{shown}
-use Rattle.events.specs.declared.Names.{Names}
-use Rattle.events.specs.declared.Effect.{Effect}
-use Rattle.events.specs.Ordering.{listed}
-use Rattle.events.specs.Effects.{after, effectOf}
-use Rattle.events.proofs.Effects.{shown-total}
+use Rattle.naming.specs.declared.Names.{Names}
+use Rattle.naming.specs.Ordering.{padded}
+use Rattle.events.specs.declared.effects.Effect.{Effect}
+use Rattle.events.specs.Conditions.{OfRun}
+use Rattle.events.specs.Effects.{noSet, effectOf}
+use Rattle.events.proofs.Effects.{shown-panel}
+use Rattle.events.proofs.Applying.{deliver-none}
+
+-- THE DELIVERY RULE
 
 module _ (t : Table) (r o : ℕ) (c : Controller) (e : c ≡ received t r o) where
-  pub set-applied : (S : Slots) (w v : List ℕ) → 4096 ≤ length w → Applied (t .n) (c .pending) w S v → S ≡ handoverSet t r o
+  pub set-applied : (S : Slots) (w v : List ℕ) → scratchSize ≤ length w → Applied (t .n) (c .pending) w S v → S ≡ handoverSet t r o
   unfolding applyAnswer handoverSet
-  set-applied S w v h a = a .set ∙ cond-true _ _ (le-leb 4096 (length w) h) ∙ rw e refl
+  set-applied S w v h a = a .set ∙ cond-true _ _ (le-leb scratchSize (length w) h) ∙ rw e refl
 
-pub scratch-cleared : {n : ℕ} {P : List Pending} {S : Slots} (w v : List ℕ) → 4096 ≤ length w → Applied n P w S v → v ≡ cleared w
+pub scratch-cleared : {n : ℕ} {P : List Pending} {S : Slots} (w v : List ℕ) → scratchSize ≤ length w → Applied n P w S v → v ≡ cleared w
 unfolding applyScratch
-scratch-cleared w v h a = a .scratch ∙ cond-true _ _ (le-leb 4096 (length w) h)
+scratch-cleared w v h a = a .scratch ∙ cond-true _ _ (le-leb scratchSize (length w) h)
 
-pub handed-effect : (t : Table) (r o : ℕ) → Sized t → Named seats r → (c : Controller) → c ≡ received t r o → (S : Slots) → S ≡ handoverSet t r o
-    → (a : Names) → a ≡ listed (namesOf t S) → (f : Bool) → f ≡ finishes t S r
-    → (x : Controller) → x ≡ deliver t c S → (y : ℤ) → y ≡ cond f (shown t x) (pos 0) → (g : ℕ) → g ≡ cond f 1 0
-    → _≡_ {A = Effect} (record { answer = record { number = 0; finished = g; total = y; size = a .size; names = a .names }; controller = x })
-    (effectOf t (Handover r o))
-unfolding effectOf after answerOf next handover appliedBy receiver listed
-handed-effect t r o z h c ec S es a ea f ef x ex y ey g eg = rw (eg, ey, shown-total t r x z h, ef, ea, ex, ec, es) refl
+-- THE NAMES
+
+-- they rest on the messages alone
+names-part : (k : ℕ) (t : Table) (S : Slots) → namesBelow k (part 0 (t .count) (t .messages)) S ≡ namesBelow k t S
+unfolding namesBelow message
+names-part zero t S = refl
+names-part (suc k) t S = rw (names-part k t S) refl
+
+pub names-are : (t : Table) (S : Slots) → namesOf (part 0 (t .count) (t .messages)) S ≡ namesOf t S
+unfolding namesOf
+names-are t S = names-part (t .count) t S
+
+-- a set of which no message is named has none of the run
+unnamed : (k : ℕ) (t : Table) (S : Slots) → length (namesBelow k t S) ≡ 0 → (s : ℕ) → s < k → has S s ≡ false
+unfolding namesBelow
+unnamed zero t S e s h = absurd (omega arith)
+unnamed (suc k) t S e s h = go (has S k) refl e
+  where
+    go : (b : Bool) → has S k ≡ b → length (cond b (insert (nameOf (message t k)) (namesBelow k t S)) (namesBelow k t S)) ≡ 0 → has S s ≡ false
+    go true q n = absurd (omega (arith, length-insert (nameOf (message t k)) (namesBelow k t S)))
+    go false q n = split (ℕ-discrete s k) (λ l. unnamed k t S n s l)
+      where
+        split : Dec (s ≡ k) → (s < k → has S s ≡ false) → has S s ≡ false
+        split (yes p) f = rw p q
+        split (no p) f = f (omega (arith, p))
+
+none-in : (t : Table) (S : Slots) → OfRun t S → length (namesOf t S) ≡ 0 → (s : ℕ) → has S s ≡ false
+unfolding namesOf
+none-in t S run e s = refuted (has S s) (λ m. contradiction m (unnamed (t .count) t S e s (run s m)))
+
+-- THE EFFECT
+
+module _ (t : Table) (r o : ℕ) (z : Sized t) (h : Named seats r) (c : Controller) (ec : c ≡ received t r o) (S : Slots) (es : S ≡ handoverSet t r o) where
+  pub handed-effect : (a : Names) → a ≡ padded (namesOf (part 0 (t .count) (t .messages)) S)
+      → (f : Bool) → f ≡ finishes (part 0 (t .count) (t .messages)) S r
+      → (x : Controller) → x ≡ deliver t c S → (y : Panel) → y ≡ cond f (shown t x) noPanel → (g : ℕ) → g ≡ cond f 1 0
+      → _≡_ {A = Effect} (record { answer = record { number = 0; finished = g; panel = y; size = a .size; names = a .names }; controller = x })
+      (effectOf t (Handover r o))
+  unfolding effectOf answerOf next subject after withSent appliedBy padded finishes message
+  handed-effect a ea f ef x ex y ey g eg = rw (eg, ey, shown-panel t r x z h, ef, ea, names-are t S, ex, ec, es) refl
+
+  -- where nothing is named nothing is applied
+  pub handed-none : SizedController c → t .count ≤ 64 → OfRun t S → length (namesOf t S) ≡ 0 → (b : Answer) → b ≡ noSet 0
+      → _≡_ {A = Effect} (record { answer = b; controller = c }) (effectOf t (Handover r o))
+  unfolding effectOf noSet appliedBy subject after finishes
+  handed-none u k run e b eb =
+      let none = none-in t S run e in
+      rw (eb, ← es, sym (take-all 0 (namesOf t S) (omega (arith, e))), ← any-none (t .count) _ (λ s l. rw (none s) refl))
+      (ap (λ (x : Controller). record { answer = noSet 0; controller = x }) (deliver-none t c S (u .highest) (u .pending) (u .applied) k none ∙ rw ec refl))

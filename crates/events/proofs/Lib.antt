@@ -1,13 +1,11 @@
 pub mod Accepted
 pub mod Forwarding
 pub mod Applying
-pub mod Lengths
-pub mod Ordering
-pub mod Listing
 pub mod Effects
+pub mod Asking
 pub mod Stepping
 pub mod HandingOver
-pub mod Panels
+pub mod Looking
 pub mod Files
 pub mod Turning
 pub mod Running

@@ -1,49 +1,39 @@
--- One record of a file run: from what the step and the line writer answer to the run after it. Assumes nothing.
+-- One record of a file run: from what the code reads, carries out and writes to the run after it. Assumes nothing.
 use mathlib.Core.Path.{_≡_, refl, sym, ap, _∙_}
 use mathlib.Core.Logic.{_≢_}
 use mathlib.Core.Bool.{true, false}
-use mathlib.Core.List.{List, [], _∷_, _++_, append-nil}
-use Prim.Native.Nat.{ℕ, _+_, _-_, _≤_, _<_}
+use mathlib.Core.List.{List, [], _∷_, _++_, append-nil, append-assoc}
+use Prim.Native.Nat.{ℕ, _+_, _-_, _≤_}
 use native.Mathlib.Omega.{arith}
-use lib.ListN.{length, take, drop, length-drop, drop-of-length-le}
-use lib.Seq.{take-append-seam}
+use lib.ListN.{length, take, drop, length-drop, length-append, drop-of-length-le, take-append-drop}
+use lib.Seq.{length-take-le, take-append-seam, drop-drop}
 use lib.Dec.{leb}
 use borrow.Author.Tests.{eq-eqb, ne-eqb, leb-true}
 use borrow.Rule.Slice.PartMut.{midOf, postOf, putMid, put-same}
 use Rattle.lists.specs.Build.{overlay}
 use Rattle.lists.proofs.Tests.{cond-true, cond-false, refuted}
-use Rattle.model.specs.Events.{appliedBy, namesOf}
+use Rattle.model.specs.Events.{subject, after, appliedBy, shown, namesOf}
 use Rattle.model.specs.Records.{size, decode}
 use Rattle.model.specs.Sized.{Sized}
-use Rattle.model.specs.WellFormed.{wellFormed}
 use Rattle.model.specs.Questions.{firstNo, lineFits, stepQuestions}
-use Rattle.model.specs.Calls.{receiver, accepted, step, cleared, scratchAfter, answerOf}
-use Rattle.model.specs.Runs.{lineOf}
+use Rattle.model.specs.Calls.{accepted, step, scratchAfter, answerOf}
+use Rattle.model.specs.Runs.{Progress, lineOf, lineAt, verdict}
 use Rattle.model.specs.declared.Controller.{Controller}
 use Rattle.model.specs.declared.Table.{Table}
+use Rattle.model.specs.declared.Event.{Event}
 use Rattle.model.proofs.Allowed.{no-no}
-use Rattle.model.proofs.Steps.{step-number, step-is-accepted, accepted-within}
+use Rattle.model.proofs.Steps.{step-number, step-is-accepted}
+use Rattle.model.proofs.Runs.{advance-gone, advance-ended}
 use Rattle.records.proofs.Cuts.{part-rest}
 use Rattle.listing.specs.declared.Put.{Put}
 use Rattle.listing.specs.Writing.{putAnswer, tailAfter, Wrote}
-use Rattle.questions.specs.Sums.{shown}
-use Rattle.events.specs.declared.Effect.{Effect}
-use Rattle.events.specs.declared.Cursor.{Cursor}
-use Rattle.events.specs.Effects.{after, Leaves, effectOf}
-use Rattle.events.specs.Turns.{lineAt, verdict, ended, turned, turnedListing}
+use Rattle.events.specs.declared.effects.Effect.{Effect}
+use Rattle.events.specs.declared.files.Cursor.{Cursor}
+use Rattle.events.specs.declared.files.Advance.{Advance}
+use Rattle.events.specs.Effects.{Leaves, effectOf, Effected}
+use Rattle.events.specs.Turns.{progressOf, ended, Before, turned, Turned}
 use Rattle.events.proofs.Effects.{line-shown}
-use Rattle.events.proofs.Stepping.{allowed}
-
--- THE VERDICT
-
-module _ (events : ℕ) (t : Table) (b : List ℕ) (room space : ℕ) where
-  verdict-refused : step t b room .answer .number ≢ 0 → verdict events t b room space ≡ step t b room .answer .number
-  unfolding verdict firstNo
-  verdict-refused n = cond-false _ _ (ne-eqb _ 0 n)
-
-  pub verdict-accepted : step t b room .answer .number ≡ 0 → verdict events t b room space ≡ firstNo (lineFits (length (lineAt events t b room)) space ∷ [])
-  unfolding verdict firstNo
-  verdict-accepted z = cond-true _ _ (eq-eqb _ 0 z)
+use Rattle.events.proofs.Asking.{allowed}
 
 -- a line that question 16 refuses does not fit, and one that it does not refuse fits
 unfit : (a c : ℕ) → firstNo (lineFits a c ∷ []) ≢ 0 → leb a c ≡ false
@@ -54,113 +44,139 @@ fit : (a c : ℕ) → firstNo (lineFits a c ∷ []) ≡ 0 → leb a c ≡ true
 unfolding lineFits
 fit a c e = no-no 15 (leb a c) [] e .0
 
+-- a list written behind the first n bytes of another
+overlay-behind : (n : ℕ) (x l : List ℕ) → n ≤ length l → take n l ++ overlay x (drop n l) ≡ overlay (take n l ++ x) l
+unfolding overlay
+overlay-behind n x l h =
+    let m = length-take-le n l h in
+    rw (length-append (take n l) x, m, ← drop-drop (length x) n l) (sym (append-assoc (take n l) x (drop (length x) (drop n l))))
+
 -- FROM THE CODE
 
-module _ (p : Cursor) (t : Table) (s l w : List ℕ) where
-  abbrev b : List ℕ
-  b = drop (p .at) s
+module _ (c : Cursor) (t : Table) (s l w : List ℕ) (b : Before c t s l) where
+  abbrev so-far : Progress
+  so-far = progressOf c t l
 
+  -- what is left of the listing
   abbrev space : ℕ
-  space = length l - p .written
+  space = length l - c .written
 
-  -- what a turn that answers x and c, and leaves m and v, owes its caller
-  abbrev Owed : Cursor → Controller → List ℕ → List ℕ → Type 0
-  Owed x c m v =
-      (x ≡ turned p t s (length w) (length l)) × (x .number ≡ 0 → Leaves t (decode b) c) × (m ≡ turnedListing p t s (length w) l)
-      × (v ≡ scratchAfter (step t b (length w) .answer .number) w)
+  lines-length : length (take (c .written) l) ≡ c .written
+  lines-length = length-take-le (c .written) l (b .within)
+
+  verdict-refused : step t s (length w) .answer .number ≢ 0 → verdict so-far s (length w) (length l) ≡ step t s (length w) .answer .number
+  unfolding verdict firstNo progressOf
+  verdict-refused n = cond-false _ _ (ne-eqb _ 0 n)
+
+  verdict-accepted : step t s (length w) .answer .number ≡ 0
+      → verdict so-far s (length w) (length l) ≡ firstNo (lineFits (length (lineAt so-far s (length w))) space ∷ [])
+  unfolding verdict firstNo progressOf
+  verdict-accepted z = cond-true _ _ (eq-eqb _ 0 z) ∙ rw lines-length refl
 
   -- a refusal, by the record's questions or by question 16
-  turn-ended : (k : ℕ) → verdict (p .events) t b (length w) space ≡ k → k ≢ 0 → (x : Cursor) → x ≡ ended p k (length s) → (c : Controller) (v : List ℕ)
-      → v ≡ scratchAfter (step t b (length w) .answer .number) w → Owed x c l v
-  unfolding turned turnedListing ended
-  turn-ended k e n x ex c v ev = (
-    ex ∙ sym (rw e (cond-false _ _ (ne-eqb k 0 n))),
-    λ z. absurd (n (sym (ap (λ (y : Cursor). y .number) ex) ∙ z)),
-    sym (rw e (cond-false _ _ (ne-eqb k 0 n))),
-    ev,
-  )
+  turn-ended : (k : ℕ) → verdict so-far s (length w) (length l) ≡ k → k ≢ 0 → (x : Cursor) → x ≡ ended c k
+      → (e : Event) → e ≡ decode s → (y : Controller) (v : List ℕ) → v ≡ scratchAfter (step t s (length w) .answer .number) w
+      → Turned c t s l w (record { cursor = x; used = length s; event = e; controller = y }) l v
+  unfolding turned progressOf ended overlay
+  turn-ended k ek n x ex e ee y v ev =
+      let q = advance-ended so-far s (length w) (length l) (λ z. n (sym ek ∙ z)) in
+      record {
+        number = rw (ex, q) (sym ek);
+        events = rw (ex, q) refl;
+        written = rw (ex, q) (sym lines-length);
+        used = rw q (sym (rw ek (cond-false _ _ (ne-eqb k 0 n))));
+        event = ee;
+        leaves = λ z. absurd (n (sym (rw q at (rw q ek)) ∙ rw q at z));
+        listed = rw q (sym (rw lines-length (take-append-drop (c .written) l)));
+        clear = ev;
+      }
 
-  pub turn-refused : (k : ℕ) → k ≡ firstNo (stepQuestions t b (length w)) → k ≢ 0 → (x : Cursor) → x ≡ ended p k (length s) → (c : Controller) → Owed x c l w
+  pub turn-refused : (k : ℕ) → k ≡ firstNo (stepQuestions t s (length w)) → k ≢ 0 → (x : Cursor) → x ≡ ended c k
+      → (e : Event) → e ≡ decode s → (y : Controller)
+      → Turned c t s l w (record { cursor = x; used = length s; event = e; controller = y }) l w
   unfolding scratchAfter
-  turn-refused k e n x ex c =
-      let said = step-number t b (length w) ∙ sym e in
-      turn-ended k (verdict-refused (p .events) t b (length w) space (λ z. n (sym said ∙ z)) ∙ said) n x ex c w
-      (sym (rw said (cond-false _ _ (ne-eqb k 0 n))))
+  turn-refused k e n x ex ev ee y =
+      let said = step-number t s (length w) ∙ sym e in
+      turn-ended k (verdict-refused (λ z. n (sym said ∙ z)) ∙ said) n x ex ev ee y w (sym (rw said (cond-false _ _ (ne-eqb k 0 n))))
 
-  module _ (z : Sized t) (f : wellFormed t ≡ true) (k : ℕ) (ek : k ≡ firstNo (stepQuestions t b (length w))) (ez : k ≡ 0)
-      (d : Effect) (ed : d ≡ effectOf t (decode b)) where
-    number-said : step t b (length w) .answer .number ≡ 0
-    number-said = step-number t b (length w) ∙ sym ek ∙ ez
+  module _ (z : Sized t) (passed : firstNo (stepQuestions t s (length w)) ≡ 0) (d : Effect) (v : List ℕ) (a : Effected t (decode s) w d v) where
+    number-said : step t s (length w) .answer .number ≡ 0
+    number-said = step-number t s (length w) ∙ passed
 
-    pub record-within : p .at < length s → p .at + (size b + 1) ≤ length s
-    record-within h = omega (arith, accepted-within t b (length w) number-said, length-drop (p .at) s)
-
-    leaves : Leaves t (decode b) (d .controller)
+    leaves : Leaves t (decode s) (d .controller)
     unfolding effectOf
-    leaves = (allowed t b (length w) k f ek ez .0, ap (λ (x : Effect). x .controller) ed)
+    leaves = (allowed t s (length w) (b .formed) passed .0, ap (λ (x : Effect). x .controller) (a .effect))
 
-    scratch-said : (v : List ℕ) → v ≡ cleared w → v ≡ scratchAfter (step t b (length w) .answer .number) w
+    scratch-said : v ≡ scratchAfter (step t s (length w) .answer .number) w
     unfolding scratchAfter
-    scratch-said v e = rw number-said e
+    scratch-said = rw number-said (a .clear)
 
-    effect-line : lineOf (p .events + 1) (receiver (decode b)) (shown t (d .controller)) (take (d .answer .size) (d .answer .names))
-        ≡ lineOf (p .events + 1) (receiver (decode b)) (shown t (after t (decode b))) (namesOf t (appliedBy t (decode b)))
+    effect-line : lineOf (c .events + 1) (subject (decode s)) (shown t (d .controller)) (take (d .answer .size) (d .answer .names))
+        ≡ lineOf (c .events + 1) (subject (decode s)) (shown t (after t (decode s))) (namesOf t (appliedBy t (decode s)))
     unfolding effectOf answerOf overlay
-    effect-line = rw (ed, take-append-seam) refl
+    effect-line = rw (a .effect, take-append-seam) refl
 
-    line-said : lineOf (p .events + 1) (receiver (decode b)) (shown t (d .controller)) (take (d .answer .size) (d .answer .names)) ≡ lineAt (p .events) t b (length w)
-    unfolding lineAt accepted
-    line-said = effect-line ∙ line-shown t (decode b) (p .events + 1) z (leaves .0) ∙ rw (step-is-accepted t b (length w) (sym ek ∙ ez)) refl
+    line-said : lineOf (c .events + 1) (subject (decode s)) (shown t (d .controller)) (take (d .answer .size) (d .answer .names)) ≡ lineAt so-far s (length w)
+    unfolding lineAt accepted progressOf
+    line-said = effect-line ∙ line-shown t (decode s) (c .events + 1) z (leaves .0) ∙ rw (step-is-accepted t s (length w) passed) refl
 
-    module _ (h : p .written ≤ length l) (q : Put) (m : List ℕ)
-        (ew : Wrote (lineOf (p .events + 1) (receiver (decode b)) (shown t (d .controller)) (take (d .answer .size) (d .answer .names)))
-        (midOf (p .written) space l) m q) where
+    module _ (q : Put) (m : List ℕ)
+        (ew : Wrote (lineOf (c .events + 1) (subject (decode s)) (shown t (d .controller)) (take (d .answer .size) (d .answer .names))) (midOf (c .written) space l) m q) where
       abbrev x : List ℕ
-      x = lineAt (p .events) t b (length w)
+      x = lineAt so-far s (length w)
 
-      mid-is : midOf (p .written) space l ≡ drop (p .written) l
-      mid-is = part-rest (p .written) l
+      mid-is : midOf (c .written) space l ≡ drop (c .written) l
+      mid-is = part-rest (c .written) l
 
-      wrote : Wrote x (drop (p .written) l) m q
+      wrote : Wrote x (drop (c .written) l) m q
       wrote = rw (line-said, mid-is) at ew
 
       put-number : q .number ≡ firstNo (lineFits (length x) space ∷ [])
       unfolding putAnswer
       put-number = rw (length-drop) at (ap (λ (y : Put). y .number) (wrote .answer))
 
-      verdict-put : verdict (p .events) t b (length w) space ≡ q .number
-      verdict-put = verdict-accepted (p .events) t b (length w) space number-said ∙ sym put-number
+      verdict-put : verdict so-far s (length w) (length l) ≡ q .number
+      verdict-put = verdict-accepted number-said ∙ sym put-number
 
-      pub turn-full : q .number ≢ 0 → (y : Cursor) → y ≡ ended p (q .number) (length s) → (c : Controller) (v : List ℕ) → v ≡ cleared w
-          → Owed y c (putMid (p .written) space l m) v
+      pub turn-full : q .number ≢ 0 → (y : Cursor) → y ≡ ended c (q .number) → (e : Event) → e ≡ decode s → (g : Controller)
+          → Turned c t s l w (record { cursor = y; used = length s; event = e; controller = g }) (putMid (c .written) space l m) v
       unfolding tailAfter
-      turn-full n y ey c v ev =
-          let out : leb (length x) (length (drop (p .written) l)) ≡ false = rw (length-drop (p .written) l) (unfit (length x) space (λ e. n (put-number ∙ e))) in
-          let same : m ≡ midOf (p .written) space l = wrote .tail ∙ cond-false _ _ out ∙ sym mid-is in
-          let kept = ap (putMid (p .written) space l) same ∙ put-same (p .written) space l in
-          rw kept (turn-ended (q .number) verdict-put n y ey c v (scratch-said v ev))
+      turn-full n y ey e ee g =
+          let out : leb (length x) (length (drop (c .written) l)) ≡ false = rw (length-drop (c .written) l) (unfit (length x) space (λ o. n (put-number ∙ o))) in
+          let same : m ≡ midOf (c .written) space l = wrote .tail ∙ cond-false _ _ out ∙ sym mid-is in
+          let kept = ap (putMid (c .written) space l) same ∙ put-same (c .written) space l in
+          rw kept (turn-ended (q .number) verdict-put n y ey e ee g v scratch-said)
 
       module _ (n : q .number ≡ 0) where
-        fits : leb (length x) (length (drop (p .written) l)) ≡ true
-        fits = rw (length-drop (p .written) l) (fit (length x) space (sym put-number ∙ n))
+        fits : leb (length x) (length (drop (c .written) l)) ≡ true
+        fits = rw (length-drop (c .written) l) (fit (length x) space (sym put-number ∙ n))
 
         put-written : q .written ≡ length x
         unfolding putAnswer
         put-written = ap (λ (y : Put). y .written) (wrote .answer) ∙ cond-true _ _ fits
 
-        pub written-within : p .written + q .written ≤ length l
-        written-within = omega (arith, put-written, leb-true (length x) (length (drop (p .written) l)) fits, length-drop (p .written) l)
+        pub written-within : c .written + q .written ≤ length l
+        written-within = omega (arith, put-written, leb-true (length x) (length (drop (c .written) l)) fits, length-drop (c .written) l, b .within)
 
-        none-behind : (xs : List ℕ) → xs ++ postOf (p .written) space l ≡ xs
+        none-behind : (xs : List ℕ) → xs ++ postOf (c .written) space l ≡ xs
         none-behind xs =
-            ap (λ (r : List ℕ). xs ++ r) (drop-of-length-le (drop (p .written) l) {i = space} (omega (arith, length-drop (p .written) l))) ∙ append-nil xs
+            ap (λ (r : List ℕ). xs ++ r) (drop-of-length-le (drop (c .written) l) {i = space} (omega (arith, length-drop (c .written) l))) ∙ append-nil xs
 
-        pub turn-listed : (u : ℕ) → u ≡ size b → (c : Controller) → c ≡ d .controller → (v : List ℕ) → v ≡ cleared w
-            → Owed (record { number = 0; events = p .events + 1; at = p .at + (u + 1); written = p .written + q .written }) c (putMid (p .written) space l m) v
-        unfolding turned turnedListing tailAfter
-        turn-listed u eu c ec v ev = (
-          rw (verdict-put, n, eu, put-written) refl,
-          λ _. rw ec leaves,
-          rw (verdict-put, n) (ap (λ (r : List ℕ). take (p .written) l ++ r) (none-behind m ∙ wrote .tail ∙ cond-true _ _ fits)),
-          scratch-said v ev,
-        )
+        pub turn-listed : (u : ℕ) → u ≡ size s + 1 → (e : Event) → e ≡ decode s → (g : Controller) → g ≡ d .controller
+            → Turned c t s l w (record { cursor = record { number = 0; events = c .events + 1; written = c .written + q .written }; used = u; event = e; controller = g })
+            (putMid (c .written) space l m) v
+        unfolding turned tailAfter progressOf
+        turn-listed u eu e ee g eg =
+            let on = advance-gone so-far s (length w) (length l) (verdict-put ∙ n) in
+            record {
+              number = rw on refl;
+              events = rw on refl;
+              written = rw on (omega (arith, put-written, lines-length, length-append (take (c .written) l) x));
+              used = rw on eu;
+              event = ee;
+              leaves = λ _. rw eg leaves;
+              listed = rw on
+                  (ap (λ (r : List ℕ). take (c .written) l ++ r) (none-behind m ∙ wrote .tail ∙ cond-true _ _ fits)
+                  ∙ overlay-behind (c .written) x l (b .within));
+              clear = scratch-said;
+            }

@@ -1,6 +1,6 @@
 pub mod Conditions
-pub mod Effects
+pub mod Asking
 pub mod Applying
-pub mod Ordering
+pub mod Effects
 pub mod Stepped
 pub mod Turns

@@ -1,5 +1,6 @@
 -- What the event call and the file run answer and leave, as their callers get it by value.
 use Prim.Native.Nat.{ℕ, _+_}
+use mathlib.Core.Path.{_≡_}
 use mathlib.Core.Bool.{cond}
 use mathlib.Core.List.{List}
 use lib.ListN.{length}
@@ -12,6 +13,8 @@ use Rattle.model.specs.declared.RunAnswer.{RunAnswer}
 use Rattle.events.specs.declared.Stepped.{Stepped}
 use Rattle.events.specs.Effects.{noSet}
 
+-- THE EVENT CALL
+
 -- an outcome of the bytes s: the unread rest is what stands behind the bytes used
 unfoldable pub steppedOf : Outcome → List ℕ → Stepped
 steppedOf o s = record {
@@ -19,14 +22,6 @@ steppedOf o s = record {
   used = cond (eqb (o .answer .number) 0) (size s + 1) 0;
   table = o .table;
 }
-
--- THE EVENT CALL
-
-unfoldable pub stepped : Table → List ℕ → ℕ → Stepped
-stepped t s room = steppedOf (event t s room) s
-
-unfoldable pub scratchLeft : Table → List ℕ → List ℕ → List ℕ
-scratchLeft t s w = scratchAfter (event t s (length w) .answer .number) w
 
 -- a refusal: nothing is used or changed
 unfoldable pub unchanged : Table → ℕ → Stepped
@@ -36,13 +31,18 @@ unchanged t k = record {
   table = t;
 }
 
--- THE FILE RUN
+-- what is answered, and left of the scratch area w, where an event of the bytes s has this outcome
+pub record Answers (o : Outcome) (s w : List ℕ) (answer : Stepped) (scratch : List ℕ) : Type 0 where
+  pub outcome : answer ≡ steppedOf o s
+  pub clear : scratch ≡ scratchAfter (o .answer .number) w
 
-unfoldable pub runOf : List ℕ → List ℕ → List ℕ → RunAnswer
-runOf s l w = fileRun s l w .answer
+-- the event call
+abbrev pub Steps : Table → List ℕ → List ℕ → Stepped → List ℕ → Type 0
+Steps t s w = Answers (event t s (length w)) s w
 
-unfoldable pub runListing : List ℕ → List ℕ → List ℕ → List ℕ
-runListing s l w = fileRun s l w .listing
+-- THE FILE RUN of the file s, lent the listing l and the scratch area w
 
-unfoldable pub runScratch : List ℕ → List ℕ → List ℕ → List ℕ
-runScratch s l w = fileRun s l w .scratch
+pub record Runs (s l w : List ℕ) (answer : RunAnswer) (listing scratch : List ℕ) : Type 0 where
+  pub outcome : answer ≡ fileRun s l w .answer
+  pub listed : listing ≡ fileRun s l w .listing
+  pub clear : scratch ≡ fileRun s l w .scratch

@@ -1,51 +1,50 @@
--- One record of a file run: how far the run has come before it and after it, and what it leaves in the listing.
-use Prim.Native.Nat.{ℕ, _+_, _-_}
-use mathlib.Core.Bool.{cond}
-use mathlib.Core.List.{List, [], _∷_, _++_}
-use lib.ListN.{length, take, drop}
+-- One record of a file run, as the code keeps the run: the lines so far stand first in the listing.
+use mathlib.Core.Path.{_≡_}
+use mathlib.Core.Bool.{true, cond}
+use mathlib.Core.List.{List}
+use Prim.Native.Nat.{ℕ, _+_, _≤_}
+use lib.ListN.{length, take}
 use lib.Dec.{eqb}
 use Rattle.lists.specs.Build.{overlay}
-use Rattle.model.specs.Events.{total}
 use Rattle.model.specs.Records.{size, decode}
-use Rattle.model.specs.Questions.{ask, firstNo, lineFits}
-use Rattle.model.specs.Calls.{receiver, step}
-use Rattle.model.specs.Runs.{lineOf}
+use Rattle.model.specs.WellFormed.{wellFormed}
+use Rattle.model.specs.Calls.{step, scratchAfter}
+use Rattle.model.specs.Runs.{Progress, advance, progress, ran}
 use Rattle.model.specs.declared.Table.{Table}
-use Rattle.events.specs.declared.Cursor.{Cursor}
+use Rattle.model.specs.declared.RunAnswer.{RunAnswer}
+use Rattle.events.specs.declared.files.Cursor.{Cursor}
+use Rattle.events.specs.declared.files.Advance.{Advance}
+use Rattle.events.specs.Effects.{Leaves}
 
--- the line of the event that s begins with, behind so many events; the scratch area has `room` bytes
-unfoldable pub lineAt : ℕ → Table → List ℕ → ℕ → List ℕ
-lineAt events t s room =
-    let o = step t s room in
-    let c = receiver (decode s) in
-    lineOf (events + 1) c (total (o .table) c) (o .answer .names)
+unfoldable pub progressOf : Cursor → Table → List ℕ → Progress
+progressOf c t l = record { number = c .number; events = c .events; lines = take (c .written) l; table = t }
 
--- its number, with question 16 put last; what is left of the listing has `space` bytes
-unfoldable pub verdict : ℕ → Table → List ℕ → ℕ → ℕ → ℕ
-verdict events t s room space =
-    let k = step t s room .answer .number in
-    firstNo (ask k (eqb k 0) ∷ lineFits (length (lineAt events t s room)) space ∷ [])
+unfoldable pub ended : Cursor → ℕ → Cursor
+ended c k = record { number = k; events = c .events; written = c .written }
 
--- a run that a refusal ends: no byte is left to read
-unfoldable pub ended : Cursor → ℕ → ℕ → Cursor
-ended p k n = record { number = k; events = p .events; at = n; written = p .written }
+-- what a turn relies on: with the table t, the bytes s left and the listing l
+pub record Before (c : Cursor) (t : Table) (s l : List ℕ) : Type 0 where
+  pub formed : wellFormed t ≡ true
+  pub within : c .written ≤ length l
+  pub few : c .events + length s ≤ 65535
 
--- the run of the file s after its next record; the listing has `space` bytes
-unfoldable pub turned : Cursor → Table → List ℕ → ℕ → ℕ → Cursor
-turned p t s room space =
-    let b = drop (p .at) s in
-    let k = verdict (p .events) t b room (space - p .written) in
-    let on : Cursor = record {
-      number = 0;
-      events = p .events + 1;
-      at = p .at + (size b + 1);
-      written = p .written + length (lineAt (p .events) t b room);
-    } in
-    cond (eqb k 0) on (ended p k (length s))
+-- the run after the record that s begins with; the scratch area has `room` bytes
+unfoldable pub turned : Cursor → Table → List ℕ → List ℕ → ℕ → Progress
+turned c t s l room = advance (progressOf c t l) s room (length l)
 
--- the listing then: the line stands behind the lines before
-unfoldable pub turnedListing : Cursor → Table → List ℕ → ℕ → List ℕ → List ℕ
-turnedListing p t s room l =
-    let b = drop (p .at) s in
-    let on = take (p .written) l ++ overlay (lineAt (p .events) t b room) (drop (p .written) l) in
-    cond (eqb (verdict (p .events) t b room (length l - p .written)) 0) on l
+-- what a turn answers, and what it leaves of the listing l and the scratch area w
+pub record Turned (c : Cursor) (t : Table) (s l w : List ℕ) (answer : Advance) (listing scratch : List ℕ) : Type 0 where
+  pub number : answer .cursor .number ≡ turned c t s l (length w) .number
+  pub events : answer .cursor .events ≡ turned c t s l (length w) .events
+  pub written : answer .cursor .written ≡ length (turned c t s l (length w) .lines)
+  pub used : answer .used ≡ cond (eqb (turned c t s l (length w) .number) 0) (size s + 1) (length s)
+  pub event : answer .event ≡ decode s
+  pub leaves : turned c t s l (length w) .number ≡ 0 → Leaves t (decode s) (answer .controller)
+  pub listed : listing ≡ overlay (turned c t s l (length w) .lines) l
+  pub clear : scratch ≡ scratchAfter (step t s (length w) .answer .number) w
+
+-- what the records of a file that questions 1 to 3 do not refuse answer and leave
+pub record Ran (s l w : List ℕ) (answer : RunAnswer) (listing scratch : List ℕ) : Type 0 where
+  pub outcome : answer ≡ ran (progress s (length w) (length l)) l w .answer
+  pub listed : listing ≡ ran (progress s (length w) (length l)) l w .listing
+  pub clear : scratch ≡ ran (progress s (length w) (length l)) l w .scratch

@@ -6,7 +6,7 @@ use Prim.Native.Nat.{ℕ, _≤_}
 use native.Mathlib.Omega.{arith}
 use Rattle.lists.proofs.Tests.{cond-case}
 use Rattle.model.specs.Records.{decode}
-use Rattle.model.specs.Questions.{Question, firstNo, recordQuestions, eventQuestions, scratchRoom, stepQuestions}
+use Rattle.model.specs.Questions.{Question, firstNo, kindQuestions, recordQuestions, eventQuestions, scratchRoom, stepQuestions}
 use Rattle.model.specs.declared.Table.{Table}
 use Rattle.model.specs.declared.Event.{Event}
 use Rattle.model.specs.declared.Event.the-variants.{Send, Handover, Stop}

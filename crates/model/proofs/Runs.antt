@@ -1,16 +1,20 @@
 -- One record of a run: what an accepted verdict says, and what the run then is. Assumes nothing.
-use mathlib.Core.Path.{_≡_, refl, sym}
-use mathlib.Core.Logic.{_≢_}
-use mathlib.Core.List.{List, _∷_, _++_}
-use Prim.Native.Nat.{ℕ, suc, _+_, _-_, _≤_}
-use lib.ListN.{length}
+use mathlib.Core.Path.{_≡_, refl, sym, _∙_}
+use mathlib.Core.Logic.{_≢_, _⊎_, inl, inr}
+use mathlib.Core.Bool.{true, false, cond}
+use mathlib.Core.List.{List, [], _∷_, _++_}
+use Prim.Native.Nat.{ℕ, zero, suc, _+_, _-_, _≤_, _<_}
+use native.Mathlib.Omega.{arith}
+use lib.ListN.{length, drop, length-drop}
+use lib.Seq.{drop-length}
 use lib.Dec.{eqb}
 use borrow.Author.Tests.{eqb-true, eqb-false, eq-eqb, ne-eqb}
-use Rattle.lists.proofs.Tests.{cond-case, cond-true, cond-false}
-use Rattle.model.specs.Records.{behind}
+use Rattle.lists.proofs.Tests.{cond-case, decided}
+use Rattle.model.specs.Records.{size, behind}
 use Rattle.model.specs.Calls.{step}
 use Rattle.model.specs.Runs.{Progress, lineAt, verdict, advance, records}
 use Rattle.model.proofs.Allowed.{line-asked}
+use Rattle.model.proofs.Steps.{accepted-within}
 
 module _ (p : Progress) (s : List ℕ) (room space : ℕ) where
   -- the run with one event more
@@ -56,3 +60,67 @@ pub records-end : (f : ℕ) (p : Progress) (b : ℕ) (s : List ℕ) (room space 
 unfolding records
 records-end f p b s room space n =
     rw (advance-ended p (b ∷ s) room space n, ne-eqb (verdict p (b ∷ s) room space) 0 n)
+
+-- an accepted record leaves fewer bytes
+pub behind-shorter : (p : Progress) (s : List ℕ) (room space : ℕ) → verdict p s room space ≡ 0 → length (behind s) < length s
+unfolding behind
+behind-shorter p s room space e =
+    omega (arith, accepted-within (p .table) s room (verdict-passed p s room space e .0), length-drop (size s + 1) s)
+
+pub records-none : (f : ℕ) (p : Progress) (room space : ℕ) → records f p [] room space ≡ p
+unfolding records
+records-none zero p room space = refl
+records-none (suc f) p room space = refl
+
+-- A run never stops for want of fuel: with as much as there are bytes, more makes no difference.
+pub fuel-suffices : (f g : ℕ) (p : Progress) (s : List ℕ) (room space : ℕ) → length s ≤ f → length s ≤ g
+    → records f p s room space ≡ records g p s room space
+unfolding records
+fuel-suffices zero g p [] room space h k = sym (records-none g p room space)
+fuel-suffices zero g p (b ∷ s) room space h k = absurd (omega arith)
+fuel-suffices (suc f) zero p [] room space h k = refl
+fuel-suffices (suc f) zero p (b ∷ s) room space h k = absurd (omega arith)
+fuel-suffices (suc f) (suc g) p [] room space h k = refl
+fuel-suffices (suc f) (suc g) p (b ∷ s) room space h k =
+    go (decided (eqb (verdict p (b ∷ s) room space) 0))
+    (λ l. fuel-suffices f g (gone p (b ∷ s) room space) (behind (b ∷ s)) room space (omega arith) (omega arith))
+  where
+    go : (eqb (verdict p (b ∷ s) room space) 0 ≡ true) ⊎ (eqb (verdict p (b ∷ s) room space) 0 ≡ false)
+        → (length (behind (b ∷ s)) < length (b ∷ s) → records f (gone p (b ∷ s) room space) (behind (b ∷ s)) room space ≡ records g (gone p (b ∷ s) room space) (behind (b ∷ s)) room space)
+        → records (suc f) p (b ∷ s) room space ≡ records (suc g) p (b ∷ s) room space
+    go (inl q) onward =
+        let e = eqb-true (verdict p (b ∷ s) room space) 0 q in
+        records-on f p b s room space e ∙ (onward (behind-shorter p (b ∷ s) room space e) ∙ sym (records-on g p b s room space e))
+    go (inr q) onward =
+        let n = eqb-false (verdict p (b ∷ s) room space) 0 q in
+        records-end f p b s room space n ∙ sym (records-end g p b s room space n)
+
+left-behind : (s : List ℕ) → drop (size s + 1) s ≡ behind s
+unfolding behind
+left-behind s = refl
+
+-- What is left behind a record: what stands behind it, or nothing where it is refused. From there the run goes on as it was to go.
+pub records-turn : (p : Progress) (s : List ℕ) (room space : ℕ) → 0 < length s
+    → (l : List ℕ) → l ≡ drop (cond (eqb (advance p s room space .number) 0) (size s + 1) (length s)) s
+    → records (length s) p s room space ≡ records (length l) (advance p s room space) l room space
+records-turn p [] room space h l e = absurd (omega arith)
+records-turn p (b ∷ s) room space h l e = go (decided (eqb (verdict p (b ∷ s) room space) 0))
+  where
+    went : verdict p (b ∷ s) room space ≡ 0 → l ≡ behind (b ∷ s)
+        → records (suc (length s)) p (b ∷ s) room space ≡ records (length l) (advance p (b ∷ s) room space) l room space
+    went z q =
+        let less = behind-shorter p (b ∷ s) room space z in
+        rw (q, advance-gone p (b ∷ s) room space z)
+        (records-on (length s) p b s room space z
+        ∙ fuel-suffices (length s) (length (behind (b ∷ s))) (gone p (b ∷ s) room space) (behind (b ∷ s)) room space (omega arith) (omega arith))
+
+    stayed : verdict p (b ∷ s) room space ≢ 0 → l ≡ []
+        → records (suc (length s)) p (b ∷ s) room space ≡ records (length l) (advance p (b ∷ s) room space) l room space
+    stayed n q =
+        rw (q, advance-ended p (b ∷ s) room space n)
+        (records-end (length s) p b s room space n ∙ sym (records-none 0 (ended p (b ∷ s) room space) room space))
+
+    go : (eqb (verdict p (b ∷ s) room space) 0 ≡ true) ⊎ (eqb (verdict p (b ∷ s) room space) 0 ≡ false)
+        → records (suc (length s)) p (b ∷ s) room space ≡ records (length l) (advance p (b ∷ s) room space) l room space
+    go (inl q) = went (eqb-true _ 0 q) (e ∙ rw (advance-number p (b ∷ s) room space, q) (left-behind (b ∷ s)))
+    go (inr q) = stayed (eqb-false _ 0 q) (e ∙ rw (advance-number p (b ∷ s) room space, q) (drop-length (b ∷ s)))

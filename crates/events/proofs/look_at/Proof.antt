@@ -3,7 +3,7 @@ use mathlib.Core.Path.{sym, _∙_}
 use native.Mathlib.Omega.{arith}
 use borrow.Author.Tests.{not-true, not-false}
 use Rattle.questions.proofs.Signed.{returned}
-use Rattle.events.proofs.Panels.{look-refused-four, look-refused-eight, look-shown, shown-small}
+use Rattle.events.proofs.Looking.{look-refused-four, look-refused-eight, look-shown, shown-small}
 use borrow.Author.Needs.{needs}
 use Rattle.events.proofs.look_at.Statement.{statement}
 use Rattle.events.proofs.look_at.Tie as tie

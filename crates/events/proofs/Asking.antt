@@ -1,0 +1,78 @@
+-- The questions of a step, put to a record that was read: in the code's order they give the definition's number. Assumes nothing.
+use mathlib.Core.Path.{_≡_, refl, sym, _∙_}
+use mathlib.Core.Logic.{_≢_, inl, inr}
+use mathlib.Core.Bool.{Bool, true, false, cond}
+use mathlib.Core.List.{List, [], _∷_, _++_}
+use Prim.Native.Nat.{ℕ, _≤_, _<_}
+use lib.Dec.{eqb}
+use borrow.Author.Tests.{eqb-true, eqb-false, eq-eqb, ne-eqb, le-leb, lt-leb}
+use Rattle.lists.proofs.Tests.{cond-true, cond-false, decided}
+use Rattle.model.specs.Tables.{scratchSize}
+use Rattle.model.specs.Records.{decode}
+use Rattle.model.specs.WellFormed.{wellFormed}
+use Rattle.model.specs.Questions.{Question, firstNo, recordQuestions, eventQuestions, scratchRoom, stepQuestions}
+use Rattle.model.specs.declared.Table.{Table}
+use Rattle.model.proofs.Allowed.{Numbered, none, more, no-no, event-numbered, record-numbered, step-asked}
+use Rattle.model.proofs.Steps.{step-number, accepted-room}
+use Rattle.records.specs.Cuts.{recordOf}
+use Rattle.records.specs.declared.Record.{Record}
+use Rattle.events.specs.Conditions.{Accepted}
+use Rattle.events.specs.Asking.{refusalOf}
+
+first-refused : (qs rs : List Question) → firstNo qs ≢ 0 → firstNo (qs ++ rs) ≡ firstNo qs
+unfolding firstNo
+first-refused [] rs n = absurd (n refl)
+first-refused (q ∷ qs) rs n = go (q .yes) n (first-refused qs rs)
+  where
+    go : (b : Bool) → cond b (firstNo qs) (q .number) ≢ 0 → (firstNo qs ≢ 0 → firstNo (qs ++ rs) ≡ firstNo qs)
+        → cond b (firstNo (qs ++ rs)) (q .number) ≡ cond b (firstNo qs) (q .number)
+    go true m f = f m
+    go false m f = refl
+
+first-passed : {qs : List Question} → Numbered qs → (rs : List Question) → firstNo qs ≡ 0 → firstNo (qs ++ rs) ≡ firstNo rs
+unfolding firstNo
+first-passed none rs e = refl
+first-passed (more {k = k} {b = b} {qs = qs} n) rs e =
+    let q = no-no k b qs e in
+    rw (q .0) (first-passed n rs (q .1))
+
+-- IN THE CODE'S ORDER
+
+module _ (t : Table) (r : Record) (room : ℕ) where
+  pub shape-refuses : r .number ≢ 0 → r .number ≡ refusalOf t r room
+  unfolding refusalOf firstNo
+  shape-refuses n = sym (cond-false _ _ (ne-eqb (r .number) 0 n))
+
+  module _ (z : r .number ≡ 0) (k : ℕ) (e : k ≡ firstNo (eventQuestions t (r .event))) where
+    past-shape : refusalOf t r room ≡ firstNo (eventQuestions t (r .event) ++ (scratchRoom room ∷ []))
+    unfolding refusalOf firstNo
+    past-shape = cond-true _ _ (eq-eqb (r .number) 0 z)
+
+    pub event-refuses : k ≢ 0 → k ≡ refusalOf t r room
+    event-refuses n = e ∙ sym (past-shape ∙ first-refused (eventQuestions t (r .event)) _ (λ x. n (e ∙ x)))
+
+    module _ (y : k ≡ 0) where
+      past-event : refusalOf t r room ≡ firstNo (scratchRoom room ∷ [])
+      past-event = past-shape ∙ first-passed (event-numbered t (r .event)) _ (sym e ∙ y)
+
+      pub room-refuses : room < scratchSize → 15 ≡ refusalOf t r room
+      unfolding firstNo scratchRoom
+      room-refuses h = sym (past-event ∙ rw (lt-leb scratchSize room h) refl)
+
+      pub none-refuses : scratchSize ≤ room → 0 ≡ refusalOf t r room
+      unfolding firstNo scratchRoom
+      none-refuses h = sym (past-event ∙ rw (le-leb scratchSize room h) refl)
+
+-- AS THE DEFINITION ASKS
+
+module _ (t : Table) (s : List ℕ) (room : ℕ) where
+  pub refusal-is : refusalOf t (recordOf s) room ≡ firstNo (stepQuestions t s room)
+  unfolding refusalOf recordOf stepQuestions firstNo
+  refusal-is = elim (decided (eqb (firstNo (recordQuestions s)) 0)) [
+    | inl q ↦ cond-true _ _ q ∙ sym (first-passed (record-numbered s) _ (eqb-true _ 0 q))
+    | inr q ↦ cond-false _ _ q ∙ sym (first-refused (recordQuestions s) _ (eqb-false _ 0 q))
+  ]
+
+  -- what carrying out an event relies on
+  pub allowed : wellFormed t ≡ true → firstNo (stepQuestions t s room) ≡ 0 → Accepted t (decode s) × (scratchSize ≤ room)
+  allowed w e = ((w, step-asked t s room e .1), accepted-room t s room (step-number t s room ∙ e))

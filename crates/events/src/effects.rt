@@ -1,0 +1,295 @@
+// What an event that no question refuses does to a well-formed table: its answer, and the one controller that it changes.
+ghost use mathlib.Core.Path.{_≡_};
+ghost use mathlib.Core.Bool.{true, cond};
+ghost use Prim.Native.Nat.{_+_, _≤_, _<_};
+ghost use lib.ListN.{length};
+ghost use Rattle.model.specs.Tables.{scratchSize, noPanel, at, unheld, withEntry, withMark, withStop};
+ghost use Rattle.model.specs.Events.{sent, forward, received, deliver, subject, next, shown};
+ghost use Rattle.model.specs.WellFormed.{wellFormed};
+ghost use Rattle.model.specs.declared.Event.the-variants.{Send, Handover, Stop};
+ghost use Rattle.events.specs.Conditions.{Accepted, Receivable, OfRun};
+ghost use Rattle.events.specs.Applying.{withApplied};
+ghost use Rattle.events.specs.Effects.{Leaves, Effected, noSet};
+use model::Answer;
+use model::Controller;
+use model::Event;
+use model::ForwardNumber;
+use model::Message;
+use model::MessageNumber;
+use model::Name;
+use model::Panel;
+use model::Pending;
+use model::Table;
+
+// The controller of that number, from 1.
+pub(crate) fn at(t: Table, controller: u8) -> Controller
+    requires { ⌜ (0 < controller) × (controller ≤ 7) ⌝ }
+    ensures { λ r. ⌜ r ≡ at t controller ⌝ }
+{
+    t.controllers[controller as usize - 1]
+}
+
+// One entry more at the end of a log.
+fn with_entry(c: Controller, slot: usize) -> Controller
+    requires { ⌜ (c .length < 64) × (slot < 64) ⌝ }
+    ensures { λ r. ⌜ r ≡ withEntry c slot ⌝ }
+{
+    let end = c.length;
+    let mut next = c;
+    next.log[end] = slot as u8;
+    next.length = end + 1;
+    next
+}
+
+// A slot buffered with these marks, and a place in the owner's log marked.
+fn with_mark(
+    c: Controller,
+    slot: usize,
+    marks: [ForwardNumber; 7],
+    owner: u8,
+    place: usize,
+) -> Controller
+    requires { ⌜ (slot < 64) × (0 < owner) × (owner ≤ 7) × (place < 256) ⌝ }
+    ensures { λ r. ⌜ r ≡ withMark c slot marks owner place ⌝ }
+{
+    let seat = owner as usize - 1;
+    let mut marked = marks;
+    marked[seat] = ForwardNumber::of(place as u8);
+    let mut next = c;
+    next.pending[slot] = Pending {
+        held: 1,
+        marks: marked,
+    };
+    next
+}
+
+// A slot ends the log and is buffered, with one mark.
+fn buffered(c: Controller, slot: usize, owner: u8, place: usize) -> Controller
+    requires { ⌜ (c .length < 64) × (slot < 64) × (0 < owner) × (owner ≤ 7) × (place < 256) ⌝ }
+    ensures { λ r. ⌜ r ≡ withMark (withEntry c slot) slot (unheld .marks) owner place ⌝ }
+{
+    let absent = ForwardNumber::of(ForwardNumber::ABSENT);
+    let longer = with_entry(c, slot);
+    with_mark(longer, slot, [absent; 7], owner, place)
+}
+
+// The sender with a message more, of the next slot: buffered with its own mark, and at the end of its log.
+fn sent(t: Table, sender: u8) -> Controller
+    requires { ⌜ (0 < sender) × (sender ≤ 7) × (t .count < 64) × (at t sender .length < 64) ⌝ }
+    ensures { λ r. ⌜ r ≡ sent t sender ⌝ }
+{
+    let c = at(t, sender);
+    let place = c.length + 1;
+    buffered(c, t.count, sender, place)
+}
+
+// The controller runs no longer, and its log has the entries kept.
+fn stopped(t: Table, controller: u8, kept: usize) -> Controller
+    requires { ⌜ (0 < controller) × (controller ≤ 7) ⌝ }
+    ensures { λ r. ⌜ r ≡ withStop (at t controller) kept ⌝ }
+{
+    let mut c = at(t, controller);
+    c.running = 0;
+    c.length = kept;
+    c
+}
+
+// An entry of the owner's log is passed over, marked, or buffered and forwarded.
+fn forwarded(c: Controller, m: Message, slot: usize, owner: u8, place: usize) -> Controller
+    requires { ⌜ Receivable c m slot owner place ⌝ }
+    ensures { λ r. ⌜ r ≡ forward c m slot owner place ⌝ }
+{
+    let seat = m.sender as usize - 1;
+    let highest = c.highest[seat];
+    if m.number.0 <= highest.0 {
+        return c;
+    }
+    let entry = c.pending[slot];
+    if entry.held != 0 {
+        let marks = entry.marks;
+        return with_mark(c, slot, marks, owner, place);
+    }
+    buffered(c, slot, owner, place)
+}
+
+// The receiver after it has read the next entry of the owner's log, and before it applies.
+fn received(t: Table, receiver: u8, owner: u8) -> Controller
+    requires { ⌜ Accepted t (Handover receiver owner) ⌝ }
+    ensures { λ r. ⌜ r ≡ received t receiver owner ⌝ }
+{
+    let seat = receiver as usize - 1;
+    let index = owner as usize - 1;
+    let source = t.controllers[index];
+    let mut c = t.controllers[seat];
+    let place = c.read[index];
+    c.read[index] = place + 1;
+    let slot = source.log[place] as usize;
+    let m = t.messages[slot];
+    forwarded(c, m, slot, owner, place + 1)
+}
+
+// A message leaves the buffer and is applied.
+fn with_applied(c: Controller, m: Message, slot: usize) -> Controller
+    requires { ⌜ (slot < 64) × (0 < m .sender) × (m .sender ≤ 7) ⌝ }
+    ensures { λ r. ⌜ r ≡ withApplied c m slot ⌝ }
+{
+    let absent = ForwardNumber::of(ForwardNumber::ABSENT);
+    let seat = m.sender as usize - 1;
+    let before = c.highest[seat];
+    let mut next = c;
+    next.pending[slot] = Pending {
+        held: 0,
+        marks: [absent; 7],
+    };
+    next.applied[slot] = 1;
+    let number = numbers::greater(before.0, m.number.0);
+    next.highest[seat] = MessageNumber::of(number);
+    next
+}
+
+// The members leave the buffer as one.
+fn delivered(t: Table, c: Controller, members: [bool; 64]) -> Controller
+    requires { ⌜ (wellFormed t ≡ true) × OfRun t members ⌝ }
+    ensures { λ r. ⌜ r ≡ deliver t c members ⌝ }
+{
+    let messages = t.messages;
+    let mut next = c;
+    for slot in 0..t.count {
+        if !members[slot] {
+            continue;
+        }
+        next = with_applied(next, messages[slot], slot);
+    }
+    next
+}
+
+// THE EFFECT
+
+// What an event answers, and the controller that it changes, afterwards.
+pub(crate) struct Effect {
+    answer: Answer,
+    controller: Controller,
+}
+
+// The answer of a refusal, or of an event that applies nothing.
+pub(crate) fn no_set(number: u8) -> Answer
+    ensures { λ r. ⌜ r ≡ noSet number ⌝ }
+{
+    let none = Name {
+        sender: 0,
+        number: MessageNumber(MessageNumber::NONE),
+    };
+    Answer {
+        number,
+        finished: 0,
+        panel: Panel { total: 0 },
+        size: 0,
+        names: [none; 64],
+    }
+}
+
+// What the panel of a controller shows that is not in the table yet.
+pub(crate) fn shown(t: Table, c: Controller) -> Panel
+    ensures { λ r. ⌜ r ≡ shown t c ⌝ }
+{
+    let messages = t.messages;
+    let applied = c.applied;
+    totals::shown(t.count, messages, applied)
+}
+
+// A finished sync's answer, where the controller has applied its set; zeros where none is finished.
+fn sync_answer(t: Table, c: Controller, finished: bool) -> Panel
+    ensures { λ r. ⌜ r ≡ cond finished (shown t c) noPanel ⌝ }
+{
+    if finished {
+        return shown(t, c);
+    }
+    Panel { total: 0 }
+}
+
+// An entry is read; a set that is not empty is named and applied.
+fn hand_over(t: Table, receiver: u8, owner: u8, scratch: &mut [u8]) -> Effect
+    requires { ⌜ Accepted t (Handover receiver owner) × (scratchSize ≤ length (now scratch)) ⌝ }
+    ensures { λ r. ⌜ Effected t (Handover receiver owner) (now (scratch .entry)) r (now (scratch .exit)) ⌝ }
+{
+    let c = received(t, receiver, owner);
+    let pending = c.pending;
+    let members = delivery::apply(t.n, pending, scratch);
+    let messages = t.messages;
+    let all = naming::names_of(t.count, messages, members);
+    let size = all.size;
+    if size == 0 {
+        return Effect {
+            answer: no_set(0),
+            controller: c,
+        };
+    }
+    let names = all.names;
+    let finished = totals::finishes(t.count, messages, members, receiver);
+    let after = delivered(t, c, members);
+    let panel = sync_answer(t, after, finished);
+    Effect {
+        answer: Answer {
+            number: 0,
+            finished: numbers::flag(finished),
+            panel,
+            size,
+            names,
+        },
+        controller: after,
+    }
+}
+
+pub(crate) fn carry_out(t: Table, e: Event, scratch: &mut [u8]) -> Effect
+    requires { ⌜ Accepted t e × (scratchSize ≤ length (now scratch)) ⌝ }
+    ensures { λ r. ⌜ Effected t e (now (scratch .entry)) r (now (scratch .exit)) ⌝ }
+{
+    match e {
+        Event::Send { sender, payload } => {
+            delivery::clear(scratch);
+            Effect {
+                answer: no_set(0),
+                controller: sent(t, sender),
+            }
+        }
+        Event::Handover { receiver, owner } => hand_over(t, receiver, owner, scratch),
+        Event::Stop { controller, kept } => {
+            delivery::clear(scratch);
+            Effect {
+                answer: no_set(0),
+                controller: stopped(t, controller, kept),
+            }
+        }
+    }
+}
+
+// THE TABLE
+
+// The controller that an event changes.
+pub(crate) fn subject(e: Event) -> u8
+    ensures { λ r. ⌜ r ≡ subject e ⌝ }
+{
+    match e {
+        Event::Send { sender, payload } => sender,
+        Event::Handover { receiver, owner } => receiver,
+        Event::Stop { controller, kept } => controller,
+    }
+}
+
+// The table after an event that leaves its subject so: a send adds its message.
+pub(crate) fn stored(t: Table, e: Event, c: Controller) -> Table
+    requires { ⌜ Leaves t e c ⌝ }
+    ensures { λ r. ⌜ r ≡ next t e ⌝ }
+{
+    let seat = subject(e) as usize - 1;
+    let mut next = t;
+    next.controllers[seat] = c;
+    let Event::Send { sender, payload } = e else {
+        return next;
+    };
+    let slot = next.count;
+    let number = MessageNumber::of(c.length as u8);
+    next.messages[slot] = Message::of(sender, number, payload);
+    next.count = slot + 1;
+    next
+}

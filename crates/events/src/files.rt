@@ -1,0 +1,186 @@
+// The file run: its records one after the other, each carried out, listed and stored in place, until the first refusal.
+ghost use mathlib.Core.Path.{_≡_};
+ghost use mathlib.Core.Bool.{true};
+ghost use Prim.Native.Nat.{_≤_, _<_};
+ghost use lib.ListN.{length, take};
+ghost use Rattle.model.specs.Events.{subject, shown};
+ghost use Rattle.model.specs.WellFormed.{wellFormed};
+ghost use Rattle.model.specs.Questions.{firstNo, fileQuestions};
+ghost use Rattle.model.specs.Runs.{lineOf};
+ghost use Rattle.listing.specs.Writing.{Wrote};
+ghost use Rattle.events.specs.Turns.{ended, Before, Turned, Ran};
+ghost use Rattle.events.specs.Stepped.{Runs};
+use crate::effects;
+use crate::effects::Effect;
+use listing::Put;
+use model::Controller;
+use model::Event;
+use model::Message;
+use model::MessageNumber;
+use model::RunAnswer;
+use model::Table;
+use model::refusal;
+
+// How far a run has come: the refusal number, the events accepted and the bytes listed.
+struct Cursor {
+    number: u8,
+    events: usize,
+    written: usize,
+}
+
+// How far it comes with a record; how many bytes it then has read, all of them where a refusal ends it; the record's event, and
+// the controller that the event changed.
+struct Advance {
+    cursor: Cursor,
+    used: usize,
+    event: Event,
+    controller: Controller,
+}
+
+// Lists what an event applied; the panel is added up only where there is a line.
+fn list_line(tail: &mut [u8], event: usize, e: Event, t: Table, done: Effect) -> Put
+    ensures { λ r. ⌜ Wrote (lineOf event (subject e) (shown t (done .controller)) (take (done .answer .size) (done .answer .names))) (now (tail .entry)) (now (tail .exit)) r ⌝ }
+{
+    let answer = done.answer;
+    let size = answer.size;
+    if size == 0 {
+        return Put {
+            number: refusal::ACCEPTED,
+            written: 0,
+        };
+    }
+    let controller = done.controller;
+    let panel = effects::shown(t, controller);
+    let names = answer.names;
+    listing::put_line(tail, event, effects::subject(e), panel, names, size)
+}
+
+// A refusal ends a run: nothing else has changed.
+fn ended(cursor: Cursor, number: u8) -> Cursor
+    ensures { λ r. ⌜ r ≡ ended cursor number ⌝ }
+{
+    Cursor {
+        number,
+        events: cursor.events,
+        written: cursor.written,
+    }
+}
+
+// Carries out the record that the bytes left begin with, and lists it; a refusal ends the run.
+fn turn(cursor: Cursor, t: Table, left: &[u8], listing: &mut [u8], scratch: &mut [u8]) -> Advance
+    requires { ⌜ Before cursor t (now left) (now listing) ⌝ }
+    ensures { λ r. ⌜ Turned cursor t (now (left .entry)) (now (listing .entry)) (now (scratch .entry)) r (now (listing .exit)) (now (scratch .exit)) ⌝ }
+{
+    let start = cursor.written;
+    let record = records::read_record(left);
+    let event = record.event;
+    let number = crate::refusal_of(t, record, scratch.len());
+    if number != 0 {
+        return Advance {
+            cursor: ended(cursor, number),
+            used: left.len(),
+            event,
+            controller: effects::at(t, 1),
+        };
+    }
+    let done = effects::carry_out(t, event, scratch);
+    let controller = done.controller;
+    let put = list_line(&mut listing[start..], cursor.events + 1, event, t, done);
+    let full = put.number;
+    if full != 0 {
+        return Advance {
+            cursor: ended(cursor, full),
+            used: left.len(),
+            event,
+            controller,
+        };
+    }
+    Advance {
+        cursor: Cursor {
+            number: refusal::ACCEPTED,
+            events: cursor.events + 1,
+            written: start + put.written,
+        },
+        used: record.used,
+        event,
+        controller,
+    }
+}
+
+// Carries out the records of a file, from its third byte on, until the first refusal. Each event's changes are stored in
+// place: the table of a run is not copied from record to record.
+fn run_records(bytes: &[u8], listing: &mut [u8], scratch: &mut [u8]) -> RunAnswer
+    requires { ⌜ firstNo (fileQuestions (now bytes)) ≡ 0 ⌝ }
+    ensures { λ r. ⌜ Ran (now (bytes .entry)) (now (listing .entry)) (now (scratch .entry)) r (now (listing .exit)) (now (scratch .exit)) ⌝ }
+{
+    let n = records::byte_at(bytes, 1) as usize;
+    let mut table = Table::fresh(n);
+    let mut left = records::behind(bytes, 2);
+    let mut cursor = Cursor {
+        number: refusal::ACCEPTED,
+        events: 0,
+        written: 0,
+    };
+    while 0 < left.len() {
+        let done = turn(cursor, table, left, listing, scratch);
+        cursor = done.cursor;
+        let next = records::behind(left, done.used);
+        left = next;
+        let verdict = cursor.number;
+        if verdict != 0 {
+            continue;
+        }
+        let e = done.event;
+        let c = done.controller;
+        let seat = effects::subject(e) as usize - 1;
+        table.controllers[seat] = c;
+        let Event::Send { sender, payload } = e else {
+            continue;
+        };
+        let slot = table.count;
+        let number = MessageNumber::of(c.length as u8);
+        table.messages[slot] = Message::of(sender, number, payload);
+        table.count = slot + 1;
+    }
+    RunAnswer {
+        number: cursor.number,
+        events: cursor.events,
+        written: cursor.written,
+        table,
+    }
+}
+
+// The first no of questions 1 to 3.
+pub fn refusal_of(bytes: &[u8]) -> u8
+    ensures { λ r. ⌜ r ≡ firstNo (fileQuestions (now (bytes .entry))) ⌝ }
+{
+    let size = bytes.len();
+    if !((2 <= size) & (size <= 65535)) {
+        return refusal::FILE_LENGTH;
+    }
+    let version = records::byte_at(bytes, 0);
+    if version != 1 {
+        return refusal::VERSION;
+    }
+    let n = records::byte_at(bytes, 1) as usize;
+    if !((0 < n) & (n <= Table::CONTROLLERS)) {
+        return refusal::COUNT;
+    }
+    refusal::ACCEPTED
+}
+
+// Carries out a run file and lists the sets applied.
+pub fn run(bytes: &[u8], listing: &mut [u8], scratch: &mut [u8]) -> RunAnswer
+    ensures { λ r. ⌜ Runs (now (bytes .entry)) (now (listing .entry)) (now (scratch .entry)) r (now (listing .exit)) (now (scratch .exit)) ⌝ }
+{
+    let number = refusal_of(bytes);
+    if number != 0 {
+        return RunAnswer {
+            number,
+            events: 0,
+            written: 0,
+            table: Table::zero(),
+        };
+    }
+    run_records(bytes, listing, scratch)
+}
