@@ -1,0 +1,4 @@
+pub mod Owned
+pub mod Padded
+pub mod Inserting
+pub mod Collecting
