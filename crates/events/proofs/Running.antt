@@ -1,16 +1,16 @@
 -- The loop of a file run: what holds before each record, that a record keeps it, and what it says at the end. Assumes nothing.
-use mathlib.Core.Path.{_≡_, refl, sym, ap, ap₂, _∙_}
-use mathlib.Core.Logic.{_≢_, inl, inr}
+use mathlib.Core.Path.{_≡_, refl, sym, ap, _∙_}
+use mathlib.Core.Logic.{_≢_}
 use mathlib.Core.Bool.{true, cond}
 use mathlib.Core.List.{List, [], _∷_, _++_}
 use Prim.Native.Nat.{ℕ, _+_, _-_, _≤_, _<_}
 use native.Mathlib.Omega.{arith}
 use lib.ListN.{length, take, drop, length-drop, length-append}
-use lib.Seq.{length-take-le, take-append-seam, drop-append-seam, drop-drop, drop-length}
+use lib.Seq.{length-take-le, take-append-seam, drop-append-seam, drop-drop}
 use lib.Dec.{eqb}
-use borrow.Author.Tests.{eqb-true, eqb-false, eq-eqb, ne-eqb, le-leb}
+use borrow.Author.Tests.{eqb-true, eq-eqb, ne-eqb, le-leb}
 use Rattle.lists.specs.Build.{overlay}
-use Rattle.lists.proofs.Tests.{cond-case, cond-true, cond-false, decided}
+use Rattle.lists.proofs.Tests.{cond-case, cond-true, cond-false}
 use Rattle.lists.proofs.Build.{length-over, over-over, length-overlay}
 use Rattle.model.specs.Tables.{scratchSize, start, fresh}
 use Rattle.model.specs.Events.{next, namesBelow, namesOf}
@@ -19,13 +19,13 @@ use Rattle.model.specs.Sized.{Sized}
 use Rattle.model.specs.WellFormed.{wellFormed}
 use Rattle.model.specs.Questions.{firstNo, lineFits, fileQuestions}
 use Rattle.model.specs.Calls.{Outcome, accepted, refused, step, cleared, scratchAfter}
-use Rattle.model.specs.Runs.{Progress, lineOf, lineAt, verdict, advance, records, begun, progress, ran}
+use Rattle.model.specs.Runs.{Progress, lineOf, lineAt, verdict, records, begun, progress, ran}
 use Rattle.model.specs.declared.Table.{Table}
 use Rattle.model.specs.declared.RunAnswer.{RunAnswer}
 use Rattle.model.proofs.Tested.{tested}
 use Rattle.model.proofs.Allowed.{file-allowed}
-use Rattle.model.proofs.Steps.{step-case, accepted-table, accepted-within, accepted-room}
-use Rattle.model.proofs.Runs.{gone, ended, verdict-passed, advance-number, advance-gone, advance-ended, records-none, fuel-suffices, records-turn}
+use Rattle.model.proofs.Steps.{step-case, accepted-table, accepted-room}
+use Rattle.model.proofs.Runs.{gone, ended, verdict-passed, advance-case, records-none, fuel-suffices, records-turn}
 use Rattle.invariant.proofs.Sizes.{fresh-sized}
 use Rattle.invariant.proofs.Kept.{fresh-well-formed, step-kept}
 use Rattle.events.specs.declared.files.Cursor.{Cursor}
@@ -155,9 +155,106 @@ module _ (s l₀ w₀ l w b : List ℕ) (c : Cursor) (t : Table) (r : Running s 
     unfolding progressOf
     lines-length = length-take-le (c .written) l (r .within)
 
-    -- the table
     table-is : y ≡ q .table
-    table-is = refl
+    unfolding progressOf
+    table-is =
+        by-verdict (λ (g : Progress). a .cursor .number ≡ g .number → y ≡ g .table)
+        (λ z e. on e ∙ sym (accepted-table t b (length w) (passed z))) (λ n e. off (λ o. n (sym e ∙ o))) (d .number)
+
+    kept : Sized (q .table) × (wellFormed (q .table) ≡ true)
+    unfolding progressOf
+    kept =
+        by-verdict (λ (g : Progress). Sized (g .table) × (wellFormed (g .table) ≡ true))
+        (λ _. step-kept t b (length w) (r .sized) (r .formed)) (λ _. (r .sized, r .formed))
+
+    -- the lines: those before stand first, and all fit
+    lines-fit : length (q .lines) ≤ length l
+    unfolding progressOf
+    lines-fit =
+        by-verdict (λ (g : Progress). length (g .lines) ≤ length l)
+        (λ z. omega (arith, verdict-passed p b (length w) (length l) z .1, length-append (p .lines) (lineAt p b (length w)), lines-length, r .within))
+        (λ _. omega (arith, lines-length, r .within))
+
+    lines-grow : length (take (c .written) l) ≤ length (q .lines)
+    unfolding progressOf
+    lines-grow =
+        by-verdict (λ (g : Progress). length (take (c .written) l) ≤ length (g .lines))
+        (λ _. omega (arith, length-append (p .lines) (lineAt p b (length w)))) (λ _. omega arith)
+
+    lines-are : take (a .cursor .written) m ≡ q .lines
+    lines-are = rw (d .written, d .listed) (take-overlay (q .lines) l)
+
+    space-kept : length m ≡ length l
+    space-kept = rw (d .listed) (length-overlay (q .lines) l lines-fit)
+
+    listing-is : m ≡ overlay (q .lines) l₀
+    listing-is = d .listed ∙ (ap (overlay (q .lines)) (r .listing) ∙ overlay-over (take (c .written) l) (q .lines) l₀ lines-grow)
+
+    -- the scratch area: a line that does not fit is not the first event's, so it was clear already
+    clear-kept : verdict p b (length w) (length l) ≢ 0 → scratchAfter (step t b (length w) .answer .number) w ≡ leaves (c .events) w₀
+    unfolding scratchAfter progressOf
+    clear-kept n =
+        let k = step t b (length w) .answer .number in
+        cond-case (λ (v : List ℕ). v ≡ leaves (c .events) w₀) (eqb k 0) (cleared w) w
+        (λ o.
+        let z = eqb-true k 0 o in
+        let room = accepted-room t b (length w) z in
+        let some : c .events ≢ 0 = λ e. n (quiet-fits p b (length w) (length l) (r .unsent e) z) in
+        let clear = cond-false w₀ (cleared w₀) (ne-eqb (c .events) 0 some) in
+        ap cleared (r .scratch ∙ clear) ∙ (cleared-again w₀ (omega (arith, scratch-size)) ∙ sym clear))
+        (λ _. r .scratch)
+
+    clear-is : u ≡ leaves (q .events) w₀
+    unfolding scratchAfter progressOf
+    clear-is =
+        d .clear
+        ∙ by-verdict (λ (g : Progress). scratchAfter (step t b (length w) .answer .number) w ≡ leaves (g .events) w₀)
+        (λ z.
+        let room = accepted-room t b (length w) (passed z) in
+        rw (passed z) (ap cleared (r .scratch) ∙ (leaves-cleared (c .events) w₀ (omega (arith, scratch-size))
+        ∙ sym (cond-false w₀ (cleared w₀) (ne-eqb (c .events + 1) 0 (λ o. omega arith))))))
+        clear-kept
+
+    sent-first : q .events ≡ 0 → q .table .count ≡ 0
+    unfolding progressOf
+    sent-first = by-verdict (λ (g : Progress). g .events ≡ 0 → g .table .count ≡ 0) (λ _ e. absurd (omega arith)) (λ _. r .unsent)
+
+    -- the bytes left
+    left-is : b′ ≡ drop (cond (eqb (q .number) 0) (size b + 1) (length b)) b
+    left-is = eb ∙ ap (λ (k : ℕ). drop k b) (d .used)
+
+    left-fewer : (q .events + length (drop (cond (eqb (q .number) 0) (size b + 1) (length b)) b) ≤ 65535)
+        × (length (drop (cond (eqb (q .number) 0) (size b + 1) (length b)) b) < length b)
+    unfolding progressOf
+    left-fewer =
+        by-verdict
+        (λ (g : Progress). (g .events + length (drop (cond (eqb (g .number) 0) (size b + 1) (length b)) b) ≤ 65535)
+        × (length (drop (cond (eqb (g .number) 0) (size b + 1) (length b)) b) < length b))
+        (λ _. (omega (arith, r .few, length-drop (size b + 1) b), omega (arith, length-drop (size b + 1) b)))
+        (λ n. rw (ne-eqb _ 0 n) (omega (arith, r .few, length-drop (length b) b), omega (arith, length-drop (length b) b)))
 
     pub run-further : length b′ < length b
-    run-further = refl
+    run-further = rw left-is (left-fewer .1)
+
+    progress-is : progressOf (a .cursor) y m ≡ q
+    unfolding progressOf
+    progress-is = rw (d .number, d .events, lines-are, table-is) refl
+
+    ahead-is : records (length b′) q b′ (length w₀) (length l₀) ≡ progress s (length w₀) (length l₀)
+    unfolding turned
+    ahead-is =
+        rw (← scratch-size, ← r .space)
+        (sym (records-turn p b (length w) (length l) h b′ left-is) ∙ rw (scratch-size, r .space) (r .ahead))
+
+    pub run-goes-on : Running s l₀ w₀ m u b′ (a .cursor) y
+    run-goes-on = record {
+      sized = rw table-is (kept .0);
+      formed = rw table-is (kept .1);
+      within = omega (arith, d .written, lines-fit, space-kept);
+      space = space-kept ∙ r .space;
+      listing = listing-is ∙ rw (← lines-are) refl;
+      scratch = rw (d .events) clear-is;
+      unsent = λ e. rw table-is (sent-first (sym (d .events) ∙ e));
+      few = omega (arith, ap length left-is, left-fewer .0, d .events);
+      ahead = rw progress-is ahead-is;
+    }
