@@ -1,14 +1,26 @@
-/* The calls of the engine, for C on x86-64; link libengine.a. What each answers and leaves is the definition that its
- * contract in crates/engine/src/lib.rt names, for every value of its arguments.
+/* The calls of the engine, for C and C++ on x86-64 Linux. Link target/staticlib/libengine.a, which `rt staticlib engine`
+ * builds. What each call answers and leaves is the definition that its contract in crates/engine/src/lib.rt names, for
+ * every value of its arguments; docs/RULES.md says the same in words.
  *
- * A slice of bytes is passed as its first byte and its length. The contracts rest on this of the caller: what is lent
- * to be written (a table, a scratch area, a listing, an answer) overlaps nothing else that is lent to the same call;
- * pointers are not null, for a slice of length 0 too, and are aligned as their type asks; and every byte that is lent
- * has been set, an answer's too, though a call overwrites the answer wholly and reads nothing of it. Every pattern of
- * bytes is a table.
+ * One table holds the whole machine: all controllers, their logs and their panels. Its owner keeps it and lends it to
+ * each call. The library keeps nothing between calls, so calls on different tables may run at the same time. Two calls on
+ * one table, one scratch area, one listing or one answer may not.
  *
- * Padding: a call may leave anything, old bytes of the stack among them, in the padding inside what it stores. Compare
- * tables, and send or save them, field by field. */
+ * What is asked of the caller:
+ *   - A slice of bytes is passed as its first byte and its length. Pointers are not null, for a slice of length 0 too.
+ *   - Tables and answers are aligned as their types are, to 8 bytes (malloc does so). Bytes, scratch and listings may
+ *     stand anywhere.
+ *   - What is lent to be written (a table, scratch, a listing, an answer) overlaps nothing else lent to the same call.
+ *   - Nothing need be cleared. A call overwrites its answer wholly and reads nothing of it, and it reads no scratch byte
+ *     that it has not written. The proofs speak of memory in which every byte has been set once, no matter to what.
+ * Nothing else is asked: every pattern of bytes is a table, and a call answers it.
+ *
+ * Tables as bytes. A table has no padding: its size is the sum of the sizes of its fields, which is asserted below. So
+ * two tables have the same fields exactly if memcmp finds them equal, equal calls make equal tables byte for byte, and a
+ * table may be copied, saved, sent and hashed as sizeof(furnacejade_table) bytes, between x86-64 programs that were built
+ * with the same version of this header. Answers have padding, which a call may leave as anything, old bytes of the stack
+ * among them: furnacejade_answer at bytes 2 and 3, furnacejade_look_answer at 1 to 3, furnacejade_fresh_answer and
+ * furnacejade_run_answer at 1 to 7. Compare, save and send answers field by field. */
 #ifndef FURNACEJADE_H
 #define FURNACEJADE_H
 
@@ -25,31 +37,54 @@ extern "C" {
 enum {
     FURNACEJADE_CONTROLLERS = 7, /* at most so many controllers */
     FURNACEJADE_MESSAGES = 64,   /* at most so many messages in a run */
-    FURNACEJADE_SCRATCH = 4096   /* an event asks for so many bytes of scratch */
+    FURNACEJADE_SCRATCH = 4096,  /* an event asks for so many bytes of scratch */
+    FURNACEJADE_LISTING = 16384, /* no run file fills so many bytes of listing */
+    FURNACEJADE_ABSENT = 255     /* the mark of a controller that is not known to have forwarded a message */
 };
 
-/* Refusal numbers: the question that was the first to be answered no. */
+/* Refusal numbers, each with its name (FURNACEJADE_ stands before it) and the question that was the first to be answered
+ * no. What a caller does after each stands in README.md, "Refusal numbers". */
+#define FURNACEJADE_REFUSALS(X)                                                                   \
+    X(0, ACCEPTED, "none: accepted")                                                              \
+    X(1, FILE_LENGTH, "Has the file 2 to 65,535 bytes?")                                          \
+    X(2, VERSION, "Is the version 1?")                                                            \
+    X(3, COUNT, "Is the number of controllers from 1 to 7?")                                      \
+    X(4, TABLE, "Is the table well formed?")                                                      \
+    X(5, RECORD, "Are the length byte and all the bytes it counts there?")                        \
+    X(6, KIND, "Is there a kind, from 1 to 4?")                                                   \
+    X(7, LENGTH, "Is the length that of the kind?")                                               \
+    X(8, CONTROLLER, "Is every controller named from 1 to n?")                                    \
+    X(9, AMOUNT, "Is a report's amount from -360 to 360 and not 0?")                              \
+    X(10, STOPPED, "Is the sender, receiver or controller to be stopped still running?")          \
+    X(11, OWN_PENDING, "Has the sender no message of its own pending?")                           \
+    X(12, FULL, "Has the run fewer than 64 messages?")                                            \
+    X(13, NO_ENTRY, "Does the log have an entry that the receiver has not read?")                 \
+    X(14, KEPT, "Is the length kept at most the log's, and at least every read position in it?")  \
+    X(15, SCRATCH_LENGTH, "Has the scratch area 4,096 bytes or more?")                            \
+    X(16, LISTING_LENGTH, "Does the line fit in what is left of the listing?")
+
 enum {
-    FURNACEJADE_ACCEPTED = 0,        /* none */
-    FURNACEJADE_FILE_LENGTH = 1,     /* Has the file 2 to 65,535 bytes? */
-    FURNACEJADE_VERSION = 2,         /* Is the version 1? */
-    FURNACEJADE_COUNT = 3,           /* Is the number of controllers from 1 to 7? */
-    FURNACEJADE_TABLE = 4,           /* Is the table well formed? */
-    FURNACEJADE_RECORD = 5,          /* Are the length byte and all the bytes it counts there? */
-    FURNACEJADE_KIND = 6,            /* Is there a kind, from 1 to 4? */
-    FURNACEJADE_LENGTH = 7,          /* Is the length that of the kind? */
-    FURNACEJADE_CONTROLLER = 8,      /* Is every controller named from 1 to n? */
-    FURNACEJADE_AMOUNT = 9,          /* Is a report's amount from -360 to 360 and not 0? */
-    FURNACEJADE_STOPPED = 10,        /* Is the sender, receiver or controller to be stopped still running? */
-    FURNACEJADE_OWN_PENDING = 11,    /* Has the sender no message of its own pending? */
-    FURNACEJADE_FULL = 12,           /* Has the run fewer than 64 messages? */
-    FURNACEJADE_NO_ENTRY = 13,       /* Does the log have an entry that the receiver has not read? */
-    FURNACEJADE_KEPT = 14,           /* Is the length kept at most the log's, and at least every read position in it? */
-    FURNACEJADE_SCRATCH_LENGTH = 15, /* Has the scratch area 4,096 bytes or more? */
-    FURNACEJADE_LISTING_LENGTH = 16  /* Does the line fit in what is left of the listing? */
+#define FURNACEJADE_NUMBER(number, name, question) FURNACEJADE_##name = number,
+    FURNACEJADE_REFUSALS(FURNACEJADE_NUMBER)
+#undef FURNACEJADE_NUMBER
 };
 
-/* A place in a log, 1 to 64; 255 is absent. */
+/* The words of a refusal number:
+ *
+ *     if (answer.number != FURNACEJADE_ACCEPTED)
+ *         fprintf(stderr, "refused by question %d: %s\n", answer.number, furnacejade_question(answer.number));
+ */
+static inline const char *furnacejade_question(unsigned number) {
+    switch (number) {
+#define FURNACEJADE_CASE(number, name, question) \
+    case number: return question;
+        FURNACEJADE_REFUSALS(FURNACEJADE_CASE)
+#undef FURNACEJADE_CASE
+    default: return "no such number";
+    }
+}
+
+/* A place in a log, 1 to 64; FURNACEJADE_ABSENT is absent. */
 typedef struct { uint8_t value; } furnacejade_forward_number;
 
 /* The number that a sender gives its message, 1 to 64; 0 is none. */
@@ -58,6 +93,7 @@ typedef struct { uint8_t value; } furnacejade_message_number;
 /* What a message says. */
 typedef struct {
     uint8_t kind;       /* 1 report, 2 sync */
+    uint8_t spare;      /* written 0; neither tested nor used */
     uint16_t added;     /* the amount if positive, else 0 */
     uint16_t withdrawn; /* its magnitude if negative, else 0 */
 } furnacejade_payload;
@@ -65,7 +101,7 @@ typedef struct {
 /* A message; its index in the table is its slot. */
 typedef struct {
     uint8_t sender;                    /* 1 to n */
-    furnacejade_message_number number; /* counts the sender's log */
+    furnacejade_message_number number; /* its place in its sender's log */
     furnacejade_payload payload;
 } furnacejade_message;
 
@@ -83,13 +119,13 @@ typedef struct {
 
 /* One controller. */
 typedef struct {
-    uint8_t running;                                              /* 0 stopped, else running */
-    size_t length;                                                /* how many entries its log has */
-    uint8_t log[FURNACEJADE_MESSAGES];                            /* the slots that it forwarded, in order */
-    size_t read[FURNACEJADE_CONTROLLERS];                         /* how many entries of each log it has read */
-    furnacejade_pending pending[FURNACEJADE_MESSAGES];            /* by slot */
-    uint8_t applied[FURNACEJADE_MESSAGES];                        /* by slot: 0 no, else yes */
-    furnacejade_message_number highest[FURNACEJADE_CONTROLLERS];  /* the highest number applied, of each sender */
+    size_t length;                                               /* how many entries its log has */
+    uint8_t log[FURNACEJADE_MESSAGES];                           /* the slots that it forwarded, in order */
+    size_t read[FURNACEJADE_CONTROLLERS];                        /* how many entries of each log it has read */
+    furnacejade_pending pending[FURNACEJADE_MESSAGES];           /* by slot */
+    uint8_t applied[FURNACEJADE_MESSAGES];                       /* by slot: 0 no, else yes */
+    furnacejade_message_number highest[FURNACEJADE_CONTROLLERS]; /* the highest number applied, of each sender */
+    uint8_t running;                                             /* 0 stopped, else running */
 } furnacejade_controller;
 
 /* The table of a run, which its owner keeps and lends to each call. */
@@ -100,11 +136,16 @@ typedef struct {
     furnacejade_controller controllers[FURNACEJADE_CONTROLLERS]; /* controller c at c - 1 */
 } furnacejade_table;
 
+/* What a panel shows. */
+typedef struct {
+    int32_t total; /* the sum of the amounts that its controller has applied */
+} furnacejade_panel;
+
 /* What furnacejade_event answers. */
 typedef struct {
     uint8_t number;                               /* the refusal number, 0 if accepted */
-    uint8_t finished;                             /* 1 if a sync of the receiver's own is in the set applied */
-    int32_t total;                                /* then that sync's answer, the total after the set; else 0 */
+    uint8_t finished;                             /* 1 if a sync of the receiver's own is in the set applied, else 0 */
+    furnacejade_panel panel;                      /* then that sync's answer, the panel after the set; else zero */
     size_t size;                                  /* how many messages the set has */
     furnacejade_name names[FURNACEJADE_MESSAGES]; /* their names, by sender and then number; zeros behind them */
 } furnacejade_answer;
@@ -117,8 +158,8 @@ typedef struct {
 
 /* What furnacejade_look answers. */
 typedef struct {
-    uint8_t number; /* the refusal number, 0 if accepted */
-    int32_t total;  /* the panel's total; 0 if refused */
+    uint8_t number;          /* the refusal number, 0 if accepted */
+    furnacejade_panel panel; /* what the panel shows; zero if refused */
 } furnacejade_look_answer;
 
 /* What furnacejade_run answers. */
@@ -129,60 +170,176 @@ typedef struct {
     furnacejade_table table; /* the last table; all zero after refusals 1 to 3 */
 } furnacejade_run_answer;
 
-#define FURNACEJADE_SIZE(type, bytes) FURNACEJADE_ASSERT(sizeof(type) == (bytes), "size of " #type)
+/* The layouts that the library was compiled with. */
+#define FURNACEJADE_BYTES(type, bytes) FURNACEJADE_ASSERT(sizeof(type) == (bytes), "size of " #type)
 #define FURNACEJADE_AT(type, field, place) FURNACEJADE_ASSERT(offsetof(type, field) == (place), "place of " #type "." #field)
-FURNACEJADE_SIZE(furnacejade_forward_number, 1);
-FURNACEJADE_SIZE(furnacejade_message_number, 1);
-FURNACEJADE_SIZE(furnacejade_payload, 6);
+#define FURNACEJADE_OF(type, field) sizeof(((type *)0)->field)
+#define FURNACEJADE_FULLY(type, sum) FURNACEJADE_ASSERT(sizeof(type) == (sum), "padding in " #type)
+FURNACEJADE_BYTES(furnacejade_forward_number, 1);
+FURNACEJADE_BYTES(furnacejade_message_number, 1);
+FURNACEJADE_BYTES(furnacejade_payload, 6);
+FURNACEJADE_AT(furnacejade_payload, kind, 0);
+FURNACEJADE_AT(furnacejade_payload, spare, 1);
 FURNACEJADE_AT(furnacejade_payload, added, 2);
 FURNACEJADE_AT(furnacejade_payload, withdrawn, 4);
-FURNACEJADE_SIZE(furnacejade_message, 8);
+FURNACEJADE_BYTES(furnacejade_message, 8);
+FURNACEJADE_AT(furnacejade_message, sender, 0);
 FURNACEJADE_AT(furnacejade_message, number, 1);
 FURNACEJADE_AT(furnacejade_message, payload, 2);
-FURNACEJADE_SIZE(furnacejade_name, 2);
+FURNACEJADE_BYTES(furnacejade_name, 2);
+FURNACEJADE_AT(furnacejade_name, sender, 0);
 FURNACEJADE_AT(furnacejade_name, number, 1);
-FURNACEJADE_SIZE(furnacejade_pending, 8);
+FURNACEJADE_BYTES(furnacejade_pending, 8);
+FURNACEJADE_AT(furnacejade_pending, held, 0);
 FURNACEJADE_AT(furnacejade_pending, marks, 1);
-FURNACEJADE_SIZE(furnacejade_controller, 720);
-FURNACEJADE_AT(furnacejade_controller, length, 8);
-FURNACEJADE_AT(furnacejade_controller, log, 16);
-FURNACEJADE_AT(furnacejade_controller, read, 80);
-FURNACEJADE_AT(furnacejade_controller, pending, 136);
-FURNACEJADE_AT(furnacejade_controller, applied, 648);
-FURNACEJADE_AT(furnacejade_controller, highest, 712);
-FURNACEJADE_SIZE(furnacejade_table, 5568);
+FURNACEJADE_BYTES(furnacejade_controller, 712);
+FURNACEJADE_AT(furnacejade_controller, length, 0);
+FURNACEJADE_AT(furnacejade_controller, log, 8);
+FURNACEJADE_AT(furnacejade_controller, read, 72);
+FURNACEJADE_AT(furnacejade_controller, pending, 128);
+FURNACEJADE_AT(furnacejade_controller, applied, 640);
+FURNACEJADE_AT(furnacejade_controller, highest, 704);
+FURNACEJADE_AT(furnacejade_controller, running, 711);
+FURNACEJADE_BYTES(furnacejade_table, 5512);
+FURNACEJADE_AT(furnacejade_table, n, 0);
 FURNACEJADE_AT(furnacejade_table, count, 8);
 FURNACEJADE_AT(furnacejade_table, messages, 16);
 FURNACEJADE_AT(furnacejade_table, controllers, 528);
-FURNACEJADE_SIZE(furnacejade_answer, 144);
+FURNACEJADE_BYTES(furnacejade_panel, 4);
+FURNACEJADE_AT(furnacejade_panel, total, 0);
+FURNACEJADE_BYTES(furnacejade_answer, 144);
+FURNACEJADE_AT(furnacejade_answer, number, 0);
 FURNACEJADE_AT(furnacejade_answer, finished, 1);
-FURNACEJADE_AT(furnacejade_answer, total, 4);
+FURNACEJADE_AT(furnacejade_answer, panel, 4);
 FURNACEJADE_AT(furnacejade_answer, size, 8);
 FURNACEJADE_AT(furnacejade_answer, names, 16);
-FURNACEJADE_SIZE(furnacejade_fresh_answer, 5576);
+FURNACEJADE_BYTES(furnacejade_fresh_answer, 5520);
+FURNACEJADE_AT(furnacejade_fresh_answer, number, 0);
 FURNACEJADE_AT(furnacejade_fresh_answer, table, 8);
-FURNACEJADE_SIZE(furnacejade_look_answer, 8);
-FURNACEJADE_AT(furnacejade_look_answer, total, 4);
-FURNACEJADE_SIZE(furnacejade_run_answer, 5592);
+FURNACEJADE_BYTES(furnacejade_look_answer, 8);
+FURNACEJADE_AT(furnacejade_look_answer, number, 0);
+FURNACEJADE_AT(furnacejade_look_answer, panel, 4);
+FURNACEJADE_BYTES(furnacejade_run_answer, 5536);
+FURNACEJADE_AT(furnacejade_run_answer, number, 0);
 FURNACEJADE_AT(furnacejade_run_answer, events, 8);
 FURNACEJADE_AT(furnacejade_run_answer, written, 16);
 FURNACEJADE_AT(furnacejade_run_answer, table, 24);
+
+/* No padding, so that a table's bytes are its fields and nothing else. */
+FURNACEJADE_FULLY(furnacejade_payload,
+                  FURNACEJADE_OF(furnacejade_payload, kind) + FURNACEJADE_OF(furnacejade_payload, spare)
+                      + FURNACEJADE_OF(furnacejade_payload, added) + FURNACEJADE_OF(furnacejade_payload, withdrawn));
+FURNACEJADE_FULLY(furnacejade_message,
+                  FURNACEJADE_OF(furnacejade_message, sender) + FURNACEJADE_OF(furnacejade_message, number)
+                      + FURNACEJADE_OF(furnacejade_message, payload));
+FURNACEJADE_FULLY(furnacejade_pending, FURNACEJADE_OF(furnacejade_pending, held) + FURNACEJADE_OF(furnacejade_pending, marks));
+FURNACEJADE_FULLY(furnacejade_controller,
+                  FURNACEJADE_OF(furnacejade_controller, length) + FURNACEJADE_OF(furnacejade_controller, log)
+                      + FURNACEJADE_OF(furnacejade_controller, read) + FURNACEJADE_OF(furnacejade_controller, pending)
+                      + FURNACEJADE_OF(furnacejade_controller, applied) + FURNACEJADE_OF(furnacejade_controller, highest)
+                      + FURNACEJADE_OF(furnacejade_controller, running));
+FURNACEJADE_FULLY(furnacejade_table,
+                  FURNACEJADE_OF(furnacejade_table, n) + FURNACEJADE_OF(furnacejade_table, count)
+                      + FURNACEJADE_OF(furnacejade_table, messages) + FURNACEJADE_OF(furnacejade_table, controllers));
+#undef FURNACEJADE_FULLY
+#undef FURNACEJADE_OF
 #undef FURNACEJADE_AT
-#undef FURNACEJADE_SIZE
+#undef FURNACEJADE_BYTES
 #undef FURNACEJADE_ASSERT
 
-/* One event: bytes is the rest of a file from a record on. The table, the scratch area and the answer are as the event
- * leaves them, a refused one leaving table and scratch as they were. Returns how many bytes are left: the unread rest
- * is the last so many of bytes. */
-size_t furnacejade_event(furnacejade_table *t, const uint8_t *bytes, size_t bytes_length, uint8_t *scratch, size_t scratch_length, furnacejade_answer *answer);
+/* WRITERS of a run file's parts, each into the first bytes of a buffer that has room for so many. Each returns how many
+ * bytes it wrote, or 0, with nothing written, if they do not fit. They ask nothing of the values: that is the event's.
+ *
+ *     size_t size = furnacejade_put_head(file, sizeof file, 2);
+ *     size += furnacejade_put_report(file + size, sizeof file - size, 1, 5);
+ *     size += furnacejade_put_handover(file + size, sizeof file - size, 2, 1);
+ */
 
-/* A panel look at controller c, 1 to n. */
-void furnacejade_look(const furnacejade_table *t, size_t c, furnacejade_look_answer *answer);
+/* The two bytes that a run file begins with: version 1 and the number of controllers. */
+static inline size_t furnacejade_put_head(uint8_t *out, size_t room, uint8_t n) {
+    if (room < 2) return 0;
+    out[0] = 1;
+    out[1] = n;
+    return 2;
+}
 
-/* A fresh table of n controllers, 1 to 7. */
+/* Kind 1: a report of an amount by its sender, 5 bytes. */
+static inline size_t furnacejade_put_report(uint8_t *out, size_t room, uint8_t sender, int16_t amount) {
+    if (room < 5) return 0;
+    out[0] = 4;
+    out[1] = 1;
+    out[2] = sender;
+    out[3] = (uint8_t)((uint16_t)amount >> 8);
+    out[4] = (uint8_t)((uint16_t)amount & 255);
+    return 5;
+}
+
+/* Kind 2: a sync by its sender, 3 bytes. */
+static inline size_t furnacejade_put_sync(uint8_t *out, size_t room, uint8_t sender) {
+    if (room < 3) return 0;
+    out[0] = 2;
+    out[1] = 2;
+    out[2] = sender;
+    return 3;
+}
+
+/* Kind 3: a handover to a receiver of the next entry of an owner's log, 4 bytes. */
+static inline size_t furnacejade_put_handover(uint8_t *out, size_t room, uint8_t receiver, uint8_t owner) {
+    if (room < 4) return 0;
+    out[0] = 3;
+    out[1] = 3;
+    out[2] = receiver;
+    out[3] = owner;
+    return 4;
+}
+
+/* Kind 4: a stop of a controller, whose log is cut to the length kept, 5 bytes. */
+static inline size_t furnacejade_put_stop(uint8_t *out, size_t room, uint8_t controller, uint16_t kept) {
+    if (room < 5) return 0;
+    out[0] = 4;
+    out[1] = 4;
+    out[2] = controller;
+    out[3] = (uint8_t)(kept >> 8);
+    out[4] = (uint8_t)(kept & 255);
+    return 5;
+}
+
+/* A fresh table of n controllers, 1 to 7: all run, nothing was sent. Question 3 is put.
+ *
+ *     static furnacejade_fresh_answer start;
+ *     furnacejade_fresh(5, &start);
+ *     furnacejade_table *table = &start.table;
+ */
 void furnacejade_fresh(size_t n, furnacejade_fresh_answer *answer);
 
-/* A whole run file. Its lines are written into the listing from the start on; the bytes behind them stay. */
+/* One event: bytes is the rest of a file from a record on, and the record with which it begins is carried out. Questions 4
+ * to 15 are put. Returns how many bytes are left: the unread rest is the last so many of bytes. An accepted event leaves
+ * the table as the rules say and the first 4,096 scratch bytes zero. A refused one leaves table and scratch as they were,
+ * and the record in the rest: a loop that goes on must step over it, by 1 + its length byte.
+ *
+ *     uint8_t record[5];
+ *     size_t length = furnacejade_put_report(record, sizeof record, 1, 30);
+ *     size_t left = furnacejade_event(table, record, length, scratch, sizeof scratch, &answer);
+ */
+size_t furnacejade_event(furnacejade_table *t, const uint8_t *bytes, size_t bytes_length, uint8_t *scratch, size_t scratch_length, furnacejade_answer *answer);
+
+/* A panel look at controller c, 1 to n, running or stopped. Questions 4 and 8 are put. Nothing but the answer is written.
+ *
+ *     furnacejade_look_answer look;
+ *     furnacejade_look(table, 2, &look);
+ *     if (look.number == FURNACEJADE_ACCEPTED) printf("panel 2 shows %d\n", (int)look.panel.total);
+ */
+void furnacejade_look(const furnacejade_table *t, size_t c, furnacejade_look_answer *answer);
+
+/* A whole run file, from a fresh table of its own, up to the first refusal. Its lines are written into the listing from the
+ * start on; the bytes behind them stay. Also where a record is refused, the listing keeps the lines before it, the answer
+ * has the table that they left, and the first 4,096 scratch bytes are zero if any event was accepted. A file refused by
+ * questions 1 to 3 changes neither listing nor scratch.
+ *
+ *     static uint8_t listing[FURNACEJADE_LISTING];
+ *     furnacejade_run(file, size, listing, sizeof listing, scratch, sizeof scratch, &run);
+ *     fwrite(listing, 1, run.written, stdout);
+ */
 void furnacejade_run(const uint8_t *bytes, size_t bytes_length, uint8_t *listing, size_t listing_length, uint8_t *scratch, size_t scratch_length, furnacejade_run_answer *answer);
 
 #ifdef __cplusplus

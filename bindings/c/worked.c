@@ -1,4 +1,5 @@
-/* Plays the worked run of document 01, read from standard input, event by event, and looks at every panel after each. */
+/* Plays the worked run (docs/RULES.md, section 19), read from standard input, event by event, and looks at every panel after
+ * each. */
 #include <stdio.h>
 #include <stdlib.h>
 
@@ -10,13 +11,13 @@ int main(void) {
     if (length < 2) return EXIT_FAILURE;
     static furnacejade_fresh_answer start;
     furnacejade_fresh(run[1], &start);
-    if (start.number != 0) return EXIT_FAILURE;
+    if (start.number != FURNACEJADE_ACCEPTED) return EXIT_FAILURE;
     furnacejade_table *table = &start.table;
     size_t at = 2;
     for (unsigned number = 1; at < length; number++) {
         static furnacejade_answer answer;
         size_t left = furnacejade_event(table, run + at, length - at, scratch, sizeof scratch, &answer);
-        if (answer.number != 0) return EXIT_FAILURE;
+        if (answer.number != FURNACEJADE_ACCEPTED) return EXIT_FAILURE;
         at = length - left;
         printf("%u:", number);
         for (size_t i = 0; i < answer.size; i++) printf(" %d.%d", answer.names[i].sender, answer.names[i].number.value);
@@ -24,7 +25,7 @@ int main(void) {
         for (size_t c = 1; c <= table->n; c++) {
             static furnacejade_look_answer look;
             furnacejade_look(table, c, &look);
-            printf(" %d", (int)look.total);
+            printf(" %d", (int)look.panel.total);
         }
         printf("\n");
     }
