@@ -1,0 +1,118 @@
+/* Five lanes of one machine: trays, a sync, a lane that stops, and what is left when no majority runs. Records are written
+ * with the header's writers, everything that waits is handed over, and refusals are printed in words. */
+#include <stdio.h>
+#include <stdlib.h>
+
+#include "furnacejade.h"
+
+enum { LANES = 5, LONGEST = 5 /* bytes of a record */ };
+
+static furnacejade_fresh_answer start;
+static furnacejade_table *const table = &start.table;
+static furnacejade_answer answer;
+
+/* Carries out one record. */
+static uint8_t play(const uint8_t *record, size_t length) {
+    static uint8_t scratch[FURNACEJADE_SCRATCH];
+    furnacejade_event(table, record, length, scratch, sizeof scratch, &answer);
+    return answer.number;
+}
+
+static void print_refusal(void) {
+    printf("refused, %d: %s\n", answer.number, furnacejade_question(answer.number));
+}
+
+static int shown(size_t lane) {
+    furnacejade_look_answer look;
+    furnacejade_look(table, lane, &look);
+    return (int)look.panel.total;
+}
+
+/* An accepted report or sync is the table's last message; its number is its place in its sender's log. */
+static void print_sent(void) {
+    if (answer.number != FURNACEJADE_ACCEPTED) {
+        print_refusal();
+        return;
+    }
+    const furnacejade_message *sent = &table->messages[table->count - 1];
+    printf("sent as %d.%d\n", sent->sender, sent->number.value);
+}
+
+static void report(uint8_t lane, int16_t amount) {
+    uint8_t record[LONGEST];
+    printf("lane %d reports %d: ", lane, amount);
+    play(record, furnacejade_put_report(record, sizeof record, lane, amount));
+    print_sent();
+}
+
+static void sync(uint8_t lane) {
+    uint8_t record[LONGEST];
+    printf("lane %d syncs: ", lane);
+    play(record, furnacejade_put_sync(record, sizeof record, lane));
+    print_sent();
+}
+
+static void stop(uint8_t lane, size_t kept) {
+    uint8_t record[LONGEST];
+    printf("lane %d stops, %zu of %zu entries kept: ", lane, kept, table->controllers[lane - 1].length);
+    if (play(record, furnacejade_put_stop(record, sizeof record, lane, (uint16_t)kept)) == FURNACEJADE_ACCEPTED) printf("done\n");
+    else print_refusal();
+}
+
+static void print_set(uint8_t receiver) {
+    if (answer.size == 0) return;
+    printf("  panel %d applies", receiver);
+    for (size_t i = 0; i < answer.size; i++) printf(" %d.%d", answer.names[i].sender, answer.names[i].number.value);
+    printf(" and shows %d\n", shown(receiver));
+    if (answer.finished) printf("  lane %d's sync is answered: %d\n", receiver, (int)answer.panel.total);
+}
+
+/* Hands over the next entry of one log for as long as there is one. Refusal 13 says that there is none, and 10 that the
+ * receiver has stopped; any other would be a fault of this program. */
+static unsigned drain(uint8_t receiver, uint8_t owner) {
+    uint8_t record[LONGEST];
+    size_t length = furnacejade_put_handover(record, sizeof record, receiver, owner);
+    unsigned handovers = 0;
+    while (play(record, length) == FURNACEJADE_ACCEPTED) {
+        handovers++;
+        print_set(receiver);
+    }
+    if (answer.number == FURNACEJADE_NO_ENTRY || answer.number == FURNACEJADE_STOPPED) return handovers;
+    print_refusal();
+    exit(EXIT_FAILURE);
+}
+
+/* Goes round all pairs until a round finds nothing. */
+static void hand_over_all(void) {
+    unsigned all = 0, before;
+    do {
+        before = all;
+        for (uint8_t receiver = 1; receiver <= LANES; receiver++)
+            for (uint8_t owner = 1; owner <= LANES; owner++) all += drain(receiver, owner);
+    } while (all != before);
+    printf("handed over %u entries; panels show", all);
+    for (size_t lane = 1; lane <= LANES; lane++) printf(" %d", shown(lane));
+    printf("\n");
+}
+
+int main(void) {
+    furnacejade_fresh(LANES, &start);
+    if (start.number != FURNACEJADE_ACCEPTED) return EXIT_FAILURE;
+    report(1, 30);
+    report(1, 12); /* 11: hand over and try again */
+    hand_over_all();
+    report(1, 12);
+    report(5, 24); /* 5.2: lane 5 has forwarded 1.1 before it */
+    stop(5, 0);    /* 14: lanes have read its first entry */
+    stop(5, 1);    /* 5.2, which nobody has read, vanishes */
+    sync(5);       /* 10: a stop is final */
+    report(2, 400);
+    hand_over_all();
+    sync(3);
+    hand_over_all();
+    stop(1, table->controllers[0].length);
+    stop(2, table->controllers[1].length);
+    report(3, 6); /* sent, but two of five are no majority */
+    hand_over_all();
+    return EXIT_SUCCESS;
+}
