@@ -1,0 +1,92 @@
+-- `finishes` searches the members for a sync of c; past the 64th slot there are none. The loop's invariant: none before is.
+-- Assumes nothing.
+use mathlib.Core.Path.{_≡_, sym, _∙_}
+use mathlib.Core.Bool.{false, _&&_}
+use Prim.Native.Nat.{ℕ, _-_, _≤_, _<_}
+use native.Mathlib.Nat.{not-suc-le-zero}
+use native.Mathlib.Omega.{arith}
+use lib.ListN.{length, getD}
+use lib.Dec.{eqb}
+use borrow.Author.Count.{below-more}
+use borrow.Author.Needs.{needs}
+use Rattle.lists.proofs.Clipped.{below-past, any-found, any-none}
+use Rattle.model.specs.Tables.{capacity, noMessage, message}
+use Rattle.model.specs.Delivery.{has}
+use Rattle.model.specs.Events.{finishes}
+use Rattle.totals.proofs.Weights.{member-past}
+use Rattle.totals.proofs.finishes.Statement.{statement}
+use Rattle.totals.proofs.finishes.Tie as tie
+
+abbrev Inv-loop : tie.InvT-loop
+Inv-loop count c messages members s₀ s-end s =
+    (s ≤ s-end)
+    × ((j : ℕ) → j < s → (has members j && (eqb (getD messages j noMessage .payload .kind) 2 && eqb (getD messages j noMessage .sender) c)) ≡ false)
+
+abbrev μ-loop : tie.MeasureT-loop
+μ-loop count c messages members s₀ s-end s = s-end - s
+
+-- from a turn to the entry, and from behind its test to the turn
+abbrev entered : tie.At-loop Inv-loop μ-loop → tie.Start Inv-loop μ-loop
+entered c = c .before .before
+
+abbrev turn : tie.After-finishing Inv-loop μ-loop → tie.At-loop Inv-loop μ-loop
+turn c = c .before .before .before
+
+long : (c : tie.At-loop Inv-loop μ-loop) → length (entered c .args .t3) ≡ capacity
+long c = entered c .good .1 .1 .0 .1 .0 .1
+
+at-most-requires : tie.Need-at-most-requires Inv-loop μ-loop
+at-most-requires c κs = search needs
+
+loop-holds : tie.Need-loop-holds Inv-loop μ-loop
+loop-holds c = (omega arith, λ j h. absurd (not-suc-le-zero h))
+
+array-read-finishing : tie.Need-array-read-finishing Inv-loop μ-loop
+array-read-finishing c = search needs
+
+mul-finishing : tie.Need-mul-finishing Inv-loop μ-loop
+mul-finishing c = search needs
+
+array-copy-out-finishing : tie.Need-array-copy-out-finishing Inv-loop μ-loop
+array-copy-out-finishing c = search needs
+
+finishing-requires : tie.Need-finishing-requires Inv-loop μ-loop
+finishing-requires c κs = search needs
+
+returns : tie.Need-returns Inv-loop μ-loop
+unfolding finishes message
+returns c = any-found _ _ (turn (c .before) .loop .s) (omega arith) (sym (c .before .finishing .ensures) ∙ c .if1 .taken)
+
+add-s : tie.Need-add-s Inv-loop μ-loop
+add-s c = search needs
+
+loop-less : tie.Need-loop-less Inv-loop μ-loop
+loop-less c = search needs
+
+loop-again : tie.Need-loop-again Inv-loop μ-loop
+loop-again c = (omega arith, below-more _ _ (turn (c .before) .loop .inv .1) (sym (c .before .finishing .ensures) ∙ c .if1 .left))
+
+returns-2 : tie.Need-returns-2 Inv-loop μ-loop
+unfolding finishes message
+returns-2 c =
+    let k = c .before in
+    any-none _ _
+    (below-past _ _ capacity _ (k .before .at-most .ensures) (λ j h. k .loop .inv .1 j (omega arith)) (λ j h. member-past (entered k .args .t3) (long k) j h _))
+
+pub finishes-spec : {M : Type 1} → statement M
+finishes-spec =
+    tie.close
+    (tie.spec
+    Inv-loop
+    μ-loop
+    at-most-requires
+    loop-holds
+    array-read-finishing
+    mul-finishing
+    array-copy-out-finishing
+    finishing-requires
+    returns
+    add-s
+    loop-less
+    loop-again
+    returns-2)

@@ -1,0 +1,98 @@
+// What a panel shows, and whether a set holds a sync of a controller's own: on every table, what no array holds being zero.
+ghost use mathlib.Core.Path.{_≡_};
+ghost use mathlib.Core.Bool.{_&&_, cond};
+ghost use Prim.Native.Nat.{_≤_};
+ghost use lib.Dec.{eqb};
+ghost use lib.IntN.{pos, _-ℤ_};
+ghost use Rattle.model.specs.Tables.{yes?};
+ghost use Rattle.model.specs.Events.{panelOf, finishes};
+ghost use Rattle.model.specs.Parts.{part};
+ghost use Rattle.totals.specs.Shown.{shownOf, largestSum, Summed};
+use model::Message;
+use model::Panel;
+use model::Payload;
+use model::Table;
+
+// WHAT A PANEL SHOWS
+
+// What was added and what was withdrawn.
+struct Amounts {
+    added: u32,
+    withdrawn: u32,
+}
+
+// An amount that counts where the flag says yes.
+fn counted(flag: u8, amount: u16) -> u32
+    ensures { λ r. ⌜ (r ≡ cond (yes? flag) amount 0) × (r ≤ 65535) ⌝ }
+{
+    if flag == 0 {
+        return 0;
+    }
+    amount as u32
+}
+
+// The sums over so many messages, of those flagged as applied.
+fn summed(count: usize, messages: [Message; 64], applied: [u8; 64]) -> Amounts
+    ensures { λ r. ⌜ Summed count messages applied r ⌝ }
+{
+    let mut added = 0;
+    let mut withdrawn = 0;
+    for s in 0..numbers::at_most(count, Table::MESSAGES) {
+        let flag = applied[s];
+        let m = messages[s];
+        added = added + counted(flag, m.payload.added);
+        withdrawn = withdrawn + counted(flag, m.payload.withdrawn);
+    }
+    Amounts { added, withdrawn }
+}
+
+// What was added less what was withdrawn.
+fn difference(s: Amounts) -> i32
+    requires { ⌜ (s .added ≤ largestSum) × (s .withdrawn ≤ largestSum) ⌝ }
+    ensures { λ r. ⌜ r ≡ pos (s .added) -ℤ pos (s .withdrawn) ⌝ }
+{
+    s.added as i32 - s.withdrawn as i32
+}
+
+// The panel of a controller that has applied so, of so many messages.
+pub fn shown(count: usize, messages: [Message; 64], applied: [u8; 64]) -> Panel
+    ensures { λ r. ⌜ r ≡ shownOf count messages applied ⌝ }
+{
+    Panel {
+        total: difference(summed(count, messages, applied)),
+    }
+}
+
+// The panel of controller c, from 1. Past the last it shows what it would if nothing was sent.
+pub fn panel(t: Table, c: usize) -> Panel
+    ensures { λ r. ⌜ r ≡ panelOf t c ⌝ }
+{
+    let messages = t.messages;
+    let i = numbers::index(c);
+    if Table::CONTROLLERS <= i {
+        return shown(0, messages, [0; 64]);
+    }
+    let x = t.controllers[i];
+    let applied = x.applied;
+    shown(t.count, messages, applied)
+}
+
+// A FINISHED SYNC
+
+fn finishing(member: bool, m: Message, c: u8) -> bool
+    ensures { λ r. ⌜ r ≡ (member && (eqb (m .payload .kind) 2 && eqb (m .sender) c)) ⌝ }
+{
+    member & ((m.payload.kind == Payload::SYNC) & (m.sender == c))
+}
+
+// Whether a sync of c is among the members.
+pub fn finishes(count: usize, messages: [Message; 64], members: [bool; 64], c: u8) -> bool
+    ensures { λ r. ⌜ r ≡ finishes (part 0 count messages) members c ⌝ }
+{
+    for s in 0..numbers::at_most(count, Table::MESSAGES) {
+        if finishing(members[s], messages[s], c) {
+            return true;
+        }
+    }
+    false
+}
