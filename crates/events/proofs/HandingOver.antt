@@ -31,7 +31,7 @@ use Rattle.naming.specs.Ordering.{padded}
 use Rattle.events.specs.declared.effects.Effect.{Effect}
 use Rattle.events.specs.Conditions.{OfRun}
 use Rattle.events.specs.Effects.{noSet, effectOf}
-use Rattle.events.proofs.Effects.{shown-panel}
+use Rattle.events.proofs.Subjects.{shown-panel}
 use Rattle.events.proofs.Applying.{deliver-none}
 
 -- THE DELIVERY RULE

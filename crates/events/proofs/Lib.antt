@@ -1,12 +1,12 @@
 pub mod Accepted
 pub mod Forwarding
 pub mod Applying
-pub mod Effects
+pub mod Subjects
 pub mod Asking
 pub mod Stepping
 pub mod HandingOver
 pub mod Looking
-pub mod Files
+pub mod Headers
 pub mod Turning
 pub mod Running
 pub mod Rest

@@ -32,7 +32,7 @@ use Rattle.events.specs.declared.files.Cursor.{Cursor}
 use Rattle.events.specs.declared.files.Advance.{Advance}
 use Rattle.events.specs.Effects.{Leaves, effectOf, Effected}
 use Rattle.events.specs.Turns.{progressOf, ended, Before, turned, Turned}
-use Rattle.events.proofs.Effects.{line-shown}
+use Rattle.events.proofs.Subjects.{line-shown}
 use Rattle.events.proofs.Asking.{allowed}
 
 -- a line that question 16 refuses does not fit, and one that it does not refuse fits

@@ -25,7 +25,7 @@ first-number [] w = inl refl
 first-number (q ∷ qs) w = cond-case (λ k. (k ≡ 0) ⊎ StepNumber k) (q .yes) (firstNo qs) (q .number) (λ _. first-number qs (w .1)) (λ _. inr (w .0))
 
 step-numbers : (t : Table) (s : List ℕ) (room : ℕ) (e : Event) → Numbers (recordQuestions s ++ (eventQuestions t e ++ (scratchRoom room ∷ [])))
-unfolding recordQuestions eventQuestions scratchRoom
+unfolding recordQuestions kindQuestions eventQuestions scratchRoom
 step-numbers t s room (Send c p) = omega arith
 step-numbers t s room (Handover r o) = omega arith
 step-numbers t s room (Stop c k) = omega arith

@@ -3,7 +3,7 @@ use mathlib.Core.Path.{refl}
 use Rattle.model.specs.Events.{appliedBy}
 use Rattle.events.specs.Effects.{after}
 use Rattle.events.proofs.Accepted.{sendable, stoppable}
-use Rattle.events.proofs.Effects.{quiet-effect}
+use Rattle.events.proofs.Subjects.{quiet-effect}
 use borrow.Author.Needs.{needs}
 use Rattle.events.proofs.effects.carry_out.Statement.{statement}
 use Rattle.events.proofs.effects.carry_out.Tie as tie

@@ -3,7 +3,7 @@ use native.Mathlib.Omega.{arith}
 use borrow.Author.Needs.{needs}
 use Rattle.events.specs.Effects.{subject}
 use Rattle.events.proofs.Accepted.{sendable}
-use Rattle.events.proofs.Effects.{subject-seated, sent-length, stored-send, stored-else}
+use Rattle.events.proofs.Subjects.{subject-seated, sent-length, stored-send, stored-else}
 use Rattle.events.proofs.effects.stored.Statement.{statement}
 use Rattle.events.proofs.effects.stored.Tie as tie
 

@@ -1,6 +1,6 @@
 -- `file_refusal` is the first no of questions 1 to 3. Assumes nothing.
 use borrow.Author.Tests.{not-true, not-false}
-use Rattle.events.proofs.Files.{length-refused, version-refused, count-refused, file-passed}
+use Rattle.events.proofs.Headers.{length-refused, version-refused, count-refused, file-passed}
 use borrow.Author.Needs.{needs}
 use Rattle.events.proofs.files.refusal_of.Statement.{statement}
 use Rattle.events.proofs.files.refusal_of.Tie as tie

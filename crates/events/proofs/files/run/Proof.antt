@@ -1,6 +1,6 @@
 -- `run_file` refuses a file by questions 1 to 3, or carries out its records. Assumes nothing.
 use mathlib.Core.Path.{sym, _∙_}
-use Rattle.events.proofs.Files.{run-refused, run-ran}
+use Rattle.events.proofs.Headers.{run-refused, run-ran}
 use borrow.Author.Needs.{needs}
 use Rattle.events.proofs.files.run.Statement.{statement}
 use Rattle.events.proofs.files.run.Tie as tie

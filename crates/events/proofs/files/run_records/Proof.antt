@@ -6,7 +6,7 @@ use native.Mathlib.Omega.{arith}
 use lib.ListN.{length}
 use Rattle.events.specs.Effects.{subject}
 use Rattle.events.proofs.Accepted.{sendable}
-use Rattle.events.proofs.Effects.{subject-seated, sent-length, stored-send, stored-else}
+use Rattle.events.proofs.Subjects.{subject-seated, sent-length, stored-send, stored-else}
 use Rattle.events.proofs.Running.{Running, scratch-size, listing-size, run-begins, run-fits, run-goes-on, run-further, run-ends}
 use borrow.Author.Needs.{needs}
 use Rattle.events.proofs.files.run_records.Statement.{statement}
