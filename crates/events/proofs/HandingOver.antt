@@ -1,12 +1,13 @@
 -- A handover: the set that the delivery rule answers is the definition's, and what the code stores is its answer. Assumes nothing.
 use mathlib.Core.Path.{_≡_, refl, sym, ap, _∙_}
-use mathlib.Core.Bool.{Bool, true, false, cond}
+use mathlib.Core.Bool.{Bool, true, false, _&&_, cond}
 use mathlib.Core.List.{List, []}
 use Prim.Native.Nat.{ℕ, zero, suc, _≤_, _<_}
 use native.Mathlib.Omega.{arith}
 use native.Mathlib.Decide.{ℕ-discrete}
 use lib.ListN.{length}
 use lib.Seq.{take-all}
+use lib.Dec.{eqb}
 use borrow.Author.Tests.{le-leb}
 use Rattle.lists.proofs.Tests.{cond-true, refuted, contradiction}
 use Rattle.lists.proofs.Clipped.{any-none}
@@ -61,19 +62,21 @@ names-are t S = names-part (t .count) t S
 unnamed : (k : ℕ) (t : Table) (S : Slots) → length (namesBelow k t S) ≡ 0 → (s : ℕ) → s < k → has S s ≡ false
 unfolding namesBelow
 unnamed zero t S e s h = absurd (omega arith)
-unnamed (suc k) t S e s h = go (has S k) refl e
+unnamed (suc k) t S e s h = go (has S k) refl e (λ n l. unnamed k t S n s l) (ℕ-discrete s k)
   where
-    go : (b : Bool) → has S k ≡ b → length (cond b (insert (nameOf (message t k)) (namesBelow k t S)) (namesBelow k t S)) ≡ 0 → has S s ≡ false
-    go true q n = absurd (omega (arith, length-insert (nameOf (message t k)) (namesBelow k t S)))
-    go false q n = split (ℕ-discrete s k) (λ l. unnamed k t S n s l)
-      where
-        split : Dec (s ≡ k) → (s < k → has S s ≡ false) → has S s ≡ false
-        split (yes p) f = rw p q
-        split (no p) f = f (omega (arith, p))
+    go : (b : Bool) → has S k ≡ b → length (cond b (insert (nameOf (message t k)) (namesBelow k t S)) (namesBelow k t S)) ≡ 0
+        → (length (namesBelow k t S) ≡ 0 → s < k → has S s ≡ false) → Dec (s ≡ k) → has S s ≡ false
+    go true q n f d = absurd (omega (arith, length-insert (nameOf (message t k)) (namesBelow k t S)))
+    go false q n f (yes p) = rw p q
+    go false q n f (no p) = f n (omega (arith, p))
 
 none-in : (t : Table) (S : Slots) → OfRun t S → length (namesOf t S) ≡ 0 → (s : ℕ) → has S s ≡ false
 unfolding namesOf
 none-in t S run e s = refuted (has S s) (λ m. contradiction m (unnamed (t .count) t S e s (run s m)))
+
+pub none-counted : (t : Table) (S : Slots) (a : Names) → a ≡ padded (namesOf (part 0 (t .count) (t .messages)) S) → a .size ≡ 0 → length (namesOf t S) ≡ 0
+unfolding padded
+none-counted t S a e n = sym (ap length (names-are t S)) ∙ (sym (ap (λ (b : Names). b .size) e) ∙ n)
 
 -- THE EFFECT
 
@@ -92,5 +95,5 @@ module _ (t : Table) (r o : ℕ) (z : Sized t) (h : Named seats r) (c : Controll
   unfolding effectOf noSet appliedBy subject after finishes
   handed-none u k run e b eb =
       let none = none-in t S run e in
-      rw (eb, ← es, sym (take-all 0 (namesOf t S) (omega (arith, e))), ← any-none (t .count) _ (λ s l. rw (none s) refl))
+      rw (eb, ← es, sym (take-all 0 (namesOf t S) (omega (arith, e))), ← any-none (t .count) (λ s. has S s && (eqb (message t s .payload .kind) 2 && eqb (message t s .sender) r)) (λ s l. rw (none s) refl))
       (ap (λ (x : Controller). record { answer = noSet 0; controller = x }) (deliver-none t c S (u .highest) (u .pending) (u .applied) k none ∙ rw ec refl))

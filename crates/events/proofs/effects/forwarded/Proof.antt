@@ -5,6 +5,13 @@ use Rattle.events.proofs.Forwarding.{passed, marked, buffered, room}
 use Rattle.events.proofs.effects.forwarded.Statement.{statement}
 use Rattle.events.proofs.effects.forwarded.Tie as tie
 
+-- PLACES: from behind the buffer's entry to the first test's other arm, and from there to the start
+abbrev above : tie.After-struct-known4 → tie.Else1
+above c = c .before .before
+
+abbrev start : tie.Else1 → tie.Start
+start c = c .before .before .before .before .before
+
 cast-seat : tie.Need-cast-seat
 cast-seat c = search needs
 
@@ -27,15 +34,15 @@ with-mark-requires : tie.Need-with-mark-requires
 with-mark-requires c κs = search needs
 
 returns-2 : tie.Need-returns-2
-returns-2 c = marked _ _ _ _ _ (c .before .before .before .before .before .if1 .left) (c .before .before .if2 .taken) _ (c .with-mark .ensures)
+returns-2 c = marked _ _ _ _ _ (above (c .before .before .before) .if1 .left) (c .before .before .if2 .taken) _ (c .with-mark .ensures)
 
 buffered-requires : tie.Need-buffered-requires
 buffered-requires c κs =
-    let r = c .before .before .before .before .before .before .before .before .pre in
-    (room _ _ _ _ _ r (c .before .before .before .if1 .left) (c .if2 .left), r .slot, r .owner-low, r .owner-high, omega arith)
+    let r = start (above (c .before)) .pre in
+    (room _ _ _ _ _ r (above (c .before) .if1 .left) (c .if2 .left), r .slot, r .owner-low, r .owner-high, omega arith)
 
 returns-3 : tie.Need-returns-3
-returns-3 c = buffered _ _ _ _ _ (c .before .before .before .before .if1 .left) (c .before .if2 .left) _ (c .buffered .ensures)
+returns-3 c = buffered _ _ _ _ _ (above (c .before .before) .if1 .left) (c .before .if2 .left) _ (c .buffered .ensures)
 
 pub forwarded-spec : {M : Type 1} → statement M
 forwarded-spec =

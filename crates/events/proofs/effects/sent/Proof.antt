@@ -2,6 +2,7 @@
 use mathlib.Core.Path.{ap}
 use native.Mathlib.Omega.{arith}
 use borrow.Author.Needs.{needs}
+use Rattle.model.specs.Events.{sent}
 use Rattle.model.specs.declared.Controller.{Controller}
 use Rattle.events.proofs.effects.sent.Statement.{statement}
 use Rattle.events.proofs.effects.sent.Tie as tie
@@ -19,6 +20,7 @@ buffered-requires c κs =
     (omega arith, h .2, h .0, h .1, omega arith)
 
 returns : tie.Need-returns
+unfolding sent
 returns c = rw (c .buffered .ensures, c .before .before .at .ensures)
 
 pub sent-spec : {M : Type 1} → statement M

@@ -1,6 +1,6 @@
 -- `subject` is the controller that an event changes. Assumes nothing.
 use mathlib.Core.Path.{refl}
-use Rattle.events.specs.Effects.{subject}
+use Rattle.model.specs.Events.{subject}
 use borrow.Author.Needs.{needs}
 use Rattle.events.proofs.effects.subject.Statement.{statement}
 use Rattle.events.proofs.effects.subject.Tie as tie

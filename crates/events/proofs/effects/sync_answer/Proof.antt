@@ -1,7 +1,6 @@
 -- `sync_answer` is what the panel shows, where a sync is finished. Assumes nothing.
 use mathlib.Core.Path.{refl}
 use borrow.Author.Needs.{needs}
-use Rattle.questions.proofs.Signed.{returned}
 use Rattle.events.proofs.effects.sync_answer.Statement.{statement}
 use Rattle.events.proofs.effects.sync_answer.Tie as tie
 
@@ -9,7 +8,7 @@ shown-requires : tie.Need-shown-requires
 shown-requires c κs = search needs
 
 returns : tie.Need-returns
-returns c = rw (returned (c .shown .result) (c .shown .ok), c .before .if1 .taken) (c .shown .ensures)
+returns c = rw (c .before .if1 .taken) (c .shown .ensures)
 
 returns-2 : tie.Need-returns-2
 returns-2 c = rw (c .if1 .left) refl
