@@ -1,14 +1,14 @@
 -- The questions of a step, put to a record that was read: in the code's order they give the definition's number. Assumes nothing.
-use mathlib.Core.Path.{_≡_, refl, sym, _∙_}
+use mathlib.Core.Path.{_≡_, refl, sym, ap, _∙_}
 use mathlib.Core.Logic.{_≢_, inl, inr}
 use mathlib.Core.Bool.{Bool, true, false, cond}
 use mathlib.Core.List.{List, [], _∷_, _++_}
-use Prim.Native.Nat.{ℕ, _≤_, _<_}
+use Prim.Native.Nat.{ℕ, _+_, _≤_, _<_}
 use lib.Dec.{eqb}
 use borrow.Author.Tests.{eqb-true, eqb-false, eq-eqb, ne-eqb, le-leb, lt-leb}
 use Rattle.lists.proofs.Tests.{cond-true, cond-false, decided}
 use Rattle.model.specs.Tables.{scratchSize}
-use Rattle.model.specs.Records.{decode}
+use Rattle.model.specs.Records.{size, decode}
 use Rattle.model.specs.WellFormed.{wellFormed}
 use Rattle.model.specs.Questions.{Question, firstNo, recordQuestions, eventQuestions, scratchRoom, stepQuestions}
 use Rattle.model.specs.declared.Table.{Table}
@@ -35,6 +35,17 @@ first-passed none rs e = refl
 first-passed (more {k = k} {b = b} {qs = qs} n) rs e =
     let q = no-no k b qs e in
     rw (q .0) (first-passed n rs (q .1))
+
+-- THE RECORD
+
+pub event-read : (s : List ℕ) (r : Record) → r ≡ recordOf s → r .event ≡ decode s
+unfolding recordOf
+event-read s r e = ap (λ (x : Record). x .event) e
+
+-- a record that no question refuses takes the bytes that its length byte counts, and that byte
+pub used-read : (t : Table) (s : List ℕ) (room : ℕ) (r : Record) → r ≡ recordOf s → firstNo (stepQuestions t s room) ≡ 0 → r .used ≡ size s + 1
+unfolding recordOf
+used-read t s room r e z = ap (λ (x : Record). x .used) e ∙ cond-true _ _ (eq-eqb (firstNo (recordQuestions s)) 0 (step-asked t s room z .0))
 
 -- IN THE CODE'S ORDER
 

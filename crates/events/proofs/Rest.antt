@@ -10,10 +10,10 @@ use Rattle.model.specs.Questions.{firstNo, lentTable, stepQuestions}
 use Rattle.model.specs.Calls.{Outcome, accepted, refused, event}
 use Rattle.model.specs.declared.Table.{Table}
 use Rattle.model.proofs.Steps.{settled-case}
-use Rattle.events.specs.Stepped.{steppedOf, stepped}
+use Rattle.events.specs.Stepped.{steppedOf}
 
-pub rest-handed-back : (t : Table) (s : List ℕ) (room : ℕ) → drop (stepped t s room .used) s ≡ event t s room .answer .rest
-unfolding stepped event steppedOf accepted refused behind
+pub rest-handed-back : (t : Table) (s : List ℕ) (room : ℕ) → drop (steppedOf (event t s room) s .used) s ≡ event t s room .answer .rest
+unfolding event steppedOf accepted refused behind
 rest-handed-back t s room =
     let k = firstNo (lentTable t ∷ stepQuestions t s room) in
     settled-case (λ (o : Outcome). drop (steppedOf o s .used) s ≡ o .answer .rest) t s k (λ _. refl) (λ n. rw (ne-eqb k 0 n) refl)

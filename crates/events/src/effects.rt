@@ -167,8 +167,8 @@ fn delivered(t: Table, c: Controller, members: [bool; 64]) -> Controller
 
 // What an event answers, and the controller that it changes, afterwards.
 pub(crate) struct Effect {
-    answer: Answer,
-    controller: Controller,
+    pub(crate) answer: Answer,
+    pub(crate) controller: Controller,
 }
 
 // The answer of a refusal, or of an event that applies nothing.

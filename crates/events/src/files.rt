@@ -72,9 +72,9 @@ fn turn(cursor: Cursor, t: Table, left: &[u8], listing: &mut [u8], scratch: &mut
     ensures { λ r. ⌜ Turned cursor t (now (left .entry)) (now (listing .entry)) (now (scratch .entry)) r (now (listing .exit)) (now (scratch .exit)) ⌝ }
 {
     let start = cursor.written;
-    let record = records::read_record(left);
-    let event = record.event;
-    let number = crate::refusal_of(t, record, scratch.len());
+    let found = records::read_record(left);
+    let event = found.event;
+    let number = crate::refusal_of(t, found, scratch.len());
     if number != 0 {
         return Advance {
             cursor: ended(cursor, number),
@@ -101,7 +101,7 @@ fn turn(cursor: Cursor, t: Table, left: &[u8], listing: &mut [u8], scratch: &mut
             events: cursor.events + 1,
             written: start + put.written,
         },
-        used: record.used,
+        used: found.used,
         event,
         controller,
     }
