@@ -3,9 +3,7 @@ use mathlib.Core.Path.{_≡_, refl, sym, _∙_}
 use mathlib.Core.Bool.{Bool, true, false, not}
 use mathlib.Core.List.{List, [], _∷_}
 use Prim.Native.Nat.{ℕ}
-use native.Mathlib.Omega.{arith}
-use borrow.Author.Tests.{not-true, not-false, lt-ltb}
-use Rattle.model.specs.Tables.{yes?}
+use borrow.Author.Tests.{not-true, not-false}
 use Rattle.model.specs.Questions.{Question, ask, firstNo}
 
 pub refused : (k : ℕ) (qs : List Question) {b : Bool} → b ≡ false → k ≡ firstNo (ask k b ∷ qs)
@@ -27,7 +25,3 @@ seen-no {r} e t = sym e ∙ not-true r t
 
 pub seen-yes : {r b : Bool} → r ≡ b → not r ≡ false → b ≡ true
 seen-yes {r} e t = sym e ∙ not-false r t
-
--- a flag that the test `== 0` did not take
-pub flagged : {f : ℕ} → (f ≡ 0 → ⊥) → yes? f ≡ true
-flagged {f} h = lt-ltb 0 f (omega (arith, h))

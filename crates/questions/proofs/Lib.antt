@@ -1,4 +1,2 @@
 pub mod Answers
 pub mod Controllers
-pub mod Signed
-pub mod Weights

@@ -5,29 +5,40 @@ use mathlib.Core.Bool.{false, _&&_}
 use Prim.Native.Nat.{ℕ, _-_, _≤_, _<_}
 use native.Mathlib.Nat.{not-suc-le-zero}
 use native.Mathlib.Omega.{arith}
-use lib.ListN.{getD}
+use lib.ListN.{length, getD}
 use lib.Dec.{eqb}
 use borrow.Author.Count.{below-more}
 use borrow.Author.Needs.{needs}
 use Rattle.lists.proofs.Clipped.{below-past, any-found, any-none}
-use Rattle.model.specs.Tables.{yes?, entry, noMessage}
-use Rattle.questions.proofs.Weights.{own-past}
+use Rattle.model.specs.Tables.{capacity, yes?, entry, noMessage}
+use Rattle.questions.specs.Arrays.{ownAmong}
+use Rattle.questions.proofs.Controllers.{own-past}
 use Rattle.questions.proofs.any_own.Statement.{statement}
 use Rattle.questions.proofs.any_own.Tie as tie
 
 abbrev Inv-loop : tie.InvT-loop
-Inv-loop sent c pending messages end s₀ s =
-    (s ≤ end)
+Inv-loop count c messages pending s₀ s-end s =
+    (s ≤ s-end)
     × ((j : ℕ) → j < s → (yes? (entry pending j .held) && eqb (getD messages j noMessage .sender) c) ≡ false)
 
 abbrev μ-loop : tie.MeasureT-loop
-μ-loop sent c pending messages end s₀ s = end - s
+μ-loop count c messages pending s₀ s-end s = s-end - s
+
+-- from a turn to the entry, and from behind its test to the turn
+abbrev entered : tie.At-loop Inv-loop μ-loop → tie.Start Inv-loop μ-loop
+entered c = c .before .before
+
+abbrev turn : tie.After-own Inv-loop μ-loop → tie.At-loop Inv-loop μ-loop
+turn c = c .before .before .before .before
+
+long : (c : tie.At-loop Inv-loop μ-loop) → length (entered c .args .t3) ≡ capacity
+long c = entered c .good .1 .1 .0 .1 .0 .1
 
 at-most-requires : tie.Need-at-most-requires Inv-loop μ-loop
 at-most-requires c κs = search needs
 
 loop-holds : tie.Need-loop-holds Inv-loop μ-loop
-loop-holds c = (omega arith, (λ j h. absurd (not-suc-le-zero h)))
+loop-holds c = (omega arith, λ j h. absurd (not-suc-le-zero h))
 
 mul-own : tie.Need-mul-own Inv-loop μ-loop
 mul-own c = search needs
@@ -45,9 +56,8 @@ own-requires : tie.Need-own-requires Inv-loop μ-loop
 own-requires c κs = search needs
 
 returns : tie.Need-returns Inv-loop μ-loop
-returns c =
-    any-found _ _ (c .before .before .before .before .before .loop .s) (omega arith)
-    (sym (c .before .own .ensures) ∙ c .if1 .taken)
+unfolding ownAmong
+returns c = any-found _ _ (turn (c .before) .loop .s) (omega arith) (sym (c .before .own .ensures) ∙ c .if1 .taken)
 
 add-s : tie.Need-add-s Inv-loop μ-loop
 add-s c = search needs
@@ -56,17 +66,14 @@ loop-less : tie.Need-loop-less Inv-loop μ-loop
 loop-less c = search needs
 
 loop-again : tie.Need-loop-again Inv-loop μ-loop
-loop-again c = (
-  omega arith,
-  below-more _ _ (c .before .before .before .before .before .loop .inv .1)
-      (sym (c .before .own .ensures) ∙ c .if1 .left),
-)
+loop-again c = (omega arith, below-more _ _ (turn (c .before) .loop .inv .1) (sym (c .before .own .ensures) ∙ c .if1 .left))
 
 returns-2 : tie.Need-returns-2 Inv-loop μ-loop
+unfolding ownAmong
 returns-2 c =
+    let k = c .before in
     any-none _ _
-    (below-past _ _ 64 (c .before .before .at-most .result) (c .before .before .at-most .ensures) (λ j h. c .before .loop .inv .1 j (omega arith))
-    (λ j h. own-past (c .before .before .before .args .t1) _ j (c .before .before .before .good .0 .1 .0 .1) h))
+    (below-past _ _ capacity _ (k .before .at-most .ensures) (λ j h. k .loop .inv .1 j (omega arith)) (λ j h. own-past (entered k .args .t3) (long k) j h _))
 
 pub any-own-spec : {M : Type 1} → statement M
 any-own-spec =

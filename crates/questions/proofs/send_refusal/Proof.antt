@@ -1,13 +1,61 @@
 -- The questions of a report or sync, in order. Assumes nothing.
-use mathlib.Core.Path.{sym, ap, _∙_}
-use mathlib.Core.Bool.{not}
+use mathlib.Core.Path.{_≡_, sym, ap, _∙_}
+use mathlib.Core.Bool.{true, false, not}
 use borrow.Author.Needs.{needs}
 use borrow.Author.Tests.{lt-ltb, le-ltb}
-use Rattle.model.specs.WellFormed.{named}
-use Rattle.model.specs.Questions.{eventQuestions}
+use Rattle.model.specs.Tables.{yes?, at}
+use Rattle.model.specs.Sized.{Sized}
+use Rattle.model.specs.WellFormed.{named, fairAmount}
+use Rattle.model.specs.Questions.{ownPending, eventQuestions}
+use Rattle.model.proofs.Owned.{table-sized}
 use Rattle.questions.proofs.Answers.{answered, refused, accepted, seen-yes, seen-no}
+use Rattle.questions.proofs.Controllers.{stopped-past, stopped, running, own-pending}
 use Rattle.questions.proofs.send_refusal.Statement.{statement}
 use Rattle.questions.proofs.send_refusal.Tie as tie
+
+-- from behind question 8 to the entry, from behind 9 to 8, from behind the controller's index to 9, from behind 10 to the
+-- index, and from behind the search to 10
+abbrev entered : tie.Else1 → tie.Start
+entered c = c .before .before
+
+abbrev known : tie.Else2 → tie.Else1
+known c = c .before .before
+
+abbrev fair : tie.After-index → tie.Else2
+fair c = c .before
+
+abbrev indexed : tie.After-x → tie.After-index
+indexed c = c .before .before
+
+abbrev runs : tie.After-any-own → tie.Else4
+runs c = c .before .before .before
+
+-- from behind the index to the entry
+abbrev started : tie.After-index → tie.Start
+started c = entered (known (fair c))
+
+sized : (c : tie.After-index) → Sized (started c .args .t1)
+sized c = table-sized (started c .args .t1) _ (started c .good .0)
+
+-- WHAT WAS ANSWERED YES
+
+sender-named : (c : tie.Else1) → named (entered c .args .t1) (entered c .args .sender) ≡ true
+unfolding named
+sender-named c = seen-yes (c .before .named .ensures) (c .if1 .left)
+
+amount-fair : (c : tie.Else2) → fairAmount (entered (known c) .args .payload) ≡ true
+amount-fair c = seen-yes (c .before .fair .ensures) (c .if2 .left)
+
+sender-runs : (c : tie.Else4) → let s = started (indexed (c .before)) .args in yes? (at (s .t1) (s .sender) .running) ≡ true
+sender-runs c = running (started (indexed (c .before)) .args .t1) _ _ (indexed (c .before) .index .ensures) (c .if4 .left)
+
+-- the answer of question 11
+own-answered : (c : tie.After-any-own) → let s = started (indexed (runs c .before)) .args in c .any-own .result ≡ ownPending (s .t1) (s .sender)
+own-answered c =
+    let k = indexed (runs c .before) in
+    own-pending (started k .args .t1) _ _ (k .index .ensures) _ (c .any-own .ensures)
+
+-- NEEDS
 
 named-requires : tie.Need-named-requires
 named-requires c κs = search needs
@@ -20,50 +68,63 @@ fair-requires : tie.Need-fair-requires
 fair-requires c κs = search needs
 
 returns-2 : tie.Need-returns-2
-unfolding eventQuestions named
-returns-2 c =
-    answered _ _ (seen-yes (c .before .before .before .named .ensures) (c .before .before .if1 .left))
-    (refused _ _ (seen-no (c .before .fair .ensures) (c .if2 .taken)))
+unfolding eventQuestions
+returns-2 c = answered _ _ (sender-named (c .before .before)) (refused _ _ (seen-no (c .before .fair .ensures) (c .if2 .taken)))
 
-running-requires : tie.Need-running-requires
-running-requires c κs = search needs
+index-requires : tie.Need-index-requires
+index-requires c κs = search needs
 
 returns-3 : tie.Need-returns-3
-unfolding eventQuestions named
+unfolding eventQuestions
 returns-3 c =
-    answered _ _ (seen-yes (c .before .before .before .before .before .named .ensures) (c .before .before .before .before .if1 .left))
-    (answered _ _ (seen-yes (c .before .before .before .fair .ensures) (c .before .before .if2 .left))
-    (refused _ _ (seen-no (c .before .running .ensures) (c .if3 .taken))))
+    let k = c .before in
+    answered _ _ (sender-named (known (fair k)))
+    (answered _ _ (amount-fair (fair k)) (refused _ _ (stopped-past _ _ _ (k .index .ensures) (sized k) (c .if3 .taken))))
 
-own-pending-requires : tie.Need-own-pending-requires
-own-pending-requires c κs = search needs
+mul-x : tie.Need-mul-x
+mul-x c = search needs
+
+element-copy-out-x : tie.Need-element-copy-out-x
+element-copy-out-x c = search needs
 
 returns-4 : tie.Need-returns-4
-unfolding eventQuestions named
+unfolding eventQuestions
 returns-4 c =
-    answered _ _ (seen-yes (c .before .before .before .before .before .before .before .named .ensures) (c .before .before .before .before .before .before .if1 .left))
-    (answered _ _ (seen-yes (c .before .before .before .before .before .fair .ensures) (c .before .before .before .before .if2 .left))
-    (answered _ _ (seen-yes (c .before .before .before .running .ensures) (c .before .before .if3 .left))
-    (refused _ _ (sym (ap not (c .before .own-pending .ensures)) ∙ ap not (c .if4 .taken)))))
+    let k = indexed (c .before) in
+    answered _ _ (sender-named (known (fair k)))
+    (answered _ _ (amount-fair (fair k)) (refused _ _ (stopped (started k .args .t1) _ _ (k .index .ensures) (c .if4 .taken))))
+
+any-own-requires : tie.Need-any-own-requires
+any-own-requires c κs = search needs
 
 returns-5 : tie.Need-returns-5
-unfolding eventQuestions named
+unfolding eventQuestions
 returns-5 c =
-    answered _ _ (seen-yes (c .before .before .before .before .before .before .before .before .before .named .ensures) (c .before .before .before .before .before .before .before .before .if1 .left))
-    (answered _ _ (seen-yes (c .before .before .before .before .before .before .before .fair .ensures) (c .before .before .before .before .before .before .if2 .left))
-    (answered _ _ (seen-yes (c .before .before .before .before .before .running .ensures) (c .before .before .before .before .if3 .left))
-    (answered _ _ (sym (ap not (c .before .before .before .own-pending .ensures)) ∙ ap not (c .before .before .if4 .left))
-    (refused _ _ (le-ltb _ _ (c .if5 .taken))))))
+    let x = runs (c .before) in
+    let k = indexed (x .before) in
+    answered _ _ (sender-named (known (fair k)))
+    (answered _ _ (amount-fair (fair k))
+    (answered _ _ (sender-runs x) (refused _ _ (ap not (sym (own-answered (c .before)) ∙ c .if5 .taken)))))
 
 returns-6 : tie.Need-returns-6
-unfolding eventQuestions named
+unfolding eventQuestions
 returns-6 c =
-    answered _ _ (seen-yes (c .before .before .before .before .before .before .before .before .before .named .ensures) (c .before .before .before .before .before .before .before .before .if1 .left))
-    (answered _ _ (seen-yes (c .before .before .before .before .before .before .before .fair .ensures) (c .before .before .before .before .before .before .if2 .left))
-    (answered _ _ (seen-yes (c .before .before .before .before .before .running .ensures) (c .before .before .before .before .if3 .left))
-    (answered _ _ (sym (ap not (c .before .before .before .own-pending .ensures)) ∙ ap not (c .before .before .if4 .left))
-    (answered _ _ (lt-ltb _ _ (c .if5 .left))
-    accepted))))
+    let x = runs (c .before .before) in
+    let k = indexed (x .before) in
+    answered _ _ (sender-named (known (fair k)))
+    (answered _ _ (amount-fair (fair k))
+    (answered _ _ (sender-runs x)
+    (answered _ _ (ap not (sym (own-answered (c .before .before)) ∙ c .before .if5 .left)) (refused _ _ (le-ltb _ _ (c .if6 .taken))))))
+
+returns-7 : tie.Need-returns-7
+unfolding eventQuestions
+returns-7 c =
+    let x = runs (c .before .before) in
+    let k = indexed (x .before) in
+    answered _ _ (sender-named (known (fair k)))
+    (answered _ _ (amount-fair (fair k))
+    (answered _ _ (sender-runs x)
+    (answered _ _ (ap not (sym (own-answered (c .before .before)) ∙ c .before .if5 .left)) (answered _ _ (lt-ltb _ _ (c .if6 .left)) accepted))))
 
 pub send-refusal-spec : {M : Type 1} → statement M
 send-refusal-spec =
@@ -73,9 +134,12 @@ send-refusal-spec =
     returns
     fair-requires
     returns-2
-    running-requires
+    index-requires
     returns-3
-    own-pending-requires
+    mul-x
+    element-copy-out-x
     returns-4
+    any-own-requires
     returns-5
-    returns-6)
+    returns-6
+    returns-7)
