@@ -6,3 +6,4 @@ pub mod Grow
 pub mod Loops
 pub mod Clipped
 pub mod Stores
+pub mod Every

@@ -1,17 +1,18 @@
 -- How many names one name more makes, and none of no set; how many bytes numbers, names and lines take. Assumes nothing.
 use mathlib.Core.Path.{_≡_, refl, ap}
 use mathlib.Core.List.{List, [], _∷_, _++_}
-use Prim.Native.Nat.{ℕ, zero, suc, _+_, _*_, _/_, _%_, _≤_}
+use Prim.Native.Nat.{ℕ, zero, suc, _+_, _*_, _^_, _≤_, _<_}
 use native.Mathlib.Omega.{arith}
 use lib.ListN.{length, length-append}
-use lib.IntN.{ℤ, pos, negsuc}
-use lib.Dec.{ltb}
+use lib.IntN.{ℤ, pos, negsuc, natAbs}
 use Rattle.lists.proofs.Tests.{cond-case}
+use Rattle.lists.proofs.Every.{Every}
 use Rattle.model.specs.Events.{earlier, insert, namesBelow, namesOf}
-use Rattle.model.specs.Runs.{digits, decimal, signed, listed, line}
+use Rattle.model.specs.Runs.{decimal, signed, listed, line, header, footer}
 use Rattle.model.specs.declared.Name.{Name}
 use Rattle.model.specs.declared.Panel.{Panel}
 use Rattle.model.specs.declared.Table.{Table}
+use Rattle.model.proofs.Decimals.{decimal-bound}
 
 -- NAMES
 
@@ -32,33 +33,28 @@ none-named t = no-names (t .count) t
 
 -- BYTES
 
-digits-bound : (f x : ℕ) → length (digits f x) ≤ f
-unfolding digits
-digits-bound zero x = omega arith
-digits-bound (suc f) x =
-    cond-case (λ (l : List ℕ). length l ≤ suc f) (ltb x 10) ((48 + x) ∷ []) _ (λ _. omega arith)
-    (λ _. omega (arith, digits-bound f (x / 10), length-append (digits f (x / 10)) ((48 + x % 10) ∷ [])))
-
-pub decimal-bound : (x : ℕ) → length (decimal x) ≤ 5
-unfolding decimal
-decimal-bound x = digits-bound 5 x
-
-pub signed-bound : (x : ℤ) → length (signed x) ≤ 6
+pub signed-bound : (k : ℕ) (x : ℤ) → natAbs x < 10 ^ suc k → length (signed x) ≤ suc (suc k)
 unfolding signed
-signed-bound (pos x) = omega (arith, decimal-bound x)
-signed-bound (negsuc x) = omega (arith, decimal-bound (suc x))
+signed-bound k (pos x) h = omega (arith, decimal-bound k x h)
+signed-bound k (negsuc x) h = omega (arith, decimal-bound k (suc x) h)
 
-pub names-bound : (ms : List Name) → length (listed ms) ≤ 12 * length ms
-unfolding listed
-names-bound [] = omega arith
-names-bound (m ∷ ms) =
+-- a name whose numbers have at most three digits, as bytes have
+pub record SmallName (m : Name) : Type 0 where
+  pub sender : m .sender < 1000
+  pub number : m .number .0 < 1000
+
+pub names-bound : (ms : List Name) → Every SmallName ms → length (listed ms) ≤ 8 * length ms
+unfolding listed Every
+names-bound [] h = omega arith
+names-bound (m ∷ ms) h =
+    let b = h .0 in
     omega (
       arith,
       length-append (32 ∷ decimal (m .sender)) ((46 ∷ decimal (m .number .0)) ++ listed ms),
       length-append (46 ∷ decimal (m .number .0)) (listed ms),
-      decimal-bound (m .sender),
-      decimal-bound (m .number .0),
-      names-bound ms,
+      decimal-bound 2 (m .sender) (b .sender),
+      decimal-bound 2 (m .number .0) (b .number),
+      names-bound ms (h .1),
     )
 
 pub length-line : (e c : ℕ) (p : Panel) (ms : List Name)
@@ -71,4 +67,20 @@ length-line e c p ms =
       length-append (32 ∷ decimal c) ((32 ∷ signed (p .total)) ++ (listed ms ++ (10 ∷ []))),
       length-append (32 ∷ signed (p .total)) (listed ms ++ (10 ∷ [])),
       length-append (listed ms) (10 ∷ []),
+    )
+
+-- the lines around the listing, of numbers that are bytes and words
+pub header-bound : (n : ℕ) → n < 256 → length (header n) ≤ 16
+unfolding header
+header-bound n h = omega (arith, decimal-bound 2 n (omega arith), length-append (decimal n) (10 ∷ []))
+
+pub footer-bound : (e k : ℕ) → e < 2 ^ 64 → k < 256 → length (footer e k) ≤ 29
+unfolding footer
+footer-bound e k h l =
+    omega (
+      arith,
+      decimal-bound 19 e (omega arith),
+      decimal-bound 2 k (omega arith),
+      length-append (decimal e) ((32 ∷ decimal k) ++ (10 ∷ [])),
+      length-append (32 ∷ decimal k) (10 ∷ []),
     )

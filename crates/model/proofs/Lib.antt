@@ -1,6 +1,7 @@
 pub mod Tested
 pub mod Allowed
 pub mod Steps
+pub mod Decimals
 pub mod Lengths
 pub mod Runs
 pub mod Largest

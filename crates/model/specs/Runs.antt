@@ -18,13 +18,13 @@ use Rattle.model.specs.declared.RunAnswer.{RunAnswer}
 
 -- THE LISTING
 
--- a number below 100,000 in decimal, without leading zeros; f is 5
+-- a number in decimal, without leading zeros; f is any number above it
 unfoldable pub digits : ℕ → ℕ → List ℕ
 digits zero x = []
 digits (suc f) x = cond (ltb x 10) ((48 + x) ∷ []) (digits f (x / 10) ++ ((48 + x % 10) ∷ []))
 
 unfoldable pub decimal : ℕ → List ℕ
-decimal x = digits 5 x
+decimal x = digits (suc x) x
 
 -- with a minus sign, byte 45, before a negative number
 unfoldable pub signed : ℤ → List ℕ
