@@ -1,4 +1,3 @@
-pub mod Decimals
 pub mod Storing
 pub mod Signs
 pub mod Names

@@ -1,14 +1,20 @@
 -- A line's parts, the line of a set that an array holds, and the lines around the listing. Assumes nothing.
 use mathlib.Core.Path.{_≡_, refl, sym, ap, _∙_}
 use mathlib.Core.List.{List, [], _∷_, _++_, append-assoc}
-use Prim.Native.Nat.{ℕ, zero, suc, _+_, min, _<_}
+use Prim.Native.Nat.{ℕ, zero, suc, _+_, _^_, min, _≤_, _<_}
 use native.Mathlib.Omega.{arith}
 use native.Mathlib.Decide.{decLt}
-use lib.ListN.{length, take, length-append, length-take}
+use lib.ListN.{length, take, length-take}
 use lib.Seq.{take-all}
 use lib.IntN.{ℤ}
+use mir.Syntax.{w32}
+use mir.Val.{SFits}
+use Rattle.lists.proofs.Every.{Every}
 use Rattle.model.specs.Runs.{decimal, signed, listed, line, lineOf, header, footer}
 use Rattle.model.specs.declared.Name.{Name}
+use Rattle.model.proofs.Decimals.{decimal-bound}
+use Rattle.model.proofs.Lengths.{SmallName, signed-bound, names-bound, length-line}
+use Rattle.listing.proofs.Signs.{magnitude-bound}
 
 regroup : (a b k s l z : List ℕ) → ((((a ++ b) ++ k) ++ s) ++ l) ++ z ≡ a ++ (b ++ ((k ++ s) ++ (l ++ z)))
 regroup a b k s l z = simp append-assoc
@@ -40,20 +46,25 @@ unfolding lineOf
 no-line e c x ms k zero h z = refl
 no-line e c x ms k (suc size) h z = absurd (omega arith)
 
+-- the longest line
+pub line-room : (e c : ℕ) (x : ℤ) (ms : List Name) → e < 2 ^ 64 → c < 256 → SFits w32 x → length ms ≤ 64 → Every SmallName ms
+    → length (line e c x ms) ≤ 549
+line-room e c x ms he hc hx hl hs =
+    omega (
+      arith,
+      length-line e c x ms,
+      decimal-bound 19 e (omega arith),
+      decimal-bound 2 c (omega arith),
+      signed-bound 9 x (omega (arith, magnitude-bound x hx)),
+      names-bound ms hs,
+    )
+
 -- THE LINES AROUND THE LISTING
 
-pub header-parts : (n : ℕ) → ((99 ∷ 111 ∷ 110 ∷ 116 ∷ 114 ∷ 111 ∷ 108 ∷ 108 ∷ 101 ∷ 114 ∷ 115 ∷ 32 ∷ []) ++ decimal n) ++ (10 ∷ []) ≡ header n
+pub header-parts : (n : ℕ) → ((99 ∷ 111 ∷ 110 ∷ 116 ∷ 114 ∷ 111 ∷ 108 ∷ 108 ∷ 101 ∷ 114 ∷ 115 ∷ []) ++ (32 ∷ decimal n)) ++ (10 ∷ []) ≡ header n
 unfolding header
 header-parts n = refl
 
-pub length-header : (n : ℕ) → length (header n) ≡ length (decimal n) + 13
-unfolding header
-length-header n = omega (arith, length-append (decimal n) (10 ∷ []))
-
-pub footer-parts : (e k : ℕ) → (((101 ∷ 110 ∷ 100 ∷ 32 ∷ []) ++ decimal e) ++ (32 ∷ decimal k)) ++ (10 ∷ []) ≡ footer e k
+pub footer-parts : (e k : ℕ) → (((101 ∷ 110 ∷ 100 ∷ []) ++ (32 ∷ decimal e)) ++ (32 ∷ decimal k)) ++ (10 ∷ []) ≡ footer e k
 unfolding footer
 footer-parts e k = simp append-assoc
-
-pub length-footer : (e k : ℕ) → length (footer e k) ≡ length (decimal e) + length (decimal k) + 6
-unfolding footer
-length-footer e k = omega (arith, length-append (decimal e) ((32 ∷ decimal k) ++ (10 ∷ [])), length-append (32 ∷ decimal k) (10 ∷ []))

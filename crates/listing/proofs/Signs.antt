@@ -2,13 +2,13 @@
 use mathlib.Core.Path.{_≡_, refl, sym, ap, subst, _∙_}
 use mathlib.Core.Bool.{Bool, true, false, true≢false}
 use mathlib.Core.List.{_∷_}
-use Prim.Native.Nat.{ℕ, suc, _<_}
+use Prim.Native.Nat.{ℕ, suc, _≤_}
 use native.Mathlib.Nat.{zero-add}
 use native.Mathlib.Omega.{arith}
 use borrow.Author.Tests.{ltb-true}
 use lib.Dec.{T}
 use lib.IntN.{ℤ, pos, negsuc, natAbs, _-ℤ_}
-use lib.Signed.{ltZ, nonNeg, mag}
+use lib.Signed.{ltZ, nonNeg}
 use mir.Syntax.{w32, w64}
 use mir.Val.{SFits, Fits, toZ, ofZ}
 use mir.Facts.{toZ-ofZ, sfits-widen, fits-natAbs}
@@ -60,15 +60,15 @@ negated-is x f e =
     go (pos n) e = absurd (omega (arith, ltb-true n 0 e))
     go (negsuc n) e = ap pos (zero-add (suc n))
 
+pub magnitude-bound : (x : ℤ) → SFits w32 x → natAbs x ≤ 2147483648
+magnitude-bound (pos n) f = omega (arith, f .sfits)
+magnitude-bound (negsuc n) f = omega (arith, f .sfits)
+
 pub magnitude-fits : (x : ℤ) → SFits w32 x → Fits w64 (natAbs x)
 magnitude-fits x f = fits-natAbs {w = w32} {w′ = w64} {z = x} tt f
 
 pub negated-fits : (x : ℤ) → SFits w32 x → negative x ≡ true → SFits w64 (negated x)
-negated-fits x f e = subst (SFits w64) (sym (negated-is x f e)) (record { sfits = go x (f .sfits) })
-  where
-    go : (x : ℤ) → mag x < 2147483648 → natAbs x < 9223372036854775808
-    go (pos n) h = omega arith
-    go (negsuc n) h = omega arith
+negated-fits x f e = subst (SFits w64) (sym (negated-is x f e)) (record { sfits = omega (arith, magnitude-bound x f) })
 
 pub negated-magnitude : (x : ℤ) → SFits w32 x → negative x ≡ true → toZ w64 (ofZ w64 (negated x)) ≡ pos (natAbs x)
 negated-magnitude x f e = toZ-ofZ {w = w64} {z = negated x} (negated-fits x f e) ∙ negated-is x f e

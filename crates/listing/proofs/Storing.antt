@@ -1,15 +1,14 @@
 -- Laws of bytes stored from a place on. Assumes nothing.
 use mathlib.Core.Path.{_≡_, refl, sym, ap, _∙_}
 use mathlib.Core.List.{List, [], _∷_, _++_}
-use Prim.Native.Nat.{ℕ, zero, suc, _+_, _/_, _%_, _≤_, _<_}
-use native.Mathlib.Nat.{zero-add, add-zero, not-suc-le-zero}
+use Prim.Native.Nat.{ℕ, suc, _+_, _≤_, _<_}
+use native.Mathlib.Nat.{zero-add, add-zero}
 use native.Mathlib.Numerals.{add-one}
 use native.Mathlib.Omega.{arith}
 use lib.ListN.{length, getD, set, take, drop, length-append}
-use lib.Seq.{take-suc, take-length, set-comm, sets, sets-eq, length-sets}
+use lib.Seq.{take-suc, take-length, take-append-seam, length-take-le, sets, sets-eq, length-sets}
 use Rattle.lists.specs.Build.{overlay}
 use Rattle.listing.specs.Writing.{stored, Stored}
-use Rattle.listing.proofs.Decimals.{lastDigits, length-lastDigits}
 
 length-stored : (s : List ℕ) (at : ℕ) (x : List ℕ) → length (stored s at x) ≡ length s
 unfolding stored
@@ -23,13 +22,6 @@ stored-append s at (b ∷ x) y = ap (λ (k : ℕ). sets (sets (set s at b) (suc 
 stored-one : (s : List ℕ) (at b : ℕ) → set s at b ≡ stored s at (b ∷ [])
 unfolding stored
 stored-one s at b = refl
-
--- a byte behind x may as well be stored first
-stored-set : (s : List ℕ) (at : ℕ) (x : List ℕ) (j b : ℕ) → at + length x ≤ j → stored (set s j b) at x ≡ set (stored s at x) j b
-unfolding stored
-stored-set s at [] j b h = refl
-stored-set s at (d ∷ x) j b h =
-    ap (λ (q : List ℕ). sets q (suc at) x) (set-comm s j at b d (omega arith)) ∙ stored-set (set s at d) (suc at) x j b (omega arith)
 
 -- bytes stored from the front on that fit
 pub stored-overlay : (s x : List ℕ) → length x ≤ length s → stored s 0 x ≡ overlay x s
@@ -63,24 +55,21 @@ stored-end x s t i e p = rw e at (stored-same (ap (λ (n : ℕ). take n x) e ∙
 pub stored-length : {x s t : List ℕ} {at k : ℕ} → Stored x s at t k → length t ≡ length s
 stored-length {x} {s} {t} {at} {k} p = ap length (p .bytes) ∙ length-stored s at x
 
--- DIGITS, the last first
+-- A WHOLE LINE
 
--- the last digit stored, the digits before it are left
-last-stored : (t : List ℕ) (at k y : ℕ) → stored (set t (at + k) (48 + y % 10)) at (lastDigits k (y / 10)) ≡ stored t at (lastDigits (suc k) y)
-unfolding lastDigits
-last-stored t at k y =
-    let u = lastDigits k (y / 10) in
-    let n : length (lastDigits k (y / 10)) ≡ k = length-lastDigits k (y / 10) in
-    stored-set t at u (at + k) (48 + y % 10) (omega arith)
-    ∙ ap (λ (j : ℕ). set (stored t at u) j (48 + y % 10)) (omega arith)
-    ∙ stored-one (stored t at u) (at + length u) (48 + y % 10)
-    ∙ stored-append t at u ((48 + y % 10) ∷ [])
+-- the first k bytes of t are x
+pub record Front (x t : List ℕ) (k : ℕ) : Type 0 where
+  pub within : k ≤ length t
+  pub size : k ≡ length (take k t)
+  pub is : take k t ≡ x
 
-pub digit-stored : (t : List ℕ) (at k j l y : ℕ) → k ≡ suc l → j ≡ l
-    → stored (set t (at + j) (48 + y % 10)) at (lastDigits l (y / 10)) ≡ stored t at (lastDigits k y)
-digit-stored t at k j l y e q = rw (e, q) (last-stored t at l y)
-
-pub digits-stored : (t : List ℕ) (at k y : ℕ) → k ≤ 0 → t ≡ stored t at (lastDigits k y)
-unfolding stored lastDigits
-digits-stored t at zero y h = refl
-digits-stored t at (suc k) y h = absurd (not-suc-le-zero h)
+-- what was stored from the front on stands there
+pub stored-front : {x s t : List ℕ} {k : ℕ} → length x ≤ length s → Stored x s 0 t k → Front x t k
+unfolding overlay
+stored-front {x} {s} {t} {k} h p =
+    let within : k ≤ length t = omega (arith, p .place, stored-length p) in
+    record {
+      within = within;
+      size = sym (length-take-le k t within);
+      is = rw (p .place ∙ zero-add (length x), p .bytes ∙ stored-overlay s x h) (take-append-seam x (drop (length x) s));
+    }

@@ -1,11 +1,12 @@
 -- Laws of question 16: a line that was stored, and a line that does not fit. Assumes nothing.
-use mathlib.Core.Path.{_∙_}
+use mathlib.Core.Path.{_≡_, _∙_}
 use mathlib.Core.List.{List}
 use Prim.Native.Nat.{ℕ, _≤_, _<_}
 use native.Mathlib.Nat.{zero-add}
 use borrow.Author.Tests.{le-leb, lt-leb}
 use lib.ListN.{length}
 use Rattle.model.specs.Questions.{firstNo, lineFits}
+use Rattle.listing.specs.declared.Put.{Put}
 use Rattle.listing.specs.Writing.{putAnswer, tailAfter, Wrote, Stored}
 use Rattle.listing.proofs.Storing.{stored-overlay}
 
@@ -19,3 +20,6 @@ fitting-written {x} {s} {t} {k} h p = record {
 pub too-long-refused : (x s : List ℕ) → length s < length x → Wrote x s s (record { number = 16; written = 0 })
 unfolding putAnswer tailAfter firstNo lineFits
 too-long-refused x s h = record { answer = rw (lt-leb (length x) (length s) h); tail = rw (lt-leb (length x) (length s) h) }
+
+pub wrote-same : {x y s t : List ℕ} {r : Put} → x ≡ y → Wrote x s t r → Wrote y s t r
+wrote-same e w = rw (← e) w

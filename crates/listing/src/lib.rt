@@ -27,53 +27,37 @@ const ZERO: u8 = 48;
 
 const NEWLINE: u8 = 10;
 
-// How many digits a number has, of those that are written: the last five.
-fn digit_count(x: usize) -> usize
-    ensures { λ r. ⌜ r ≡ length (decimal x) ⌝ }
-{
-    if x < 10 {
-        return 1;
-    }
-    if x < 100 {
-        return 2;
-    }
-    if x < 1000 {
-        return 3;
-    }
-    if x < 10000 { 4 } else { 5 }
-}
+// The longest line: numbers of 20, 3 and 11 bytes, 64 names of 8 bytes, two spaces and the end of the line.
+const LINE: usize = 549;
 
 // Stores a byte.
-fn put_byte(tail: &mut [u8], at: usize, b: u8) -> usize
-    requires { ⌜ at < length (now tail) ⌝ }
-    ensures { λ r. ⌜ Stored (b ∷ []) (now (tail .entry)) at (now (tail .exit)) r ⌝ }
+fn put_byte(buffer: &mut [u8], at: usize, b: u8) -> usize
+    requires { ⌜ at < length (now buffer) ⌝ }
+    ensures { λ r. ⌜ Stored (b ∷ []) (now (buffer .entry)) at (now (buffer .exit)) r ⌝ }
 {
-    tail[at] = b;
+    buffer[at] = b;
     at + 1
 }
 
-// Stores a number in decimal, the last digit first.
-fn put_number(tail: &mut [u8], at: usize, x: usize) -> usize
-    requires { ⌜ at + length (decimal x) ≤ length (now tail) ⌝ }
-    ensures { λ r. ⌜ Stored (decimal x) (now (tail .entry)) at (now (tail .exit)) r ⌝ }
+// Stores a number in decimal.
+fn put_number(buffer: &mut [u8], at: usize, x: usize) -> usize
+    requires { ⌜ at + length (decimal x) ≤ length (now buffer) ⌝ }
+    ensures { λ r. ⌜ Stored (decimal x) (now (buffer .entry)) at (now (buffer .exit)) r ⌝ }
 {
-    let count = digit_count(x);
-    let mut high = x;
-    for i in 0..count {
-        let left = count - 1 - i;
-        tail[at + left] = ZERO + (high % 10) as u8;
-        high = high / 10;
+    if x < 10 {
+        return put_byte(buffer, at, ZERO + x as u8);
     }
-    at + count
+    let next = put_number(buffer, at, x / 10);
+    put_byte(buffer, next, ZERO + (x % 10) as u8)
 }
 
 // Stores a byte and then a number.
-fn put_field(tail: &mut [u8], at: usize, b: u8, x: usize) -> usize
-    requires { ⌜ at + length (b ∷ decimal x) ≤ length (now tail) ⌝ }
-    ensures { λ r. ⌜ Stored (b ∷ decimal x) (now (tail .entry)) at (now (tail .exit)) r ⌝ }
+fn put_field(buffer: &mut [u8], at: usize, b: u8, x: usize) -> usize
+    requires { ⌜ at + length (b ∷ decimal x) ≤ length (now buffer) ⌝ }
+    ensures { λ r. ⌜ Stored (b ∷ decimal x) (now (buffer .entry)) at (now (buffer .exit)) r ⌝ }
 {
-    let next = put_byte(tail, at, b);
-    put_number(tail, next, x)
+    let next = put_byte(buffer, at, b);
+    put_number(buffer, next, x)
 }
 
 // A number without its sign.
@@ -87,98 +71,83 @@ fn magnitude(x: i32) -> usize
 }
 
 // Stores a number in decimal, a minus sign before a negative one.
-fn put_signed(tail: &mut [u8], at: usize, x: i32) -> usize
-    requires { ⌜ at + length (signed x) ≤ length (now tail) ⌝ }
-    ensures { λ r. ⌜ Stored (signed x) (now (tail .entry)) at (now (tail .exit)) r ⌝ }
+fn put_signed(buffer: &mut [u8], at: usize, x: i32) -> usize
+    requires { ⌜ at + length (signed x) ≤ length (now buffer) ⌝ }
+    ensures { λ r. ⌜ Stored (signed x) (now (buffer .entry)) at (now (buffer .exit)) r ⌝ }
 {
     let size = magnitude(x);
     if x < 0 {
-        return put_field(tail, at, MINUS, size);
+        return put_field(buffer, at, MINUS, size);
     }
-    put_number(tail, at, size)
-}
-
-// How many bytes a number takes, with its sign.
-fn signed_length(x: i32) -> usize
-    ensures { λ r. ⌜ r ≡ length (signed x) ⌝ }
-{
-    let digits = digit_count(magnitude(x));
-    if x < 0 {
-        return digits + 1;
-    }
-    digits
-}
-
-// How many bytes a name takes, with the space before it.
-fn name_length(name: Name) -> usize
-    ensures { λ r. ⌜ r ≡ length (listed (name ∷ [])) ⌝ }
-{
-    let number = name.number;
-    digit_count(name.sender as usize) + digit_count(number.0 as usize) + 2
+    put_number(buffer, at, size)
 }
 
 // Stores a name, with a space before it.
-fn put_name(tail: &mut [u8], at: usize, name: Name) -> usize
-    requires { ⌜ at + length (listed (name ∷ [])) ≤ length (now tail) ⌝ }
-    ensures { λ r. ⌜ Stored (listed (name ∷ [])) (now (tail .entry)) at (now (tail .exit)) r ⌝ }
+fn put_name(buffer: &mut [u8], at: usize, name: Name) -> usize
+    requires { ⌜ at + length (listed (name ∷ [])) ≤ length (now buffer) ⌝ }
+    ensures { λ r. ⌜ Stored (listed (name ∷ [])) (now (buffer .entry)) at (now (buffer .exit)) r ⌝ }
 {
     let number = name.number;
-    let next = put_field(tail, at, SPACE, name.sender as usize);
-    put_field(tail, next, POINT, number.0 as usize)
-}
-
-// How many bytes the first of the names take.
-fn names_length(names: [Name; 64], count: usize) -> usize
-    requires { ⌜ count ≤ 64 ⌝ }
-    ensures { λ r. ⌜ r ≡ length (listed (take count names)) ⌝ }
-{
-    let mut sum: usize = 0;
-    for i in 0..count {
-        sum = sum + name_length(names[i]);
-    }
-    sum
+    let next = put_field(buffer, at, SPACE, name.sender as usize);
+    put_field(buffer, next, POINT, number.0 as usize)
 }
 
 // Stores the first of the names.
-fn put_names(tail: &mut [u8], from: usize, names: [Name; 64], count: usize) -> usize
-    requires { ⌜ (count ≤ 64) × (from + length (listed (take count names)) ≤ length (now tail)) ⌝ }
-    ensures { λ r. ⌜ Stored (listed (take count names)) (now (tail .entry)) from (now (tail .exit)) r ⌝ }
+fn put_names(buffer: &mut [u8], from: usize, names: [Name; 64], count: usize) -> usize
+    requires { ⌜ (count ≤ 64) × (from + length (listed (take count names)) ≤ length (now buffer)) ⌝ }
+    ensures { λ r. ⌜ Stored (listed (take count names)) (now (buffer .entry)) from (now (buffer .exit)) r ⌝ }
 {
     let mut at = from;
     for i in 0..count {
-        at = put_name(tail, at, names[i]);
+        at = put_name(buffer, at, names[i]);
     }
     at
 }
 
-// How many bytes a line takes.
-fn line_length(event: usize, controller: u8, total: i32, names: [Name; 64], count: usize) -> usize
-    requires { ⌜ count ≤ 64 ⌝ }
-    ensures { λ r. ⌜ r ≡ length (line event controller total (take count names)) ⌝ }
-{
-    let fields = digit_count(event) + digit_count(controller as usize) + signed_length(total);
-    // two spaces and the end of the line
-    fields + names_length(names, count) + 3
-}
-
-// Stores a line that fits.
+// Stores the line of an event.
 fn store_line(
-    tail: &mut [u8],
+    buffer: &mut [u8],
     event: usize,
     controller: u8,
     total: i32,
     names: [Name; 64],
     count: usize,
 ) -> usize
-    requires { ⌜ (count ≤ 64) × (length (line event controller total (take count names)) ≤ length (now tail)) ⌝ }
-    ensures { λ r. ⌜ Stored (line event controller total (take count names)) (now (tail .entry)) 0 (now (tail .exit)) r ⌝ }
+    requires { ⌜ (count ≤ 64) × (length (line event controller total (take count names)) ≤ length (now buffer)) ⌝ }
+    ensures { λ r. ⌜ Stored (line event controller total (take count names)) (now (buffer .entry)) 0 (now (buffer .exit)) r ⌝ }
 {
-    let after_event = put_number(tail, 0, event);
-    let after_controller = put_field(tail, after_event, SPACE, controller as usize);
-    let after_space = put_byte(tail, after_controller, SPACE);
-    let after_total = put_signed(tail, after_space, total);
-    let after_names = put_names(tail, after_total, names, count);
-    put_byte(tail, after_names, NEWLINE)
+    let after_event = put_number(buffer, 0, event);
+    let after_controller = put_field(buffer, after_event, SPACE, controller as usize);
+    let after_space = put_byte(buffer, after_controller, SPACE);
+    let after_total = put_signed(buffer, after_space, total);
+    let after_names = put_names(buffer, after_total, names, count);
+    put_byte(buffer, after_names, NEWLINE)
+}
+
+// Stores a text at the front.
+fn put_text(buffer: &mut [u8], text: &[u8]) -> usize
+    requires { ⌜ length (now text) ≤ length (now buffer) ⌝ }
+    ensures { λ r. ⌜ Stored (now (text .entry)) (now (buffer .entry)) 0 (now (buffer .exit)) r ⌝ }
+{
+    let end = text.len();
+    for i in 0..end {
+        buffer[i] = text[i];
+    }
+    end
+}
+
+// Writes a line at the front of the tail, where it fits.
+fn put_whole(tail: &mut [u8], text: &[u8]) -> Put
+    ensures { λ r. ⌜ Wrote (now (text .entry)) (now (tail .entry)) (now (tail .exit)) r ⌝ }
+{
+    if tail.len() < text.len() {
+        return Put {
+            number: FULL,
+            written: 0,
+        };
+    }
+    let written = put_text(tail, text);
+    Put { number: 0, written }
 }
 
 // The number of names that there are, of those asked for.
@@ -206,62 +175,30 @@ pub fn put_line(
             written: 0,
         };
     }
-    let length = line_length(event, controller, total, names, count);
-    if tail.len() < length {
-        return Put {
-            number: FULL,
-            written: 0,
-        };
-    }
-    let written = store_line(tail, event, controller, total, names, count);
-    Put { number: 0, written }
-}
-
-// Stores a text at the front of the tail.
-fn put_text(tail: &mut [u8], text: &[u8]) -> usize
-    requires { ⌜ length (now text) ≤ length (now tail) ⌝ }
-    ensures { λ r. ⌜ Stored (now (text .entry)) (now (tail .entry)) 0 (now (tail .exit)) r ⌝ }
-{
-    let end = text.len();
-    for i in 0..end {
-        tail[i] = text[i];
-    }
-    end
+    let mut buffer = [0u8; LINE];
+    let end = store_line(&mut buffer, event, controller, total, names, count);
+    put_whole(tail, &buffer[..end])
 }
 
 // Writes the line that stands before the listing of n controllers.
 pub fn put_header(tail: &mut [u8], n: u8) -> Put
     ensures { λ r. ⌜ Wrote (header n) (now (tail .entry)) (now (tail .exit)) r ⌝ }
 {
-    // the text and the end of the line
-    if tail.len() < digit_count(n as usize) + 13 {
-        return Put {
-            number: FULL,
-            written: 0,
-        };
-    }
-    let text: [u8; 12] = [99, 111, 110, 116, 114, 111, 108, 108, 101, 114, 115, 32];
-    let after_text = put_text(tail, &text);
-    let after_number = put_number(tail, after_text, n as usize);
-    let written = put_byte(tail, after_number, NEWLINE);
-    Put { number: 0, written }
+    let mut buffer = [0u8; LINE];
+    let after_text = put_text(&mut buffer, b"controllers");
+    let after_number = put_field(&mut buffer, after_text, SPACE, n as usize);
+    let end = put_byte(&mut buffer, after_number, NEWLINE);
+    put_whole(tail, &buffer[..end])
 }
 
 // Writes the line that stands after the listing: the events accepted and the refusal number.
 pub fn put_footer(tail: &mut [u8], events: usize, number: u8) -> Put
     ensures { λ r. ⌜ Wrote (footer events number) (now (tail .entry)) (now (tail .exit)) r ⌝ }
 {
-    // the text, a space and the end of the line
-    if tail.len() < digit_count(events) + digit_count(number as usize) + 6 {
-        return Put {
-            number: FULL,
-            written: 0,
-        };
-    }
-    let text: [u8; 4] = [101, 110, 100, 32];
-    let after_text = put_text(tail, &text);
-    let after_events = put_number(tail, after_text, events);
-    let after_number = put_field(tail, after_events, SPACE, number as usize);
-    let written = put_byte(tail, after_number, NEWLINE);
-    Put { number: 0, written }
+    let mut buffer = [0u8; LINE];
+    let after_text = put_text(&mut buffer, b"end");
+    let after_events = put_field(&mut buffer, after_text, SPACE, events);
+    let after_number = put_field(&mut buffer, after_events, SPACE, number as usize);
+    let end = put_byte(&mut buffer, after_number, NEWLINE);
+    put_whole(tail, &buffer[..end])
 }

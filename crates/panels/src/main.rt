@@ -16,7 +16,7 @@ fn first(bytes: &[u8], size: usize) -> &[u8]
 
 const LISTING: usize = 16384;
 
-// The listing, the lines before and after it, and room to spare.
+// The listing, at most 16 bytes before it and 29 after it, and room to spare.
 const TEXT: usize = 16448;
 
 // Writes what is to be printed of a file, and answers how many bytes that is.

@@ -4,8 +4,8 @@ use borrow.Author.Needs.{needs}
 use Rattle.listing.proofs.put_byte.Statement.{statement}
 use Rattle.listing.proofs.put_byte.Tie as tie
 
-slice-write-tail : tie.Need-slice-write-tail
-slice-write-tail c = search needs
+slice-write-buffer : tie.Need-slice-write-buffer
+slice-write-buffer c = search needs
 
 add-result : tie.Need-add-result
 add-result c = search needs
@@ -18,4 +18,4 @@ unfolding stored
 returns c = search needs
 
 pub put-byte-spec : {M : Type 1} → statement M
-put-byte-spec = tie.close (tie.spec slice-write-tail add-result same-length returns)
+put-byte-spec = tie.close (tie.spec slice-write-buffer add-result same-length returns)

@@ -1,9 +1,9 @@
 -- `put_names` stores the first of the names. The loop's invariant: the names passed are stored. The measure is how many
 -- are left. Assumes nothing.
 use mathlib.Core.Path.{_≡_, sym}
-use Prim.Native.Nat.{_+_, _-_, _≤_}
+use Prim.Native.Nat.{_+_, _-_, _≤_, _<_}
 use native.Mathlib.Omega.{arith}
-use lib.ListN.{take}
+use lib.ListN.{length, take}
 use Rattle.model.specs.Runs.{listed}
 use Rattle.listing.specs.Writing.{Stored}
 use Rattle.listing.proofs.Names.{listed-more, length-listed-more, listed-fits}
@@ -13,12 +13,30 @@ use Rattle.listing.proofs.put_names.Statement.{statement}
 use Rattle.listing.proofs.put_names.Tie as tie
 
 abbrev Inv-loop : tie.InvT-loop
-Inv-loop tail₀ from count names at₀ i₀ tail at i =
-    (i ≤ count) × Stored (listed (take i names)) tail₀ from tail at
+Inv-loop buffer₀ from count names at₀ i₀ buffer at i =
+    (i ≤ count) × Stored (listed (take i names)) buffer₀ from buffer at
 
 abbrev μ-loop : tie.MeasureT-loop
-μ-loop tail₀ from count names at₀ i₀ tail at i =
+μ-loop buffer₀ from count names at₀ i₀ buffer at i =
     count - i
+
+-- PLACES: from behind a name back to where it is stored, to the loop, and to the start
+
+abbrev Turn : Type 0
+Turn = tie.After-put-name-arg2 Inv-loop μ-loop
+
+abbrev Loop : Type 0
+Loop = tie.At-loop Inv-loop μ-loop
+
+abbrev loop : Turn → Loop
+loop c = c .before .before .before
+
+abbrev start : Loop → tie.Start Inv-loop μ-loop
+start c = c .before .before
+
+-- there is a name at the place reached
+within : (c : Turn) → loop c .loop .i < length (start (loop c) .args .t3)
+within c = omega (arith, start (loop c) .good .1 .1 .0 .1 .0 .1)
 
 loop-holds : tie.Need-loop-holds Inv-loop μ-loop
 unfolding listed
@@ -31,7 +49,16 @@ array-copy-out-put-name : tie.Need-array-copy-out-put-name Inv-loop μ-loop
 array-copy-out-put-name c = search needs
 
 put-name-requires : tie.Need-put-name-requires Inv-loop μ-loop
-put-name-requires c κs = omega (arith, c .before .before .before .loop .inv .1 .place, stored-length (c .before .before .before .loop .inv .1), length-listed-more (c .before .before .before .before .before .args .t3) (c .before .before .before .loop .i) (omega (arith, c .before .before .before .before .before .good .1 .1 .0 .1 .0 .1)), listed-fits (c .before .before .before .before .before .args .t3) (c .before .before .before .loop .i + 1) (c .before .before .before .before .before .args .count) (omega arith))
+put-name-requires c κs =
+    let l = loop c .loop in
+    let names = start (loop c) .args .t3 in
+    omega (
+      arith,
+      l .inv .1 .place,
+      stored-length (l .inv .1),
+      length-listed-more names (l .i) (within c),
+      listed-fits names (l .i + 1) (start (loop c) .args .count) (omega arith),
+    )
 
 add-i : tie.Need-add-i Inv-loop μ-loop
 add-i c = search needs
@@ -40,13 +67,21 @@ loop-less : tie.Need-loop-less Inv-loop μ-loop
 loop-less c = search needs
 
 loop-again : tie.Need-loop-again Inv-loop μ-loop
-loop-again c = (omega arith, stored-same (sym (listed-more (c .before .before .before .before .before .before .before .before .args .t3) (c .before .before .before .before .before .before .loop .i) (omega (arith, c .before .before .before .before .before .before .before .before .good .1 .1 .0 .1 .0 .1)))) (stored-then (c .before .before .before .before .before .before .loop .inv .1) (c .before .before .put-name .ensures)))
+loop-again c =
+    let put = c .before .before in
+    let l = loop (put .before) in (
+      omega arith,
+      stored-same (sym (listed-more (start l .args .t3) (l .loop .i) (within (put .before)))) (stored-then (l .loop .inv .1) (put .put-name .ensures)),
+    )
 
 same-length : tie.Need-same-length Inv-loop μ-loop
 same-length c = stored-length (c .before .loop .inv .1)
 
 returns : tie.Need-returns Inv-loop μ-loop
-returns c = let e : c .before .loop .i ≡ c .before .before .before .args .count = omega arith in rw (← e) (c .before .loop .inv .1)
+returns c =
+    let l = c .before in
+    let e : l .loop .i ≡ start l .args .count = omega arith in
+    rw (← e) (l .loop .inv .1)
 
 pub put-names-spec : {M : Type 1} → statement M
 put-names-spec =

@@ -11,21 +11,21 @@ use Rattle.listing.proofs.put_text.Statement.{statement}
 use Rattle.listing.proofs.put_text.Tie as tie
 
 abbrev Inv-loop : tie.InvT-loop
-Inv-loop tail₀ text end i₀ tail i =
-    (i ≤ end) × (end ≡ length text) × (end ≤ length tail₀) × Stored (take i text) tail₀ 0 tail i
+Inv-loop buffer₀ text end i₀ buffer i =
+    (i ≤ end) × (end ≡ length text) × (end ≤ length buffer₀) × Stored (take i text) buffer₀ 0 buffer i
 
 abbrev μ-loop : tie.MeasureT-loop
-μ-loop tail₀ text end i₀ tail i =
+μ-loop buffer₀ text end i₀ buffer i =
     end - i
 
 loop-holds : tie.Need-loop-holds Inv-loop μ-loop
 loop-holds c = (omega arith, refl, omega arith, stored-none _ 0)
 
-shared-slice-read-tail : tie.Need-shared-slice-read-tail Inv-loop μ-loop
-shared-slice-read-tail c = search needs
+shared-slice-read-buffer : tie.Need-shared-slice-read-buffer Inv-loop μ-loop
+shared-slice-read-buffer c = search needs
 
-slice-write-tail : tie.Need-slice-write-tail Inv-loop μ-loop
-slice-write-tail c = omega (arith, stored-length (c .before .before .loop .inv .3))
+slice-write-buffer : tie.Need-slice-write-buffer Inv-loop μ-loop
+slice-write-buffer c = omega (arith, stored-length (c .before .before .loop .inv .3))
 
 add-i : tie.Need-add-i Inv-loop μ-loop
 add-i c = search needs
@@ -49,8 +49,8 @@ put-text-spec =
     Inv-loop
     μ-loop
     loop-holds
-    shared-slice-read-tail
-    slice-write-tail
+    shared-slice-read-buffer
+    slice-write-buffer
     add-i
     loop-less
     loop-again
