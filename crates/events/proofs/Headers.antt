@@ -15,7 +15,8 @@ use Rattle.model.specs.Runs.{RunOutcome, progress, ran, fileRun}
 use Rattle.model.specs.declared.Table.{Table}
 use Rattle.model.specs.declared.RunAnswer.{RunAnswer}
 use Rattle.model.proofs.Steps.{file-run-ran}
-use Rattle.events.specs.Stepped.{runOf, runListing, runScratch}
+use Rattle.events.specs.Stepped.{Runs}
+use Rattle.events.specs.Turns.{Ran}
 
 module _ (s : List ℕ) where
   pub length-refused : (leb 2 (length s) && leb (length s) 65535) ≡ false → 1 ≡ firstNo (fileQuestions s)
@@ -42,13 +43,18 @@ module _ (s l w : List ℕ) (k : ℕ) (e : k ≡ firstNo (fileQuestions s)) wher
   unfolding fileRun
   run-isnt n = rw e (sym (cond-false _ _ (ne-eqb (firstNo (fileQuestions s)) 0 (λ z. n (e ∙ z)))))
 
-  pub run-refused : k ≢ 0 → (x : Table) → x ≡ zeroTable
-      → (_≡_ {A = RunAnswer} (record { number = k; events = 0; written = 0; table = x }) (runOf s l w)) × (l ≡ runListing s l w) × (w ≡ runScratch s l w)
-  unfolding runOf runListing runScratch
-  run-refused n x b = rw b (ap (λ (o : RunOutcome). o .answer) (run-isnt n), ap (λ (o : RunOutcome). o .listing) (run-isnt n), ap (λ (o : RunOutcome). o .scratch) (run-isnt n))
+  pub run-refused : k ≢ 0 → (x : Table) → x ≡ zeroTable → Runs s l w (record { number = k; events = 0; written = 0; table = x }) l w
+  run-refused n x b = record {
+    outcome = rw b (ap (λ (o : RunOutcome). o .answer) (run-isnt n));
+    listed = ap (λ (o : RunOutcome). o .listing) (run-isnt n);
+    clear = ap (λ (o : RunOutcome). o .scratch) (run-isnt n);
+  }
 
-  pub run-ran : k ≡ 0 → (r : RunAnswer) (m v : List ℕ)
-      → (let o = ran (progress s (length w) (length l)) l w in (r ≡ o .answer) × (m ≡ o .listing) × (v ≡ o .scratch))
-      → (r ≡ runOf s l w) × (m ≡ runListing s l w) × (v ≡ runScratch s l w)
-  unfolding runOf runListing runScratch
-  run-ran z r m v h = subst (λ (o : RunOutcome). (r ≡ o .answer) × (m ≡ o .listing) × (v ≡ o .scratch)) (sym (file-run-ran s l w (sym e ∙ z))) h
+  pub run-ran : k ≡ 0 → (r : RunAnswer) (m v : List ℕ) → Ran s l w r m v → Runs s l w r m v
+  run-ran z r m v d =
+      let o = sym (file-run-ran s l w (sym e ∙ z)) in
+      record {
+        outcome = d .outcome ∙ ap (λ (x : RunOutcome). x .answer) o;
+        listed = d .listed ∙ ap (λ (x : RunOutcome). x .listing) o;
+        clear = d .clear ∙ ap (λ (x : RunOutcome). x .scratch) o;
+      }

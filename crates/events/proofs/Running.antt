@@ -133,8 +133,7 @@ module _ (s l₀ w₀ l w b : List ℕ) (c : Cursor) (t : Table) (r : Running s 
 
   -- ONE RECORD MORE
 
-  module _ (h : 0 < length b) (a : Advance) (m u : List ℕ) (d : Turned c t b l w a m u) (b′ : List ℕ) (eb : b′ ≡ drop (a .used) b)
-      (y : Table) (on : a .cursor .number ≡ 0 → y ≡ next t (decode b)) (off : a .cursor .number ≢ 0 → y ≡ t) where
+  module _ (h : 0 < length b) (a : Advance) (m u : List ℕ) (d : Turned c t b l w a m u) (b′ : List ℕ) (eb : b′ ≡ drop (a .used) b) where
     abbrev p : Progress
     p = progressOf c t l
 
@@ -154,12 +153,6 @@ module _ (s l₀ w₀ l w b : List ℕ) (c : Cursor) (t : Table) (r : Running s 
     lines-length : length (p .lines) ≡ c .written
     unfolding progressOf
     lines-length = length-take-le (c .written) l (r .within)
-
-    table-is : y ≡ q .table
-    unfolding progressOf
-    table-is =
-        by-verdict (λ (g : Progress). a .cursor .number ≡ g .number → y ≡ g .table)
-        (λ z e. on e ∙ sym (accepted-table t b (length w) (passed z))) (λ n e. off (λ o. n (sym e ∙ o))) (d .number)
 
     kept : Sized (q .table) × (wellFormed (q .table) ≡ true)
     unfolding progressOf
@@ -236,25 +229,33 @@ module _ (s l₀ w₀ l w b : List ℕ) (c : Cursor) (t : Table) (r : Running s 
     pub run-further : length b′ < length b
     run-further = rw left-is (left-fewer .1)
 
-    progress-is : progressOf (a .cursor) y m ≡ q
-    unfolding progressOf
-    progress-is = rw (d .number, d .events, lines-are, table-is) refl
-
     ahead-is : records (length b′) q b′ (length w₀) (length l₀) ≡ progress s (length w₀) (length l₀)
     unfolding turned
     ahead-is =
         rw (← scratch-size, ← r .space)
         (sym (records-turn p b (length w) (length l) h b′ left-is) ∙ rw (scratch-size, r .space) (r .ahead))
 
-    pub run-goes-on : Running s l₀ w₀ m u b′ (a .cursor) y
-    run-goes-on = record {
-      sized = rw table-is (kept .0);
-      formed = rw table-is (kept .1);
-      within = omega (arith, d .written, lines-fit, space-kept);
-      space = space-kept ∙ r .space;
-      listing = listing-is ∙ rw (← lines-are) refl;
-      scratch = rw (d .events) clear-is;
-      unsent = λ e. rw table-is (sent-first (sym (d .events) ∙ e));
-      few = omega (arith, ap length left-is, left-fewer .0, d .events);
-      ahead = rw progress-is ahead-is;
-    }
+    -- the table, as the code has stored it
+    module _ (y : Table) (on : a .cursor .number ≡ 0 → y ≡ next t (decode b)) (off : a .cursor .number ≢ 0 → y ≡ t) where
+      table-is : y ≡ q .table
+      unfolding progressOf
+      table-is =
+          by-verdict (λ (g : Progress). a .cursor .number ≡ g .number → y ≡ g .table)
+          (λ z e. on e ∙ sym (accepted-table t b (length w) (passed z))) (λ n e. off (λ o. n (sym e ∙ o))) (d .number)
+
+      progress-is : progressOf (a .cursor) y m ≡ q
+      unfolding progressOf
+      progress-is = rw (d .number, d .events, lines-are, table-is) refl
+
+      pub run-goes-on : Running s l₀ w₀ m u b′ (a .cursor) y
+      run-goes-on = record {
+        sized = rw table-is (kept .0);
+        formed = rw table-is (kept .1);
+        within = omega (arith, d .written, lines-fit, space-kept);
+        space = space-kept ∙ r .space;
+        listing = listing-is ∙ rw (← lines-are) refl;
+        scratch = rw (d .events) clear-is;
+        unsent = λ e. rw table-is (sent-first (sym (d .events) ∙ e));
+        few = omega (arith, ap length left-is, left-fewer .0, d .events);
+        ahead = rw progress-is ahead-is;
+      }

@@ -8,7 +8,7 @@ use native.Mathlib.Omega.{arith}
 use lib.ListN.{length, take, drop, length-drop, length-append, drop-of-length-le, take-append-drop}
 use lib.Seq.{length-take-le, take-append-seam, drop-drop}
 use lib.Dec.{leb}
-use borrow.Author.Tests.{eq-eqb, ne-eqb, leb-true}
+use borrow.Author.Tests.{eq-eqb, ne-eqb, leb-true, le-leb}
 use borrow.Rule.Slice.PartMut.{midOf, postOf, putMid, put-same}
 use Rattle.lists.specs.Build.{overlay}
 use Rattle.lists.proofs.Tests.{cond-true, cond-false, refuted}
@@ -86,7 +86,7 @@ module _ (c : Cursor) (t : Table) (s l w : List ℕ) (b : Before c t s l) where
         written = rw (ex, q) (sym lines-length);
         used = rw q (sym (rw ek (cond-false _ _ (ne-eqb k 0 n))));
         event = ee;
-        leaves = λ z. absurd (n (sym (rw q at (rw q ek)) ∙ rw q at z));
+        leaves = λ z. absurd (n (sym ek ∙ (sym (ap (λ (g : Progress). g .number) q) ∙ z)));
         listed = rw q (sym (rw lines-length (take-append-drop (c .written) l)));
         clear = ev;
       }
@@ -120,8 +120,8 @@ module _ (c : Cursor) (t : Table) (s l w : List ℕ) (b : Before c t s l) where
     unfolding lineAt accepted progressOf
     line-said = effect-line ∙ line-shown t (decode s) (c .events + 1) z (leaves .0) ∙ rw (step-is-accepted t s (length w) passed) refl
 
-    module _ (q : Put) (m : List ℕ)
-        (ew : Wrote (lineOf (c .events + 1) (subject (decode s)) (shown t (d .controller)) (take (d .answer .size) (d .answer .names))) (midOf (c .written) space l) m q) where
+    module _ (e : Event) (ee : e ≡ decode s) (q : Put) (m : List ℕ)
+        (ew : Wrote (lineOf (c .events + 1) (subject e) (shown t (d .controller)) (take (d .answer .size) (d .answer .names))) (midOf (c .written) space l) m q) where
       abbrev x : List ℕ
       x = lineAt so-far s (length w)
 
@@ -129,7 +129,7 @@ module _ (c : Cursor) (t : Table) (s l w : List ℕ) (b : Before c t s l) where
       mid-is = part-rest (c .written) l
 
       wrote : Wrote x (drop (c .written) l) m q
-      wrote = rw (line-said, mid-is) at ew
+      wrote = rw (ee, line-said, mid-is) at ew
 
       put-number : q .number ≡ firstNo (lineFits (length x) space ∷ [])
       unfolding putAnswer
@@ -138,10 +138,10 @@ module _ (c : Cursor) (t : Table) (s l w : List ℕ) (b : Before c t s l) where
       verdict-put : verdict so-far s (length w) (length l) ≡ q .number
       verdict-put = verdict-accepted number-said ∙ sym put-number
 
-      pub turn-full : q .number ≢ 0 → (y : Cursor) → y ≡ ended c (q .number) → (e : Event) → e ≡ decode s → (g : Controller)
+      pub turn-full : q .number ≢ 0 → (y : Cursor) → y ≡ ended c (q .number) → (g : Controller)
           → Turned c t s l w (record { cursor = y; used = length s; event = e; controller = g }) (putMid (c .written) space l m) v
       unfolding tailAfter
-      turn-full n y ey e ee g =
+      turn-full n y ey g =
           let out : leb (length x) (length (drop (c .written) l)) ≡ false = rw (length-drop (c .written) l) (unfit (length x) space (λ o. n (put-number ∙ o))) in
           let same : m ≡ midOf (c .written) space l = wrote .tail ∙ cond-false _ _ out ∙ sym mid-is in
           let kept = ap (putMid (c .written) space l) same ∙ put-same (c .written) space l in
@@ -162,11 +162,11 @@ module _ (c : Cursor) (t : Table) (s l w : List ℕ) (b : Before c t s l) where
         none-behind xs =
             ap (λ (r : List ℕ). xs ++ r) (drop-of-length-le (drop (c .written) l) {i = space} (omega (arith, length-drop (c .written) l))) ∙ append-nil xs
 
-        pub turn-listed : (u : ℕ) → u ≡ size s + 1 → (e : Event) → e ≡ decode s → (g : Controller) → g ≡ d .controller
+        pub turn-listed : (u : ℕ) → u ≡ size s + 1 → (g : Controller) → g ≡ d .controller
             → Turned c t s l w (record { cursor = record { number = 0; events = c .events + 1; written = c .written + q .written }; used = u; event = e; controller = g })
             (putMid (c .written) space l m) v
         unfolding turned tailAfter progressOf
-        turn-listed u eu e ee g eg =
+        turn-listed u eu g eg =
             let on = advance-gone so-far s (length w) (length l) (verdict-put ∙ n) in
             record {
               number = rw on refl;
@@ -180,3 +180,8 @@ module _ (c : Cursor) (t : Table) (s l w : List ℕ) (b : Before c t s l) where
                   ∙ overlay-behind (c .written) x l (b .within));
               clear = scratch-said;
             }
+
+-- where there is no line nothing is written
+pub no-line : (s : List ℕ) → Wrote [] s s (record { number = 0; written = 0 })
+unfolding putAnswer tailAfter overlay firstNo lineFits
+no-line s = let z = le-leb 0 (length s) (omega arith) in record { answer = rw z refl; tail = rw z refl }

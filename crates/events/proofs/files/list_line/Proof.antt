@@ -1,22 +1,28 @@
 -- `list_line` writes the line of an event, where it has one. Assumes nothing.
+use mathlib.Core.Path.{_≡_}
 use native.Mathlib.Omega.{arith}
-use Rattle.model.specs.Runs.{lineOf}
-use Rattle.listing.proofs.Storing.{stored-none}
-use Rattle.listing.proofs.Writing.{fitting-written}
-use Rattle.questions.proofs.Signed.{returned}
 use borrow.Author.Needs.{needs}
+use Rattle.model.specs.Runs.{lineOf}
+use Rattle.events.proofs.Turning.{no-line}
 use Rattle.events.proofs.files.list_line.Statement.{statement}
 use Rattle.events.proofs.files.list_line.Tie as tie
 
+-- PLACES: from behind the line to the subject, and from there to what the panel shows
+abbrev named : tie.After-slice-known2 → tie.After-subject
+named c = c .before .before .before
+
+abbrev panel : tie.After-subject → tie.After-shown
+panel c = c .before .before .before
+
 returns : tie.Need-returns
 unfolding lineOf
-returns c = rw (c .if1 .taken) (fitting-written (omega arith) (stored-none _ 0))
+returns c = rw (c .if1 .taken) (no-line _)
 
 shown-requires : tie.Need-shown-requires
 shown-requires c κs = search needs
 
-receiver-requires : tie.Need-receiver-requires
-receiver-requires c κs = search needs
+subject-requires : tie.Need-subject-requires
+subject-requires c κs = search needs
 
 put-line-requires : tie.Need-put-line-requires
 put-line-requires c κs = search needs
@@ -25,9 +31,7 @@ same-length : tie.Need-same-length
 same-length c = search needs
 
 returns-2 : tie.Need-returns-2
-returns-2 c = rw (← c .before .before .before .receiver .ensures, ← c .before .before .before .before .before .before .shown .ensures, ← returned (c .before .before .before .before .before .before .shown .result) (c .before .before .before .before .before .before .shown .ok)) (c .before .before .put-line .ensures)
+returns-2 c = rw (← named c .subject .ensures, ← panel (named c) .shown .ensures) (c .before .before .put-line .ensures)
 
 pub list-line-spec : {M : Type 1} → statement M
-list-line-spec =
-    tie.close
-    (tie.spec returns shown-requires receiver-requires put-line-requires same-length returns-2)
+list-line-spec = tie.close (tie.spec returns shown-requires subject-requires put-line-requires same-length returns-2)

@@ -1,4 +1,4 @@
--- `file_refusal` is the first no of questions 1 to 3. Assumes nothing.
+-- `refusal_of` is the first no of questions 1 to 3. Assumes nothing.
 use borrow.Author.Tests.{not-true, not-false}
 use Rattle.events.proofs.Headers.{length-refused, version-refused, count-refused, file-passed}
 use borrow.Author.Needs.{needs}

@@ -1,18 +1,84 @@
 -- `turn` carries out one record of a run, and lists it where its line fits. Assumes nothing.
-use mathlib.Core.Path.{refl}
+use mathlib.Core.Path.{_≡_, refl, sym, ap, subst, _∙_}
+use mathlib.Core.List.{List}
+use Prim.Native.Nat.{ℕ, _+_, _^_, _≤_, _<_}
 use native.Mathlib.Omega.{arith}
-use Rattle.model.proofs.Owned.{table-sized}
-use Rattle.events.proofs.Stepping.{allowed}
-use Rattle.events.proofs.Turning.{turn-refused, record-within, turn-full, written-within, turn-listed}
+use lib.ListN.{length}
 use borrow.Author.Needs.{needs}
+use denote.Ref.{now}
+use mir.Syntax.{w64}
+use mir.Val.{Fits}
+use Rattle.model.specs.Records.{decode}
+use Rattle.model.specs.Sized.{Sized}
+use Rattle.model.specs.Questions.{firstNo, stepQuestions}
+use Rattle.model.specs.declared.Event.{Event}
+use Rattle.model.proofs.Owned.{table-sized}
+use Rattle.records.specs.declared.Record.{Record}
+use Rattle.events.specs.Asking.{refusalOf}
+use Rattle.events.specs.Effects.{Effected}
+use Rattle.events.specs.Turns.{Before}
+use Rattle.events.proofs.Asking.{event-read, used-read, refusal-is, allowed}
+use Rattle.events.proofs.Turning.{turn-refused, turn-full, written-within, turn-listed}
 use Rattle.events.proofs.files.turn.Statement.{statement}
 use Rattle.events.proofs.files.turn.Tie as tie
 
-rest-requires : tie.Need-rest-requires
-rest-requires c κs = search needs
+-- PLACES: from behind the listing to the line, the effect, the questions, the record and the start
+abbrev line : tie.After-slice-known4 → tie.After-list-line
+line c = c .before .before
 
-refusal-requires : tie.Need-refusal-requires
-refusal-requires c κs = search needs
+abbrev carried : tie.After-struct-known → tie.After-carry-out
+carried c = c .before .before .before .before .before
+
+abbrev asked : tie.After-carry-out → tie.Else1
+asked c = c .before .before
+
+abbrev reader : tie.Else1 → tie.After-read-record
+reader c = c .before .before
+
+abbrev start : tie.After-read-record → tie.Start
+start c = c .before .before .before .before
+
+abbrev bytes : tie.After-read-record → List ℕ
+bytes c = now (start c .args .left)
+
+abbrev room : tie.After-read-record → ℕ
+room c = length (now (start c .args .scratch))
+
+-- WHAT HOLDS THERE
+sized : (c : tie.Start) → Sized (c .args .t)
+sized c = table-sized (c .args .t) _ (c .good .1 .0)
+
+listing-fits : (c : tie.Start) → length (c .args .listing .now) < 2 ^ 64
+listing-fits c = c .good .1 .1 .1 .0 .0
+
+event-is : (c : tie.After-read-record) → c .read-record .result .event ≡ decode (bytes c)
+event-is c = event-read _ _ (c .read-record .ensures)
+
+number-is : (c : tie.After-refusal-of) → c .refusal-of .result ≡ firstNo (stepQuestions (start (c .before) .args .t) (bytes (c .before)) (room (c .before)))
+number-is c =
+    c .refusal-of .ensures
+    ∙ (ap (λ (r : Record). refusalOf (start (c .before) .args .t) r (room (c .before))) (c .before .read-record .ensures)
+    ∙ refusal-is (start (c .before) .args .t) (bytes (c .before)) (room (c .before)))
+
+passed : (c : tie.Else1) → firstNo (stepQuestions (start (reader c) .args .t) (bytes (reader c)) (room (reader c))) ≡ 0
+passed c = sym (number-is (c .before)) ∙ c .if1 .left
+
+effect : (c : tie.After-carry-out)
+    → let d = reader (asked c) in
+    Effected (start d .args .t) (decode (bytes d)) (now (start d .args .scratch)) (c .carry-out .result) (c .carry-out .last .1 .1 .0)
+effect c =
+    let d = reader (asked c) in
+    subst (λ (e : Event). Effected (start d .args .t) e (now (start d .args .scratch)) (c .carry-out .result) (c .carry-out .last .1 .1 .0))
+    (event-is d) (c .carry-out .ensures)
+
+fits-sum : (a b n : ℕ) → a + b ≤ n → n < 2 ^ 64 → Fits w64 (a + b)
+fits-sum a b n h k = omega arith
+
+read-record-requires : tie.Need-read-record-requires
+read-record-requires c κs = search needs
+
+refusal-of-requires : tie.Need-refusal-of-requires
+refusal-of-requires c κs = search needs
 
 ended-requires : tie.Need-ended-requires
 ended-requires c κs = search needs
@@ -22,33 +88,26 @@ at-requires c κs = search needs
 
 returns : tie.Need-returns
 returns c =
-    let s = c .before .before .before .before .before .before .before .before in
-    let k = rw (c .before .before .before .before .rest .ensures) at (c .before .before .before .refusal .ensures) in
-    turn-refused (s .args .cursor) (s .args .t) (s .args .bytes .now) (s .args .listing .now) (s .args .scratch .now) _ k (c .before .before .if1 .taken) _ (c .before .ended .ensures) _
-
-byte-at-requires : tie.Need-byte-at-requires
-byte-at-requires c κs = search needs
-
-cast-size : tie.Need-cast-size
-cast-size c = search needs
-
-decode-record-requires : tie.Need-decode-record-requires
-decode-record-requires c κs = search needs
+    let e = c .before .before in
+    let d = e .before .before in
+    turn-refused _ _ _ _ _ (start d .pre) _ (number-is (e .before)) (e .if1 .taken) _ (c .before .ended .ensures) _ (event-is d) _
 
 carry-out-requires : tie.Need-carry-out-requires
-carry-out-requires c κs = rw (c .before .decode-record .ensures) (allowed _ _ _ _ (c .before .before .before .before .before .before .before .before .before .pre .0) (c .before .before .before .before .refusal .ensures) (c .before .before .before .if1 .left))
+carry-out-requires c κs =
+    let d = reader (c .before) in
+    rw (event-is d) (allowed _ _ _ (start d .pre .formed) (passed (c .before)))
 
 sub-list-line : tie.Need-sub-list-line
 sub-list-line c = search needs
 
 part-list-line-start : tie.Need-part-list-line-start
-part-list-line-start c = search needs
+part-list-line-start c = omega (arith, start (reader (asked (c .before .before .before))) .pre .within)
 
 part-list-line-end : tie.Need-part-list-line-end
 part-list-line-end c = search needs
 
 add-list-line : tie.Need-add-list-line
-add-list-line c = let s = c .before .before .before .before .before .before .before .before .before .before .before .before .before .before .before in omega (arith, s .pre .2, s .pre .3)
+add-list-line c = omega (arith, start (reader (asked (carried c))) .pre .few)
 
 list-line-requires : tie.Need-list-line-requires
 list-line-requires c κs = search needs
@@ -64,38 +123,23 @@ same-length-2 c = search needs
 
 returns-2 : tie.Need-returns-2
 returns-2 c =
-    let s = c .before .before .before .before .before .before .before .before .before .before .before .before .before .before .before .before .before .before .before .before in
-    let left = c .before .before .before .before .before .before .before .before .before .before .before .before .before .before .before .before .rest .ensures in
-    let k = rw left at (c .before .before .before .before .before .before .before .before .before .before .before .before .before .before .before .refusal .ensures) in
-    let e = c .before .before .before .before .before .before .before .before .before .before .before .before .decode-record .ensures in
-    let d = rw (e, left) at (c .before .before .before .before .before .before .before .before .before .before .carry-out .ensures .0) in
-    let p = rw (e, left) at (c .before .before .before .before .list-line .ensures) in
-    turn-full (s .args .cursor) (s .args .t) (s .args .bytes .now) (s .args .listing .now) (s .args .scratch .now) (table-sized (s .args .t) _ (s .good .1 .0)) (s .pre .0) _ k (c .before .before .before .before .before .before .before .before .before .before .before .before .before .before .if1 .left) _ d (s .pre .1) _ _ p (c .before .if2 .taken) _ (c .ended2 .ensures) _ _ (c .before .before .before .before .before .before .before .before .before .before .carry-out .ensures .1)
+    let n = line (c .before .before) in
+    let k = carried (n .before) in
+    let d = reader (asked k) in
+    turn-full _ _ _ _ _ (start d .pre) (sized (start d)) (passed (asked k)) _ _ (effect k) _ (event-is d) _ _ (n .list-line .ensures) (c .before .if2 .taken) _ (c .ended2 .ensures) _
 
-add-t26 : tie.Need-add-t26
-add-t26 c = add-list-line (c .before .before .before .before .before)
+add-t24 : tie.Need-add-t24
+add-t24 c = add-list-line (line (c .before .before) .before)
 
-add-t16 : tie.Need-add-t16
-add-t16 c = search needs
-
-add-t28 : tie.Need-add-t28
-add-t28 c =
-    let s = c .before .before .before .before .before .before .before .before .before .before .before .before .before .before .before .before .before .before .before .before .before in
-    let left = c .before .before .before .before .before .before .before .before .before .before .before .before .before .before .before .before .before .rest .ensures in
-    let k = rw left at (c .before .before .before .before .before .before .before .before .before .before .before .before .before .before .before .before .refusal .ensures) in
-    let e = c .before .before .before .before .before .before .before .before .before .before .before .before .before .decode-record .ensures in
-    let d = rw (e, left) at (c .before .before .before .before .before .before .before .before .before .before .before .carry-out .ensures .0) in
-    rw (c .before .before .before .before .before .before .before .before .before .before .before .before .before .before .byte-at .ensures, left) (omega (arith, record-within (s .args .cursor) (s .args .t) (s .args .bytes .now) (s .args .listing .now) (s .args .scratch .now) (table-sized (s .args .t) _ (s .good .1 .0)) (s .pre .0) _ k (c .before .before .before .before .before .before .before .before .before .before .before .before .before .before .before .if1 .left) _ d (s .pre .2)))
-
-add-t29 : tie.Need-add-t29
-add-t29 c =
-    let s = c .before .before .before .before .before .before .before .before .before .before .before .before .before .before .before .before .before .before .before .before .before .before in
-    let left = c .before .before .before .before .before .before .before .before .before .before .before .before .before .before .before .before .before .before .rest .ensures in
-    let k = rw left at (c .before .before .before .before .before .before .before .before .before .before .before .before .before .before .before .before .before .refusal .ensures) in
-    let e = c .before .before .before .before .before .before .before .before .before .before .before .before .before .before .decode-record .ensures in
-    let d = rw (e, left) at (c .before .before .before .before .before .before .before .before .before .before .before .before .carry-out .ensures .0) in
-    let p = rw (e, left) at (c .before .before .before .before .before .before .list-line .ensures) in
-    omega (arith, written-within (s .args .cursor) (s .args .t) (s .args .bytes .now) (s .args .listing .now) (s .args .scratch .now) (table-sized (s .args .t) _ (s .good .1 .0)) (s .pre .0) _ k (c .before .before .before .before .before .before .before .before .before .before .before .before .before .before .before .before .if1 .left) _ d (s .pre .1) _ _ p (c .before .before .before .if2 .left))
+add-t14 : tie.Need-add-t14
+add-t14 c =
+    let e = c .before .before in
+    let n = line (e .before) in
+    let k = carried (n .before) in
+    let d = reader (asked k) in
+    let s = start d in
+    let h = written-within (s .args .cursor) (s .args .t) (s .args .left .now) (s .args .listing .now) (s .args .scratch .now) (s .pre) (sized (start d)) (passed (asked k)) _ _ (effect k) _ (event-is d) _ _ (n .list-line .ensures) (e .if2 .left) in
+    fits-sum _ _ _ h (listing-fits s)
 
 same-length-3 : tie.Need-same-length-3
 same-length-3 c = search needs
@@ -105,26 +149,22 @@ same-length-4 c = search needs
 
 returns-3 : tie.Need-returns-3
 returns-3 c =
-    let s = c .before .before .before .before .before .before .before .before .before .before .before .before .before .before .before .before .before .before .before .before .before .before in
-    let left = c .before .before .before .before .before .before .before .before .before .before .before .before .before .before .before .before .before .before .rest .ensures in
-    let k = rw left at (c .before .before .before .before .before .before .before .before .before .before .before .before .before .before .before .before .before .refusal .ensures) in
-    let e = c .before .before .before .before .before .before .before .before .before .before .before .before .before .before .decode-record .ensures in
-    let d = rw (e, left) at (c .before .before .before .before .before .before .before .before .before .before .before .before .carry-out .ensures .0) in
-    let p = rw (e, left) at (c .before .before .before .before .before .before .list-line .ensures) in
-    turn-listed (s .args .cursor) (s .args .t) (s .args .bytes .now) (s .args .listing .now) (s .args .scratch .now) (table-sized (s .args .t) _ (s .good .1 .0)) (s .pre .0) _ k (c .before .before .before .before .before .before .before .before .before .before .before .before .before .before .before .before .if1 .left) _ d (s .pre .1) _ _ p (c .before .before .before .if2 .left) _ (rw left at (c .before .before .before .before .before .before .before .before .before .before .before .before .before .before .before .byte-at .ensures)) _ refl _ (c .before .before .before .before .before .before .before .before .before .before .before .before .carry-out .ensures .1)
+    let e = c .before .before in
+    let n = line (e .before) in
+    let k = carried (n .before) in
+    let d = reader (asked k) in
+    turn-listed _ _ _ _ _ (start d .pre) (sized (start d)) (passed (asked k)) _ _ (effect k) _ (event-is d) _ _ (n .list-line .ensures) (e .if2 .left)
+    _ (used-read _ _ _ _ (d .read-record .ensures) (passed (asked k))) _ refl
 
 pub turn-spec : {M : Type 1} → statement M
 turn-spec =
     tie.close
     (tie.spec
-    rest-requires
-    refusal-requires
+    read-record-requires
+    refusal-of-requires
     ended-requires
     at-requires
     returns
-    byte-at-requires
-    cast-size
-    decode-record-requires
     carry-out-requires
     sub-list-line
     part-list-line-start
@@ -135,10 +175,8 @@ turn-spec =
     same-length
     same-length-2
     returns-2
-    add-t26
-    add-t16
-    add-t28
-    add-t29
+    add-t24
+    add-t14
     same-length-3
     same-length-4
     returns-3)
