@@ -1,14 +1,15 @@
--- Questions 10, 11, 13 and 14 of the controller at an index, as tests of its fields; past the last it has none. Assumes nothing.
-use mathlib.Core.Path.{_≡_, refl, _∙_}
+-- What the questions of an event find of a controller: past the last, zeros; and what questions 11 and 14 ask of arrays. Assumes nothing.
+use mathlib.Core.Path.{_≡_, refl}
 use mathlib.Core.Bool.{Bool, true, false, _&&_}
 use mathlib.Core.List.{List}
 use Prim.Native.Nat.{ℕ, suc, _-_, _≤_, _<_}
 use native.Mathlib.Omega.{arith}
 use lib.ListN.{length, getD, List·getD-eq-default}
-use lib.Dec.{leb, ltb}
+use lib.Dec.{leb}
 use borrow.Author.Tests.{lt-ltb, le-ltb, le-leb, lt-leb}
 use Rattle.model.specs.Tables.{seats, capacity, yes?, noPending, noController, at, message, entry, place}
 use Rattle.model.specs.Sized.{Sized}
+use Rattle.model.specs.WellFormed.{named}
 use Rattle.model.specs.Questions.{ownPending, unread, keepable}
 use Rattle.model.specs.declared.Pending.{Pending}
 use Rattle.model.specs.declared.Controller.{Controller}
@@ -29,52 +30,32 @@ pub read-past : (controllers : List Controller) → length controllers ≡ seats
     → (o k : ℕ) → leb (getD (getD controllers i noController .read) o 0) k ≡ true
 read-past controllers l i h o k = rw (none-past controllers l i h) (le-leb 0 k (omega arith))
 
--- CONTROLLER c, AT INDEX i
+pub stopped-past : (t : Table) (c : ℕ) → Sized t → seats ≤ c - 1 → yes? (at t c .running) ≡ false
+unfolding at
+stopped-past t c z h = rw (none-past (t .controllers) (z .controllers) (c - 1) h)
 
-abbrev found : Table → ℕ → Controller
-found t i = getD (t .controllers) i noController
+pub unread-past : (t : Table) (r o : ℕ) → Sized t → seats ≤ o - 1 → unread t r o ≡ false
+unfolding unread at
+unread-past t r o z h = rw (none-past (t .controllers) (z .controllers) (o - 1) h) (le-ltb (place (at t r) o) 0 (omega arith))
+
+-- CONTROLLER c
+
+-- a flag that the test `== 0` did not take
+pub flagged : {f : ℕ} → (f ≡ 0 → ⊥) → yes? f ≡ true
+flagged {f} h = lt-ltb 0 f (omega (arith, h))
 
 index-suc : (r : ℕ) → suc r - 1 ≡ r
 index-suc r = omega arith
 
-module _ (t : Table) (c i : ℕ) (e : i ≡ c - 1) where
-  found-at : at t c ≡ found t i
-  unfolding at
-  found-at = rw e refl
-
-  at-past : Sized t → seats ≤ i → at t c ≡ noController
-  at-past z h = found-at ∙ none-past (t .controllers) (z .controllers) i h
-
-  -- 10
-  pub stopped-past : Sized t → seats ≤ i → yes? (at t c .running) ≡ false
-  stopped-past z h = rw (at-past z h)
-
-  pub stopped : found t i .running ≡ 0 → yes? (at t c .running) ≡ false
-  stopped h = rw (found-at, h)
-
-  pub running : (found t i .running ≡ 0 → ⊥) → yes? (at t c .running) ≡ true
-  running h = rw found-at (lt-ltb 0 (found t i .running) (omega (arith, h)))
-
-  -- 11
-  pub own-pending : (b : Bool) → b ≡ ownAmong (t .count) (t .messages) (found t i .pending) c → b ≡ ownPending t c
+module _ (t : Table) (c : ℕ) where
+  pub own-pending : ownAmong (t .count) (t .messages) (at t c .pending) c ≡ ownPending t c
   unfolding ownAmong ownPending message
-  own-pending b h = rw found-at h
+  own-pending = refl
 
-  -- 13, of the log of c
-  pub unread-past : (r : ℕ) → Sized t → seats ≤ i → unread t r c ≡ false
-  unfolding unread
-  unread-past r z h = rw (at-past z h) (le-ltb (place (at t r) c) 0 (omega arith))
-
-  -- 14
-  pub kept-more : (k : ℕ) → found t i .length < k → keepable t c k ≡ false
+  pub kept-more : (k : ℕ) → at t c .length < k → keepable t c k ≡ false
   unfolding keepable
-  kept-more k h = rw (found-at, lt-leb k (found t i .length) h)
+  kept-more k h = rw (lt-leb k (at t c .length) h)
 
-  pub kept : (k : ℕ) → k ≤ found t i .length → (b : Bool) → b ≡ readWithin (t .n) (t .controllers) i k → b ≡ keepable t c k
+  pub kept : (k : ℕ) → k ≤ at t c .length → readWithin (t .n) (t .controllers) (c - 1) k ≡ keepable t c k
   unfolding keepable readWithin at
-  kept k h b q = rw (found-at, le-leb k (found t i .length) h) (simp (index-suc, ← e) q)
-
--- 13, of the log of o at index j
-pub unread-found : (t : Table) (r i : ℕ) → i ≡ r - 1 → (o j : ℕ) → j ≡ o - 1 → unread t r o ≡ ltb (getD (found t i .read) j 0) (found t j .length)
-unfolding unread
-unread-found t r i e o j f = rw (found-at t r i e, found-at t o j f, ← f)
+  kept k h = rw (le-leb k (at t c .length) h) (simp index-suc)

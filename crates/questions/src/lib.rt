@@ -53,7 +53,7 @@ fn send_refusal(t: Table, sender: u8, payload: Payload) -> u8
     if !Payload::fair(payload) {
         return refusal::AMOUNT;
     }
-    let i = numbers::index(sender as usize);
+    let i = sender as usize - 1;
     if Table::CONTROLLERS <= i {
         return refusal::STOPPED;
     }
@@ -81,8 +81,8 @@ fn handover_refusal(t: Table, receiver: u8, owner: u8) -> u8
     if !(named(t.n, receiver) & named(t.n, owner)) {
         return refusal::CONTROLLER;
     }
-    let r = numbers::index(receiver as usize);
-    let o = numbers::index(owner as usize);
+    let r = receiver as usize - 1;
+    let o = owner as usize - 1;
     if Table::CONTROLLERS <= r {
         return refusal::STOPPED;
     }
@@ -128,7 +128,7 @@ fn stop_refusal(t: Table, controller: u8, kept: usize) -> u8
     if !named(t.n, controller) {
         return refusal::CONTROLLER;
     }
-    let i = numbers::index(controller as usize);
+    let i = controller as usize - 1;
     if Table::CONTROLLERS <= i {
         return refusal::STOPPED;
     }

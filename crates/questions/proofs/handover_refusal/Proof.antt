@@ -1,28 +1,26 @@
 -- The questions of a handover, in order. Assumes nothing.
-use mathlib.Core.Path.{_≡_, ap₂, _∙_}
+use mathlib.Core.Path.{_≡_, ap₂}
 use mathlib.Core.Bool.{true, _&&_}
 use borrow.Author.Needs.{needs}
 use borrow.Author.Tests.{lt-ltb, le-ltb}
+use Rattle.lists.proofs.Tests.{and-left, and-right}
 use Rattle.model.specs.Tables.{yes?, at}
 use Rattle.model.specs.Sized.{Sized}
 use Rattle.model.specs.WellFormed.{named}
-use Rattle.model.specs.Questions.{eventQuestions}
+use Rattle.model.specs.Questions.{unread, eventQuestions}
 use Rattle.model.proofs.Owned.{table-sized}
+use Rattle.model.proofs.Tested.{named-at}
 use Rattle.questions.proofs.Answers.{answered, refused, accepted, seen-yes, seen-no}
-use Rattle.questions.proofs.Controllers.{stopped-past, stopped, running, unread-past, unread-found}
+use Rattle.questions.proofs.Controllers.{flagged, stopped-past, unread-past}
 use Rattle.questions.proofs.handover_refusal.Statement.{statement}
 use Rattle.questions.proofs.handover_refusal.Tie as tie
 
--- from behind question 8 to the entry, from behind both indices to question 8, from behind question 10 to the indices, and
--- from behind what was read to question 10
+-- from behind question 8 to the entry, from behind 10 to 8, and from behind what was read to 10
 abbrev entered : tie.Else1 → tie.Start
 entered c = c .before .before .before
 
-abbrev known : tie.After-index2 → tie.Else1
-known c = c .before .before
-
-abbrev indexed : tie.Else3 → tie.After-index2
-indexed c = c .before .before .before
+abbrev known : tie.Else3 → tie.Else1
+known c = c .before .before .before
 
 abbrev runs : tie.After-read → tie.Else3
 runs c = c .before .before .before
@@ -36,8 +34,9 @@ both-named : (c : tie.Else1) → let s = entered c .args in (named (s .t1) (s .r
 unfolding named
 both-named c = seen-yes (ap₂ _&&_ (c .before .before .named .ensures) (c .before .named2 .ensures)) (c .if1 .left)
 
-receiver-runs : (c : tie.Else3) → let s = entered (known (indexed c)) .args in yes? (at (s .t1) (s .receiver) .running) ≡ true
-receiver-runs c = running (entered (known (indexed c)) .args .t1) _ _ (indexed c .before .index .ensures) (c .if3 .left)
+receiver-runs : (c : tie.Else3) → let s = entered (known c) .args in yes? (at (s .t1) (s .receiver) .running) ≡ true
+unfolding at
+receiver-runs c = flagged (c .if3 .left)
 
 -- NEEDS
 
@@ -51,17 +50,15 @@ returns : tie.Need-returns
 unfolding eventQuestions named
 returns c = refused _ _ (seen-no (ap₂ _&&_ (c .before .before .named .ensures) (c .before .named2 .ensures)) (c .if1 .taken))
 
-index-requires : tie.Need-index-requires
-index-requires c κs = search needs
+sub-r : tie.Need-sub-r
+sub-r c = named-at (entered c .args .t1) _ (and-left _ _ (both-named c)) .low
 
-index-requires-2 : tie.Need-index-requires-2
-index-requires-2 c κs = search needs
+sub-o : tie.Need-sub-o
+sub-o c = named-at (entered c .args .t1) _ (and-right (named (entered c .args .t1) (entered c .args .receiver)) _ (both-named c)) .low
 
 returns-2 : tie.Need-returns-2
 unfolding eventQuestions
-returns-2 c =
-    let k = c .before in
-    answered _ _ (both-named (known k)) (refused _ _ (stopped-past _ _ _ (k .before .index .ensures) (sized (known k)) (c .if2 .taken)))
+returns-2 c = answered _ _ (both-named (c .before)) (refused _ _ (stopped-past _ _ (sized (c .before)) (c .if2 .taken)))
 
 mul-x : tie.Need-mul-x
 mul-x c = search needs
@@ -70,17 +67,14 @@ element-copy-out-x : tie.Need-element-copy-out-x
 element-copy-out-x c = search needs
 
 returns-3 : tie.Need-returns-3
-unfolding eventQuestions
-returns-3 c =
-    let k = c .before .before .before in
-    answered _ _ (both-named (known k)) (refused _ _ (stopped (entered (known k) .args .t1) _ _ (k .before .index .ensures) (c .if3 .taken)))
+unfolding eventQuestions at
+returns-3 c = answered _ _ (both-named (c .before .before .before)) (refused _ _ (rw (c .if3 .taken)))
 
 returns-4 : tie.Need-returns-4
 unfolding eventQuestions
 returns-4 c =
-    let k = indexed (c .before) in
-    answered _ _ (both-named (known k))
-    (answered _ _ (receiver-runs (c .before)) (refused _ _ (unread-past _ _ _ (k .index2 .ensures) _ (sized (known k)) (c .if4 .taken))))
+    let k = known (c .before) in
+    answered _ _ (both-named k) (answered _ _ (receiver-runs (c .before)) (refused _ _ (unread-past _ _ _ (sized k) (c .if4 .taken))))
 
 mul-y : tie.Need-mul-y
 mul-y c = search needs
@@ -95,23 +89,16 @@ array-read-place : tie.Need-array-read-place
 array-read-place c = search needs
 
 returns-5 : tie.Need-returns-5
-unfolding eventQuestions
+unfolding eventQuestions unread at
 returns-5 c =
-    let x = runs (c .before) in
-    let k = indexed x in
-    answered _ _ (both-named (known k))
-    (answered _ _ (receiver-runs x)
-    (refused _ _ (unread-found (entered (known k) .args .t1) _ _ (k .before .index .ensures) _ _ (k .index2 .ensures) ∙ le-ltb _ _ (c .if5 .taken))))
+    let k = runs (c .before) in
+    answered _ _ (both-named (known k)) (answered _ _ (receiver-runs k) (refused _ _ (le-ltb _ _ (c .if5 .taken))))
 
 returns-6 : tie.Need-returns-6
-unfolding eventQuestions
+unfolding eventQuestions unread at
 returns-6 c =
-    let x = runs (c .before) in
-    let k = indexed x in
-    answered _ _ (both-named (known k))
-    (answered _ _ (receiver-runs x)
-    (answered _ _ (unread-found (entered (known k) .args .t1) _ _ (k .before .index .ensures) _ _ (k .index2 .ensures) ∙ lt-ltb _ _ (c .if5 .left))
-    accepted))
+    let k = runs (c .before) in
+    answered _ _ (both-named (known k)) (answered _ _ (receiver-runs k) (answered _ _ (lt-ltb _ _ (c .if5 .left)) accepted))
 
 pub handover-refusal-spec : {M : Type 1} → statement M
 handover-refusal-spec =
@@ -120,8 +107,8 @@ handover-refusal-spec =
     named-requires
     named-requires-2
     returns
-    index-requires
-    index-requires-2
+    sub-r
+    sub-o
     returns-2
     mul-x
     element-copy-out-x

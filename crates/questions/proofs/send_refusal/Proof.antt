@@ -1,6 +1,6 @@
 -- The questions of a report or sync, in order. Assumes nothing.
 use mathlib.Core.Path.{_≡_, sym, ap, _∙_}
-use mathlib.Core.Bool.{true, false, not}
+use mathlib.Core.Bool.{true, not}
 use borrow.Author.Needs.{needs}
 use borrow.Author.Tests.{lt-ltb, le-ltb}
 use Rattle.model.specs.Tables.{yes?, at}
@@ -8,34 +8,27 @@ use Rattle.model.specs.Sized.{Sized}
 use Rattle.model.specs.WellFormed.{named, fairAmount}
 use Rattle.model.specs.Questions.{ownPending, eventQuestions}
 use Rattle.model.proofs.Owned.{table-sized}
+use Rattle.model.proofs.Tested.{named-at}
 use Rattle.questions.proofs.Answers.{answered, refused, accepted, seen-yes, seen-no}
-use Rattle.questions.proofs.Controllers.{stopped-past, stopped, running, own-pending}
+use Rattle.questions.proofs.Controllers.{flagged, stopped-past, own-pending}
 use Rattle.questions.proofs.send_refusal.Statement.{statement}
 use Rattle.questions.proofs.send_refusal.Tie as tie
 
--- from behind question 8 to the entry, from behind 9 to 8, from behind the controller's index to 9, from behind 10 to the
--- index, and from behind the search to 10
+-- from behind question 8 to the entry, from behind 9 to 8, from behind 10 to 9, and from behind the search to 10
 abbrev entered : tie.Else1 → tie.Start
 entered c = c .before .before
 
 abbrev known : tie.Else2 → tie.Else1
 known c = c .before .before
 
-abbrev fair : tie.After-index → tie.Else2
-fair c = c .before
-
-abbrev indexed : tie.After-x → tie.After-index
-indexed c = c .before .before
+abbrev fair : tie.Else4 → tie.Else2
+fair c = c .before .before .before
 
 abbrev runs : tie.After-any-own → tie.Else4
 runs c = c .before .before .before
 
--- from behind the index to the entry
-abbrev started : tie.After-index → tie.Start
-started c = entered (known (fair c))
-
-sized : (c : tie.After-index) → Sized (started c .args .t1)
-sized c = table-sized (started c .args .t1) _ (started c .good .0)
+sized : (c : tie.Else1) → Sized (entered c .args .t1)
+sized c = table-sized (entered c .args .t1) _ (entered c .good .0)
 
 -- WHAT WAS ANSWERED YES
 
@@ -46,14 +39,16 @@ sender-named c = seen-yes (c .before .named .ensures) (c .if1 .left)
 amount-fair : (c : tie.Else2) → fairAmount (entered (known c) .args .payload) ≡ true
 amount-fair c = seen-yes (c .before .fair .ensures) (c .if2 .left)
 
-sender-runs : (c : tie.Else4) → let s = started (indexed (c .before)) .args in yes? (at (s .t1) (s .sender) .running) ≡ true
-sender-runs c = running (started (indexed (c .before)) .args .t1) _ _ (indexed (c .before) .index .ensures) (c .if4 .left)
+sender-runs : (c : tie.Else4) → let s = entered (known (fair c)) .args in yes? (at (s .t1) (s .sender) .running) ≡ true
+unfolding at
+sender-runs c = flagged (c .if4 .left)
 
--- the answer of question 11
-own-answered : (c : tie.After-any-own) → let s = started (indexed (runs c .before)) .args in c .any-own .result ≡ ownPending (s .t1) (s .sender)
-own-answered c =
-    let k = indexed (runs c .before) in
-    own-pending (started k .args .t1) _ _ (k .index .ensures) _ (c .any-own .ensures)
+-- the answer to question 11
+own-found : (c : tie.After-any-own) → let s = entered (known (fair (runs c))) .args in ownPending (s .t1) (s .sender) ≡ c .any-own .result
+unfolding at
+own-found c =
+    let s = entered (known (fair (runs c))) .args in
+    sym (c .any-own .ensures ∙ own-pending (s .t1) (s .sender))
 
 -- NEEDS
 
@@ -71,15 +66,14 @@ returns-2 : tie.Need-returns-2
 unfolding eventQuestions
 returns-2 c = answered _ _ (sender-named (c .before .before)) (refused _ _ (seen-no (c .before .fair .ensures) (c .if2 .taken)))
 
-index-requires : tie.Need-index-requires
-index-requires c κs = search needs
+sub-i : tie.Need-sub-i
+sub-i c = named-at (entered (known c) .args .t1) _ (sender-named (known c)) .low
 
 returns-3 : tie.Need-returns-3
 unfolding eventQuestions
 returns-3 c =
     let k = c .before in
-    answered _ _ (sender-named (known (fair k)))
-    (answered _ _ (amount-fair (fair k)) (refused _ _ (stopped-past _ _ _ (k .index .ensures) (sized k) (c .if3 .taken))))
+    answered _ _ (sender-named (known k)) (answered _ _ (amount-fair k) (refused _ _ (stopped-past _ _ (sized (known k)) (c .if3 .taken))))
 
 mul-x : tie.Need-mul-x
 mul-x c = search needs
@@ -88,11 +82,10 @@ element-copy-out-x : tie.Need-element-copy-out-x
 element-copy-out-x c = search needs
 
 returns-4 : tie.Need-returns-4
-unfolding eventQuestions
+unfolding eventQuestions at
 returns-4 c =
-    let k = indexed (c .before) in
-    answered _ _ (sender-named (known (fair k)))
-    (answered _ _ (amount-fair (fair k)) (refused _ _ (stopped (started k .args .t1) _ _ (k .index .ensures) (c .if4 .taken))))
+    let k = c .before .before .before in
+    answered _ _ (sender-named (known k)) (answered _ _ (amount-fair k) (refused _ _ (rw (c .if4 .taken))))
 
 any-own-requires : tie.Need-any-own-requires
 any-own-requires c κs = search needs
@@ -101,30 +94,26 @@ returns-5 : tie.Need-returns-5
 unfolding eventQuestions
 returns-5 c =
     let x = runs (c .before) in
-    let k = indexed (x .before) in
-    answered _ _ (sender-named (known (fair k)))
-    (answered _ _ (amount-fair (fair k))
-    (answered _ _ (sender-runs x) (refused _ _ (ap not (sym (own-answered (c .before)) ∙ c .if5 .taken)))))
+    answered _ _ (sender-named (known (fair x)))
+    (answered _ _ (amount-fair (fair x)) (answered _ _ (sender-runs x) (refused _ _ (ap not (own-found (c .before) ∙ c .if5 .taken)))))
 
 returns-6 : tie.Need-returns-6
 unfolding eventQuestions
 returns-6 c =
-    let x = runs (c .before .before) in
-    let k = indexed (x .before) in
-    answered _ _ (sender-named (known (fair k)))
-    (answered _ _ (amount-fair (fair k))
-    (answered _ _ (sender-runs x)
-    (answered _ _ (ap not (sym (own-answered (c .before .before)) ∙ c .before .if5 .left)) (refused _ _ (le-ltb _ _ (c .if6 .taken))))))
+    let k = c .before in
+    let x = runs (k .before) in
+    answered _ _ (sender-named (known (fair x)))
+    (answered _ _ (amount-fair (fair x))
+    (answered _ _ (sender-runs x) (answered _ _ (ap not (own-found (k .before) ∙ k .if5 .left)) (refused _ _ (le-ltb _ _ (c .if6 .taken))))))
 
 returns-7 : tie.Need-returns-7
 unfolding eventQuestions
 returns-7 c =
-    let x = runs (c .before .before) in
-    let k = indexed (x .before) in
-    answered _ _ (sender-named (known (fair k)))
-    (answered _ _ (amount-fair (fair k))
-    (answered _ _ (sender-runs x)
-    (answered _ _ (ap not (sym (own-answered (c .before .before)) ∙ c .before .if5 .left)) (answered _ _ (lt-ltb _ _ (c .if6 .left)) accepted))))
+    let k = c .before in
+    let x = runs (k .before) in
+    answered _ _ (sender-named (known (fair x)))
+    (answered _ _ (amount-fair (fair x))
+    (answered _ _ (sender-runs x) (answered _ _ (ap not (own-found (k .before) ∙ k .if5 .left)) (answered _ _ (lt-ltb _ _ (c .if6 .left)) accepted))))
 
 pub send-refusal-spec : {M : Type 1} → statement M
 send-refusal-spec =
@@ -134,7 +123,7 @@ send-refusal-spec =
     returns
     fair-requires
     returns-2
-    index-requires
+    sub-i
     returns-3
     mul-x
     element-copy-out-x

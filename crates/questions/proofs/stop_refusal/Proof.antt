@@ -1,5 +1,5 @@
 -- The questions of a stop, in order. Assumes nothing.
-use mathlib.Core.Path.{_≡_}
+use mathlib.Core.Path.{_≡_, _∙_}
 use mathlib.Core.Bool.{true}
 use borrow.Author.Needs.{needs}
 use Rattle.model.specs.Tables.{yes?, at}
@@ -7,31 +7,24 @@ use Rattle.model.specs.Sized.{Sized}
 use Rattle.model.specs.WellFormed.{named}
 use Rattle.model.specs.Questions.{keepable, eventQuestions}
 use Rattle.model.proofs.Owned.{table-sized}
+use Rattle.model.proofs.Tested.{named-at}
 use Rattle.questions.proofs.Answers.{answered, refused, accepted, seen-yes, seen-no}
-use Rattle.questions.proofs.Controllers.{stopped-past, stopped, running, kept-more, kept}
+use Rattle.questions.proofs.Controllers.{flagged, stopped-past, kept-more, kept}
 use Rattle.questions.proofs.stop_refusal.Statement.{statement}
 use Rattle.questions.proofs.stop_refusal.Tie as tie
 
--- from behind the controller's index to question 8, from there to the entry, from behind 10 to the index, and from behind
--- the positions to 10
-abbrev known : tie.After-index → tie.Else1
-known c = c .before
-
+-- from behind question 8 to the entry, from behind 10 to 8, and from behind the test of the positions to 10
 abbrev entered : tie.Else1 → tie.Start
 entered c = c .before .before
 
-abbrev indexed : tie.Else3 → tie.After-index
-indexed c = c .before .before .before
+abbrev known : tie.Else3 → tie.Else1
+known c = c .before .before .before
 
 abbrev runs : tie.After-none-past → tie.Else3
 runs c = c .before .before .before
 
--- from behind the index to the entry
-abbrev started : tie.After-index → tie.Start
-started c = entered (known c)
-
-sized : (c : tie.After-index) → Sized (started c .args .t1)
-sized c = table-sized (started c .args .t1) _ (started c .good .0)
+sized : (c : tie.Else1) → Sized (entered c .args .t1)
+sized c = table-sized (entered c .args .t1) _ (entered c .good .0)
 
 -- WHAT WAS ANSWERED YES
 
@@ -39,14 +32,16 @@ controller-named : (c : tie.Else1) → named (entered c .args .t1) (entered c .a
 unfolding named
 controller-named c = seen-yes (c .before .named .ensures) (c .if1 .left)
 
-controller-runs : (c : tie.Else3) → let s = started (indexed c) .args in yes? (at (s .t1) (s .controller) .running) ≡ true
-controller-runs c = running (started (indexed c) .args .t1) _ _ (indexed c .index .ensures) (c .if3 .left)
+controller-runs : (c : tie.Else3) → let s = entered (known c) .args in yes? (at (s .t1) (s .controller) .running) ≡ true
+unfolding at
+controller-runs c = flagged (c .if3 .left)
 
--- the answer of question 14
-kept-answered : (c : tie.After-none-past) → let s = started (indexed (runs c)) .args in c .none-past .result ≡ keepable (s .t1) (s .controller) (s .kept)
-kept-answered c =
-    let k = indexed (runs c) in
-    kept (started k .args .t1) _ _ (k .index .ensures) _ (c .before .before .if4 .left) _ (c .none-past .ensures)
+-- the answer to question 14
+kept-found : (c : tie.After-none-past) → let s = entered (known (runs c)) .args in c .none-past .result ≡ keepable (s .t1) (s .controller) (s .kept)
+unfolding at
+kept-found c =
+    let s = entered (known (runs c)) .args in
+    c .none-past .ensures ∙ kept (s .t1) (s .controller) _ (c .before .before .if4 .left)
 
 -- NEEDS
 
@@ -57,14 +52,12 @@ returns : tie.Need-returns
 unfolding eventQuestions named
 returns c = refused _ _ (seen-no (c .before .named .ensures) (c .if1 .taken))
 
-index-requires : tie.Need-index-requires
-index-requires c κs = search needs
+sub-i : tie.Need-sub-i
+sub-i c = named-at (entered c .args .t1) _ (controller-named c) .low
 
 returns-2 : tie.Need-returns-2
 unfolding eventQuestions
-returns-2 c =
-    let k = c .before in
-    answered _ _ (controller-named (known k)) (refused _ _ (stopped-past _ _ _ (k .index .ensures) (sized k) (c .if2 .taken)))
+returns-2 c = answered _ _ (controller-named (c .before)) (refused _ _ (stopped-past _ _ (sized (c .before)) (c .if2 .taken)))
 
 mul-x : tie.Need-mul-x
 mul-x c = search needs
@@ -73,17 +66,15 @@ element-copy-out-x : tie.Need-element-copy-out-x
 element-copy-out-x c = search needs
 
 returns-3 : tie.Need-returns-3
-unfolding eventQuestions
-returns-3 c =
-    let k = c .before .before .before in
-    answered _ _ (controller-named (known k)) (refused _ _ (stopped (started k .args .t1) _ _ (k .index .ensures) (c .if3 .taken)))
+unfolding eventQuestions at
+returns-3 c = answered _ _ (controller-named (c .before .before .before)) (refused _ _ (rw (c .if3 .taken)))
 
 returns-4 : tie.Need-returns-4
-unfolding eventQuestions
+unfolding eventQuestions at
 returns-4 c =
-    let k = indexed (c .before) in
-    answered _ _ (controller-named (known k))
-    (answered _ _ (controller-runs (c .before)) (refused _ _ (kept-more (started k .args .t1) _ _ (k .index .ensures) _ (c .if4 .taken))))
+    let k = known (c .before) in
+    answered _ _ (controller-named k)
+    (answered _ _ (controller-runs (c .before)) (refused _ _ (kept-more (entered k .args .t1) (entered k .args .controller) _ (c .if4 .taken))))
 
 none-past-requires : tie.Need-none-past-requires
 none-past-requires c κs = search needs
@@ -91,16 +82,14 @@ none-past-requires c κs = search needs
 returns-5 : tie.Need-returns-5
 unfolding eventQuestions
 returns-5 c =
-    let x = runs (c .before) in
-    answered _ _ (controller-named (known (indexed x)))
-    (answered _ _ (controller-runs x) (refused _ _ (seen-no (kept-answered (c .before)) (c .if5 .taken))))
+    let k = runs (c .before) in
+    answered _ _ (controller-named (known k)) (answered _ _ (controller-runs k) (refused _ _ (seen-no (kept-found (c .before)) (c .if5 .taken))))
 
 returns-6 : tie.Need-returns-6
 unfolding eventQuestions
 returns-6 c =
-    let x = runs (c .before) in
-    answered _ _ (controller-named (known (indexed x)))
-    (answered _ _ (controller-runs x) (answered _ _ (seen-yes (kept-answered (c .before)) (c .if5 .left)) accepted))
+    let k = runs (c .before) in
+    answered _ _ (controller-named (known k)) (answered _ _ (controller-runs k) (answered _ _ (seen-yes (kept-found (c .before)) (c .if5 .left)) accepted))
 
 pub stop-refusal-spec : {M : Type 1} → statement M
 stop-refusal-spec =
@@ -108,7 +97,7 @@ stop-refusal-spec =
     (tie.spec
     named-requires
     returns
-    index-requires
+    sub-i
     returns-2
     mul-x
     element-copy-out-x
