@@ -10,7 +10,7 @@ use lib.IntN.{ℤ}
 use mir.Syntax.{w32}
 use mir.Val.{SFits}
 use Rattle.lists.proofs.Every.{Every}
-use Rattle.model.specs.Runs.{decimal, signed, listed, line, lineOf, header, footer}
+use Rattle.model.specs.Runs.{decimal, signed, nameFields, line, lineOf, header, footer}
 use Rattle.model.specs.declared.Name.{Name}
 use Rattle.model.proofs.Decimals.{decimal-bound}
 use Rattle.model.proofs.Lengths.{SmallName, signed-bound, names-bound, length-line}
@@ -20,9 +20,9 @@ regroup : (a b k s l z : List ℕ) → ((((a ++ b) ++ k) ++ s) ++ l) ++ z ≡ a 
 regroup a b k s l z = simp append-assoc
 
 -- the parts, as they are stored one after the other
-pub line-parts : (e c : ℕ) (x : ℤ) (ms : List Name) → ((((decimal e ++ (32 ∷ decimal c)) ++ (32 ∷ [])) ++ signed x) ++ listed ms) ++ (10 ∷ []) ≡ line e c x ms
+pub line-parts : (e c : ℕ) (x : ℤ) (ms : List Name) → ((((decimal e ++ (32 ∷ decimal c)) ++ (32 ∷ [])) ++ signed x) ++ nameFields ms) ++ (10 ∷ []) ≡ line e c x ms
 unfolding line
-line-parts e c x ms = regroup (decimal e) (32 ∷ decimal c) (32 ∷ []) (signed x) (listed ms) (10 ∷ [])
+line-parts e c x ms = regroup (decimal e) (32 ∷ decimal c) (32 ∷ []) (signed x) (nameFields ms) (10 ∷ [])
 
 line-of : (e c : ℕ) (x : ℤ) (ms : List Name) → 0 < length ms → line e c x ms ≡ lineOf e c x ms
 unfolding lineOf

@@ -13,46 +13,46 @@ use denote.Laws.{Is}
 use denote.Array.{Array, each}
 use denote.Struct.Declared.{row}
 use Rattle.lists.proofs.Every.{Every}
-use Rattle.model.specs.Runs.{decimal, listed}
+use Rattle.model.specs.Runs.{decimal, nameFields}
 use Rattle.model.specs.Tables.{noName}
 use Rattle.model.specs.declared.Name.{Name}
 use Rattle.model.proofs.Lengths.{SmallName}
 use Rattle.model.proofs.Name as name
 
-pub one-name : (m : Name) → listed (m ∷ []) ≡ (32 ∷ decimal (m .sender)) ++ (46 ∷ decimal (m .number .0))
-unfolding listed
+pub one-name : (m : Name) → nameFields (m ∷ []) ≡ (32 ∷ decimal (m .sender)) ++ (46 ∷ decimal (m .number .0))
+unfolding nameFields
 one-name m = simp append-nil
 
-pub length-one-name : (m : Name) → length (listed (m ∷ [])) ≡ length (decimal (m .sender)) + length (decimal (m .number .0)) + 2
+pub length-one-name : (m : Name) → length (nameFields (m ∷ [])) ≡ length (decimal (m .sender)) + length (decimal (m .number .0)) + 2
 length-one-name m =
     ap length (one-name m)
     ∙ omega (arith, length-append (32 ∷ decimal (m .sender)) (46 ∷ decimal (m .number .0)))
 
-listed-append : (xs ys : List Name) → listed (xs ++ ys) ≡ listed xs ++ listed ys
-unfolding listed
-listed-append [] ys = refl
-listed-append (m ∷ xs) ys = rw (listed-append xs ys) (simp append-assoc)
+fields-append : (xs ys : List Name) → nameFields (xs ++ ys) ≡ nameFields xs ++ nameFields ys
+unfolding nameFields
+fields-append [] ys = refl
+fields-append (m ∷ xs) ys = rw (fields-append xs ys) (simp append-assoc)
 
-pub listed-more : (names : List Name) (i : ℕ) → i < length names
-    → listed (take (i + 1) names) ≡ listed (take i names) ++ listed (getD names i noName ∷ [])
-listed-more names i h = rw (add-one, take-suc names i noName h) (listed-append (take i names) (getD names i noName ∷ []))
+pub fields-more : (names : List Name) (i : ℕ) → i < length names
+    → nameFields (take (i + 1) names) ≡ nameFields (take i names) ++ nameFields (getD names i noName ∷ [])
+fields-more names i h = rw (add-one, take-suc names i noName h) (fields-append (take i names) (getD names i noName ∷ []))
 
-pub length-listed-more : (names : List Name) (i : ℕ) → i < length names
-    → length (listed (take (i + 1) names)) ≡ length (listed (take i names)) + length (listed (getD names i noName ∷ []))
-length-listed-more names i h = ap length (listed-more names i h) ∙ length-append (listed (take i names)) (listed (getD names i noName ∷ []))
+pub length-fields-more : (names : List Name) (i : ℕ) → i < length names
+    → length (nameFields (take (i + 1) names)) ≡ length (nameFields (take i names)) + length (nameFields (getD names i noName ∷ []))
+length-fields-more names i h = ap length (fields-more names i h) ∙ length-append (nameFields (take i names)) (nameFields (getD names i noName ∷ []))
 
 -- the first of the names take at most as many bytes as more of them
-pub listed-fits : (names : List Name) (i n : ℕ) → i ≤ n → length (listed (take i names)) ≤ length (listed (take n names))
-unfolding listed
-listed-fits names zero n h = omega arith
-listed-fits names (suc i) zero h = absurd (not-suc-le-zero h)
-listed-fits [] (suc i) (suc n) h = omega arith
-listed-fits (m ∷ ms) (suc i) (suc n) h =
+pub fields-fit : (names : List Name) (i n : ℕ) → i ≤ n → length (nameFields (take i names)) ≤ length (nameFields (take n names))
+unfolding nameFields
+fields-fit names zero n h = omega arith
+fields-fit names (suc i) zero h = absurd (not-suc-le-zero h)
+fields-fit [] (suc i) (suc n) h = omega arith
+fields-fit (m ∷ ms) (suc i) (suc n) h =
     let a : List ℕ = 32 ∷ decimal (m .sender) in
     let b : List ℕ = 46 ∷ decimal (m .number .0) in
-    let x = listed (take i ms) in
-    let y = listed (take n ms) in
-    omega (arith, listed-fits ms i n (le-of-suc-le-suc h), length-append a (b ++ x), length-append b x, length-append a (b ++ y), length-append b y)
+    let x = nameFields (take i ms) in
+    let y = nameFields (take n ms) in
+    omega (arith, fields-fit ms i n (le-of-suc-le-suc h), length-append a (b ++ x), length-append b x, length-append a (b ++ y), length-append b y)
 
 -- AN ARRAY OF NAMES
 

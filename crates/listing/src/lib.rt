@@ -5,7 +5,7 @@ ghost use mathlib.Core.List.{[], _∷_};
 ghost use Prim.Native.Nat.{_+_, _≤_, _<_, min};
 ghost use lib.ListN.{length, take};
 ghost use lib.IntN.{natAbs};
-ghost use Rattle.model.specs.Runs.{decimal, signed, listed, line, lineOf, header, footer};
+ghost use Rattle.model.specs.Runs.{decimal, signed, nameFields, line, lineOf, header, footer};
 ghost use Rattle.listing.specs.Writing.{Wrote, Stored};
 
 // What a writer answers: the refusal number, 0 if the line fits, and the bytes written.
@@ -84,8 +84,8 @@ fn put_signed(buffer: &mut [u8], at: usize, x: i32) -> usize
 
 // Stores a name, with a space before it.
 fn put_name(buffer: &mut [u8], at: usize, name: Name) -> usize
-    requires { ⌜ at + length (listed (name ∷ [])) ≤ length (now buffer) ⌝ }
-    ensures { λ r. ⌜ Stored (listed (name ∷ [])) (now (buffer .entry)) at (now (buffer .exit)) r ⌝ }
+    requires { ⌜ at + length (nameFields (name ∷ [])) ≤ length (now buffer) ⌝ }
+    ensures { λ r. ⌜ Stored (nameFields (name ∷ [])) (now (buffer .entry)) at (now (buffer .exit)) r ⌝ }
 {
     let number = name.number;
     let next = put_field(buffer, at, SPACE, name.sender as usize);
@@ -94,8 +94,8 @@ fn put_name(buffer: &mut [u8], at: usize, name: Name) -> usize
 
 // Stores the first of the names.
 fn put_names(buffer: &mut [u8], from: usize, names: [Name; 64], count: usize) -> usize
-    requires { ⌜ (count ≤ 64) × (from + length (listed (take count names)) ≤ length (now buffer)) ⌝ }
-    ensures { λ r. ⌜ Stored (listed (take count names)) (now (buffer .entry)) from (now (buffer .exit)) r ⌝ }
+    requires { ⌜ (count ≤ 64) × (from + length (nameFields (take count names)) ≤ length (now buffer)) ⌝ }
+    ensures { λ r. ⌜ Stored (nameFields (take count names)) (now (buffer .entry)) from (now (buffer .exit)) r ⌝ }
 {
     let mut at = from;
     for i in 0..count {

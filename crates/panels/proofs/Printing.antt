@@ -75,13 +75,13 @@ only-end s l t k q e n b ll w =
     ∙ rw e (sym (cond-false _ _ (ne-eqb (firstNo (fileQuestions s)) 0 (λ z. n (e ∙ z)))))
 
 -- with the header line in it, up to k
-pub record Headed (s l t : List ℕ) (k : ℕ) : Type 0 where
+pub record HasHeader (s l t : List ℕ) (k : ℕ) : Type 0 where
   pub laid : Laid (header (byte s 1)) l t k
   pub short : k ≤ 16
   pub size : length t ≡ 16448
 
-pub headed : (s l t : List ℕ) (n : ℕ) (q : Put) → n ≡ byte s 1 → n < 256 → length l ≡ 16448 → Wrote (header n) l t q → Headed s l t (q .written)
-headed s l t n q e b ll w =
+pub has-header : (s l t : List ℕ) (n : ℕ) (q : Put) → n ≡ byte s 1 → n < 256 → length l ≡ 16448 → Wrote (header n) l t q → HasHeader s l t (q .written)
+has-header s l t n q e b ll w =
     let bound = header-bound n b in
     let p = laid-line (omega arith) w in
     record {
@@ -91,18 +91,18 @@ headed s l t n q e b ll w =
     }
 
 -- with the lines of the run behind it, up to k; the run has answered r
-pub record Listed (s l t : List ℕ) (k : ℕ) (r : RunAnswer) : Type 0 where
+pub record HasLines (s l t : List ℕ) (k : ℕ) (r : RunAnswer) : Type 0 where
   pub laid : Laid (header (byte s 1) ++ lent s .lines) l t k
   pub short : k ≤ 16400
   pub size : length t ≡ 16448
   pub events : r .events ≡ lent s .events
   pub number : r .number ≡ lent s .number
 
-pub listed : (s l w t m : List ℕ) (k j : ℕ) (r : RunAnswer) → firstNo (fileQuestions s) ≡ 0 → length w ≡ 4096 → j ≡ 16384 → Headed s l t k
+pub has-lines : (s l w t m : List ℕ) (k j : ℕ) (r : RunAnswer) → firstNo (fileQuestions s) ≡ 0 → length w ≡ 4096 → j ≡ 16384 → HasHeader s l t k
     → r ≡ runOf s (midOf k j t) w → m ≡ runListing s (midOf k j t) w → length m ≡ length (midOf k j t)
-    → Listed s l (putMid k j t m) (k + r .written) r
+    → HasLines s l (putMid k j t m) (k + r .written) r
 unfolding runOf runListing ran overlay
-listed s l w t m k j r z lw ej h er em same =
+has-lines s l w t m k j r z lw ej h er em same =
     let part : length (midOf k j t) ≡ 16384 = omega (arith, length-take j (drop k t), length-drop k t, h .short, h .size) in
     let run : fileRun s (midOf k j t) w ≡ ran (lent s) (midOf k j t) w =
     file-run-ran s (midOf k j t) w z ∙ ap₂ (λ (room space : ℕ). ran (progress s room space) (midOf k j t) w) lw part in
@@ -120,15 +120,15 @@ listed s l w t m k j r z lw ej h er em same =
     }
 
 -- with the end line behind them, which has q's bytes
-pub record Ended (s t : List ℕ) (k : ℕ) (q : Put) : Type 0 where
+pub record HasEnd (s t : List ℕ) (k : ℕ) (q : Put) : Type 0 where
   pub short : q .written ≤ 29
   pub text : take (k + q .written) t ≡ printed s
 
-pub ended : (s l t v : List ℕ) (k : ℕ) (r : RunAnswer) (q : Put) → firstNo (fileQuestions s) ≡ 0 → r .events < 2 ^ 64 → r .number < 256 → Listed s l t k r
+pub has-end : (s l t v : List ℕ) (k : ℕ) (r : RunAnswer) (q : Put) → firstNo (fileQuestions s) ≡ 0 → r .events < 2 ^ 64 → r .number < 256 → HasLines s l t k r
     → Wrote (footer (r .events) (r .number)) (midOf k (length t - k) t) v q
-    → Ended s (putMid k (length t - k) t v) k q
+    → HasEnd s (putMid k (length t - k) t v) k q
 unfolding printed
-ended s l t v k r q z be bn h w =
+has-end s l t v k r q z be bn h w =
     let x = footer (r .events) (r .number) in
     let bound = footer-bound (r .events) (r .number) be bn in
     let j = length t - k in

@@ -4,9 +4,9 @@ use mathlib.Core.Path.{_≡_, sym}
 use Prim.Native.Nat.{_+_, _-_, _≤_, _<_}
 use native.Mathlib.Omega.{arith}
 use lib.ListN.{length, take}
-use Rattle.model.specs.Runs.{listed}
+use Rattle.model.specs.Runs.{nameFields}
 use Rattle.listing.specs.Writing.{Stored}
-use Rattle.listing.proofs.Names.{listed-more, length-listed-more, listed-fits}
+use Rattle.listing.proofs.Names.{fields-more, length-fields-more, fields-fit}
 use Rattle.listing.proofs.Storing.{stored-none, stored-same, stored-then, stored-length}
 use borrow.Author.Needs.{needs}
 use Rattle.listing.proofs.put_names.Statement.{statement}
@@ -14,7 +14,7 @@ use Rattle.listing.proofs.put_names.Tie as tie
 
 abbrev Inv-loop : tie.InvT-loop
 Inv-loop buffer₀ from count names at₀ i₀ buffer at i =
-    (i ≤ count) × Stored (listed (take i names)) buffer₀ from buffer at
+    (i ≤ count) × Stored (nameFields (take i names)) buffer₀ from buffer at
 
 abbrev μ-loop : tie.MeasureT-loop
 μ-loop buffer₀ from count names at₀ i₀ buffer at i =
@@ -39,7 +39,7 @@ within : (c : Turn) → loop c .loop .i < length (start (loop c) .args .t3)
 within c = omega (arith, start (loop c) .good .1 .1 .0 .1 .0 .1)
 
 loop-holds : tie.Need-loop-holds Inv-loop μ-loop
-unfolding listed
+unfolding nameFields
 loop-holds c = (omega arith, stored-none _ _)
 
 mul-put-name : tie.Need-mul-put-name Inv-loop μ-loop
@@ -56,8 +56,8 @@ put-name-requires c κs =
       arith,
       l .inv .1 .place,
       stored-length (l .inv .1),
-      length-listed-more names (l .i) (within c),
-      listed-fits names (l .i + 1) (start (loop c) .args .count) (omega arith),
+      length-fields-more names (l .i) (within c),
+      fields-fit names (l .i + 1) (start (loop c) .args .count) (omega arith),
     )
 
 add-i : tie.Need-add-i Inv-loop μ-loop
@@ -71,7 +71,7 @@ loop-again c =
     let put = c .before .before in
     let l = loop (put .before) in (
       omega arith,
-      stored-same (sym (listed-more (start l .args .t3) (l .loop .i) (within (put .before)))) (stored-then (l .loop .inv .1) (put .put-name .ensures)),
+      stored-same (sym (fields-more (start l .args .t3) (l .loop .i) (within (put .before)))) (stored-then (l .loop .inv .1) (put .put-name .ensures)),
     )
 
 same-length : tie.Need-same-length Inv-loop μ-loop

@@ -5,7 +5,7 @@ use native.Mathlib.Omega.{arith}
 use lib.ListN.{length, take}
 use mir.Syntax.{w32}
 use mir.Val.{toZ, ofZ}
-use Rattle.model.specs.Runs.{decimal, signed, listed}
+use Rattle.model.specs.Runs.{decimal, signed, nameFields}
 use Rattle.model.proofs.Lengths.{length-line}
 use Rattle.listing.proofs.Signs.{read-back}
 use Rattle.listing.proofs.Lines.{line-parts}
@@ -41,7 +41,7 @@ same-total s = ap signed (read-back (s .args .total) (s .fits .total))
 -- the parts fit
 room : (s : tie.Start)
     → length (decimal (s .args .event)) + length (decimal (s .args .controller)) + length (signed (toZ w32 (ofZ w32 (s .args .total))))
-    + length (listed (take (s .args .count) (s .args .names))) + 3
+    + length (nameFields (take (s .args .count) (s .args .names))) + 3
     ≤ length (s .args .buffer .now)
 room s =
     omega (

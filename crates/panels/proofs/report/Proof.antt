@@ -6,7 +6,7 @@ use native.Mathlib.Omega.{arith}
 use lib.ListN.{length}
 use borrow.Rule.Slice.PartMut.{putMid}
 use Rattle.model.specs.Questions.{firstNo, fileQuestions}
-use Rattle.panels.proofs.Printing.{only-end, Headed, headed, Listed, listed, Ended, ended}
+use Rattle.panels.proofs.Printing.{only-end, HasHeader, has-header, HasLines, has-lines, HasEnd, has-end}
 use borrow.Author.Needs.{needs}
 use Rattle.panels.proofs.report.Statement.{statement}
 use Rattle.panels.proofs.report.Tie as tie
@@ -44,9 +44,9 @@ headEnd c = c .put-header .result .written
 abbrev headText : tie.After-put-header → List ℕ
 headText c = c .put-header .last .0
 
-with-header : (c : tie.After-put-header) → Headed (lent c .args .file .now) (lent c .args .text .now) (headText c) (headEnd c)
+with-header : (c : tie.After-put-header) → HasHeader (lent c .args .file .now) (lent c .args .text .now) (headText c) (headEnd c)
 with-header c =
-    headed (lent c .args .file .now) (lent c .args .text .now) _ _ _ (c .before .byte-at .ensures) (c .before .byte-at .ok) (lent c .pre .0) (c .put-header .ensures)
+    has-header (lent c .args .file .now) (lent c .args .text .now) _ _ _ (c .before .byte-at .ensures) (c .before .byte-at .ok) (lent c .pre .0) (c .put-header .ensures)
 
 abbrev linesEnd : tie.After-text3 → ℕ
 linesEnd c = headEnd (head c) + c .before .run-file .result .written
@@ -59,11 +59,11 @@ abbrev linesText : tie.After-text3 → List ℕ
 linesText c = putMid (headEnd (head c)) (part (head c)) (headText (head c)) (c .before .run-file .last .1 .0)
 
 with-lines : (c : tie.After-text3)
-    → Listed (lent (head c) .args .file .now) (lent (head c) .args .text .now) (linesText c) (linesEnd c) (c .before .run-file .result)
+    → HasLines (lent (head c) .args .file .now) (lent (head c) .args .text .now) (linesText c) (linesEnd c) (c .before .run-file .result)
 with-lines c =
     let h = head c in
     let s = lent h in
-    listed (s .args .file .now) (s .args .text .now) (s .args .scratch .now) (headText h) _ (headEnd h) (part h) _ (passed h) (s .pre .1) (omega arith) (with-header h)
+    has-lines (s .args .file .now) (s .args .text .now) (s .args .scratch .now) (headText h) _ (headEnd h) (part h) _ (passed h) (s .pre .1) (omega arith) (with-header h)
     (c .before .run-file .ensures .0) (c .before .run-file .ensures .1) (c .text3 .given .0)
 
 abbrev wholeText : tie.After-put-footer2 → List ℕ
@@ -73,13 +73,13 @@ wholeText c =
 
 with-end : (c : tie.After-put-footer2)
     → let l = run (lines c) in
-    Ended (lent (head l) .args .file .now) (wholeText c) (linesEnd l) (c .put-footer2 .result)
+    HasEnd (lent (head l) .args .file .now) (wholeText c) (linesEnd l) (c .put-footer2 .result)
 with-end c =
     let l = run (lines c) in
     let h = head l in
     let r = l .before .run-file in
     let fields = r .ok .1 .1 in
-    ended (lent h .args .file .now) (lent h .args .text .now) (linesText l) _ (linesEnd l) (r .result) _ (passed h) (fields .1 .0 .1) (fields .0 .1) (with-lines l) (c .put-footer2 .ensures)
+    has-end (lent h .args .file .now) (lent h .args .text .now) (linesText l) _ (linesEnd l) (r .result) _ (passed h) (fields .1 .0 .1) (fields .0 .1) (with-lines l) (c .put-footer2 .ensures)
 
 file-refusal-requires : tie.Need-file-refusal-requires
 file-refusal-requires c κs = search needs
