@@ -61,7 +61,7 @@ AbsentMarks c = (j f : ℕ) → j < capacity → f < seats → held c j ≡ fals
 -- THE RELATION
 
 -- process i of the state is controller c, where slot j holds the message `name j`
-pub record Shows (n slots : ℕ) (name : ℕ → ℕ) (s : State) (i : ℕ) (c : Controller) : Type 0 where
+pub record ShowsBy (n slots : ℕ) (name : ℕ → ℕ) (s : State) (i : ℕ) (c : Controller) : Type 0 where
   pub length : s .readable i ≡ c .length
   pub places : (o : ℕ) → o < n → s .read i o ≡ place c (suc o)
   pub running : s .running i ≡ yes? (c .running)
@@ -70,12 +70,16 @@ pub record Shows (n slots : ℕ) (name : ℕ → ℕ) (s : State) (i : ℕ) (c :
   pub marks : Stored (system n) slots name (marksOf c) s i
   pub absent-marks : AbsentMarks c
 
+-- the same where the slots hold the messages of a table
+abbrev pub Shows : ℕ → Table → State → ℕ → Controller → Type 0
+Shows n t s i c = ShowsBy n (t .count) (codeAt t) s i c
+
 pub record Related (n : ℕ) (t : Table) (s : State) : Type 0 where
   pub sized : Sized t
   pub formed : WellFormed t
   pub size : t .n ≡ n
   pub all : All (system n) s
-  pub controllers : (i : ℕ) → i < n → Shows n (t .count) (codeAt t) s i (at t (suc i))
+  pub controllers : (i : ℕ) → i < n → Shows n t s i (at t (suc i))
   -- what is in a log is a message of the run
   pub slot-of : (i m : ℕ) → s .position i m < top → Slot (t .count) (codeAt t) m
   -- a message's number is its place in its sender's log, also where that was cut

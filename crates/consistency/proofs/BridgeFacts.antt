@@ -41,7 +41,7 @@ module _ (t : Table) (w : WellFormed t) where
 -- ONE CONTROLLER
 
 module _ (n : ℕ) (t : Table) (w : WellFormed t) (s : State) (v : Invariant (system n) s)
-    (i x : ℕ) (c : Controller) (g : GoodController t x c) (h : Shows n (t .count) (codeAt t) s i c) where
+    (i x : ℕ) (c : Controller) (g : GoodController t x c) (h : Shows n t s i c) where
   pub logged-position : (j : ℕ) → inLog c j ≡ true → s .position i (codeAt t j) < c .length
   logged-position j e =
       let f = in-log-at c j e in
@@ -101,7 +101,7 @@ module _ {n : ℕ} {t : Table} {s : State} (g : Related n t s) where
   pub lacking : (i m : ℕ) → (s .position i m < top → ⊥) → s .position i m ≡ top
   lacking i m f = omega (arith, v .logs .position-top i m)
 
-  pub shown : (c : ℕ) → Named n c → Shows n (t .count) (codeAt t) s (c - 1) (at t c)
+  pub shown : (c : ℕ) → Named n c → Shows n t s (c - 1) (at t c)
   shown c h =
       let q : suc (c - 1) ≡ c = omega arith in
       rw q at (g .controllers (c - 1) (omega arith))
@@ -125,6 +125,16 @@ module _ {n : ℕ} {t : Table} {s : State} (g : Related n t s) where
         (λ p. position-logged n t (g .formed) s v (c - 1) c (at t c) k h j l (rw (← h .length) (rw e at p))),
         (λ p. rw (e, h .length) (logged-position n t (g .formed) s v (c - 1) c (at t c) k h j p)),
       )
+
+  -- a running sender's log has all its messages
+  pub own-logged : (j : ℕ) → j < t .count → yes? (at t (message t j .sender) .running) ≡ true → inLog (at t (message t j .sender)) j ≡ true
+  own-logged j l on =
+      let c = message t j .sender in
+      let h = shown c (sender-named j l) in
+      let k = g .formed .controllers c (g .formed .senders j l) in
+      let low : s .position (c - 1) (codeAt t j) < top = omega (arith, g .numbered j l, g .formed .numbers j l .1) in
+      position-logged n t (g .formed) s v (c - 1) c (at t c) k h j l
+      (omega (arith, v .logs .position-length (c - 1) (codeAt t j) low, length-is n t (g .formed) s v (c - 1) c (at t c) k h on))
 
   pub all-read : ((r o : ℕ) → Named n r → Named n o → yes? (at t r .running) ≡ true → place (at t r) o ≡ at t o .length) → AllRead (system n) s
   all-read f = record {

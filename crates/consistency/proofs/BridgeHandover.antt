@@ -6,17 +6,17 @@ use mathlib.Core.Logic.{_≢_}
 use Prim.Native.Nat.{ℕ, suc, _-_, min, _≤_, _<_}
 use native.Mathlib.Omega.{arith}
 use Rattle.lists.proofs.Tests.{or-false}
-use Rattle.model.specs.Tables.{seats, capacity, absent, at, message, held, applied, withController}
+use Rattle.model.specs.Tables.{seats, capacity, absent, at, message, held, applied}
 use Rattle.model.specs.Delivery.{Slots, has, applicable}
-use Rattle.model.specs.Events.{nextSlot, received, handoverSet, deliver, handover, next}
+use Rattle.model.specs.Events.{nextSlot, received, handoverSet, deliver, subject, after, withSent, next}
+use Rattle.model.specs.Questions.{firstNo, eventQuestions}
 use Rattle.model.specs.declared.Controller.{Controller}
 use Rattle.model.specs.declared.Table.{Table}
 use Rattle.model.specs.declared.Event.the-variants.{Handover}
-use Rattle.model.proofs.Allowed.{HandoverAllowed}
-use Rattle.invariant.proofs.Buffering.{blank-absent}
+use Rattle.model.proofs.Allowed.{HandoverAllowed, handover-allowed}
+use Rattle.invariant.proofs.Buffering.{unheld-absent}
 use Rattle.invariant.proofs.Delivering.{delivered-entry, delivered-held, delivered-applied}
-use Rattle.invariant.proofs.Receiving.{received-good, handover-well-formed, next-slot-run}
-use Rattle.invariant.proofs.Sizes.{next-sized}
+use Rattle.invariant.proofs.Receiving.{received-good, next-slot-run}
 use Rattle.broadcast.specs.State.{State, append, fifoDeliver, scdDeliver, forward, receive}
 use Rattle.broadcast.specs.Delivery.{Largest}
 use Rattle.broadcast.specs.Events.{MayRead, Event, delivers}
@@ -27,10 +27,10 @@ use Rattle.broadcast.proofs.Legal.{forward-case, forward-entry}
 use Rattle.broadcast.proofs.Settled.{fifoDeliver-view, scdDeliver-view}
 use Rattle.broadcast.proofs.Stored.{deliver-stored}
 use Rattle.broadcast.proofs.Slots.{Slot}
-use Rattle.broadcast.proofs.Runs.{forwarded, event-kept}
+use Rattle.broadcast.proofs.Runs.{forwarded}
 use Rattle.consistency.proofs.Bridge.{top, system, codeAt, marksOf, Shows, Related}
-use Rattle.consistency.proofs.BridgeFacts.{few, agrees}
-use Rattle.consistency.proofs.BridgeKept.{Followed, same-shows, replaced-shows, append-others, append-slot-of, append-numbered}
+use Rattle.consistency.proofs.BridgeFacts.{agrees}
+use Rattle.consistency.proofs.BridgeKept.{same-shows, append-others, append-slot-of, append-numbered, Followed, followed}
 use Rattle.consistency.proofs.BridgeSets.{inSet, in-set-slot, in-set-at, applicable-names}
 use Rattle.consistency.proofs.BridgeReceive.{may-read, received-shows, received-running}
 
@@ -38,7 +38,7 @@ use Rattle.consistency.proofs.BridgeReceive.{may-read, received-shows, 
 
 module _ (n : ℕ) (t : Table) (counted : t .count ≤ capacity) (s : State) (i : ℕ) (c : Controller) (S : Slots) (d : ℕ → Bool)
     (same : (j : ℕ) → j < t .count → d (codeAt t j) ≡ has S j) where
-  pub delivered-shows : Shows n (t .count) (codeAt t) s i c → Shows n (t .count) (codeAt t) (scdDeliver s i d) i (deliver t c S)
+  pub delivered-shows : Shows n t s i c → Shows n t (scdDeliver s i d) i (deliver t c S)
   unfolding scdDeliver deliver
   delivered-shows h = record {
     length = h .length;
@@ -57,12 +57,15 @@ module _ (n : ℕ) (t : Table) (counted : t .count ≤ capacity) (s : State) (i 
           rw (delivered-entry t c S j (omega arith), sym (same j l) ∙ o .1) refl
 
       unmarked : (j f : ℕ) → j < capacity → f < seats → (b : Bool) → has S j ≡ b → (not (has S j) && held c j) ≡ false → marksOf (deliver t c S) j f ≡ absent
-      unmarked j f l b true p e = rw (delivered-entry t c S j l, p) (blank-absent f b)
+      unmarked j f l b true p e = rw (delivered-entry t c S j l, p) (unheld-absent f b)
       unmarked j f l b false p e = rw (delivered-entry t c S j l, p) (h .absent-marks j f l b (rw p at e))
 
 -- THE HANDOVER
 
-module _ (n : ℕ) (t : Table) (s : State) (g : Related n t s) (r o : ℕ) (reader : r < n) (owner : o < n) (a : HandoverAllowed t (suc r) (suc o)) where
+module _ {n : ℕ} {t : Table} {s : State} (g : Related n t s) (r o : ℕ) (q : firstNo (eventQuestions t (Handover (suc r) (suc o))) ≡ 0) where
+  a : HandoverAllowed t (suc r) (suc o)
+  a = handover-allowed t (suc r) (suc o) q
+
   abbrev v : Invariant (system n) s
   v = g .all .invariant
 
@@ -83,7 +86,7 @@ module _ (n : ℕ) (t : Table) (s : State) (g : Related n t s) (r o : ℕ) (read
   u = scdDeliver R r (inSet t S)
 
   w : MayRead (system n) s r o x
-  w = may-read n t s g r o reader owner a
+  w = may-read g r o a
 
   enters : top ≤ s .position r x → Entry (system n) s r x
   enters = forward-entry (system n) s v r o x w
@@ -116,19 +119,19 @@ module _ (n : ℕ) (t : Table) (s : State) (g : Related n t s) (r o : ℕ) (read
   largest =
       let k = received-good t (g .formed) (g .sized) (suc r) (suc o) a in
       applicable-names n (t .count) (codeAt t) c (g .formed .counted) (λ i h l. k .outside i h l .0) R r
-      (agrees n t (g .formed) R received-invariant r (suc r) c k (received-shows n t s g r o reader owner a) (received-running n t s g r o reader owner a) (slot-of r))
+      (agrees n t (g .formed) R received-invariant r (suc r) c k (received-shows g r o a) (received-running g r o a) (slot-of r))
       (inSet t S) (λ i h. set-at i h ∙ ap (λ z. has (applicable z (c .pending)) i) (g .size)) (in-set-slot t S)
 
   legal : Event (system n) s u
   legal = delivers r o x (inSet t S) w largest
 
-  others-show : (i : ℕ) → i < n → i ≢ r → Shows n (t .count) (codeAt t) u i (at t (suc i))
+  others-show : (i : ℕ) → i < n → i ≢ r → Shows n t u i (at t (suc i))
   unfolding fifoDeliver scdDeliver append
   others-show i l d =
       same-shows n (t .count) (codeAt t) R u i y (scdDeliver-view (system n) R r (inSet t S) i d) refl (λ _. refl) refl
       (same-shows n (t .count) (codeAt t) F R i y (fifoDeliver-view (system n) F r o i d) refl
       (λ q. read-case F r o (λ p. p ≡ F .read i q) i q (λ e _. absurd (d e)) (λ _. refl)) refl
-      (forward-case (system n) (λ z. Shows n (t .count) (codeAt t) z i y) s r x (λ _. g .controllers i l)
+      (forward-case (system n) (λ z. Shows n t z i y) s r x (λ _. g .controllers i l)
       (λ b. append-others n s v r x (enters b) (t .count) (codeAt t) i y d (g .controllers i l))))
     where
       y : Controller
@@ -137,18 +140,8 @@ module _ (n : ℕ) (t : Table) (s : State) (g : Related n t s) (r o : ℕ) (read
       F : State
       F = forward (system n) s r x
 
-  handover-related : Related n (next t (Handover (suc r) (suc o))) u
-  unfolding next handover withController message scdDeliver
-  handover-related = record {
-    sized = next-sized t (Handover (suc r) (suc o)) (g .sized);
-    formed = handover-well-formed t (g .formed) (g .sized) (suc r) (suc o) a;
-    size = g .size;
-    all = event-kept (system n) s u (g .all) legal .all;
-    controllers = replaced-shows n t (g .sized) (few g) r reader (deliver t c S) u
-        (delivered-shows n t (g .formed .counted) R r c S (inSet t S) set-at (received-shows n t s g r o reader owner a)) others-show;
-    slot-of = slot-of;
-    numbered = numbered;
-  }
-
   pub handover-followed : Followed n (next t (Handover (suc r) (suc o))) s
-  handover-followed = record { after = u; legal = legal; related = handover-related }
+  unfolding subject after withSent scdDeliver
+  handover-followed =
+      followed g (Handover (suc r) (suc o)) q r refl u legal
+      (delivered-shows n t (g .formed .counted) R r c S (inSet t S) set-at (received-shows g r o a)) others-show slot-of numbered

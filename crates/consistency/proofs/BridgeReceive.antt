@@ -1,17 +1,16 @@
 -- An allowed handover reads as the abstract system does: the receiver's part of the table, after it has read and before it applies,
 -- is shown by the state that has received the message. Assumes nothing.
-use mathlib.Core.Path.{_≡_, refl, sym, ap, _∙_}
+use mathlib.Core.Path.{_≡_, refl, sym, _∙_}
 use mathlib.Core.Bool.{true, false}
 use mathlib.Core.Logic.{_≢_}
 use mathlib.Core.List.{List}
-use Prim.Native.Nat.{ℕ, suc, _+_, _-_, _<_}
+use Prim.Native.Nat.{ℕ, suc, _+_, _<_}
 use native.Mathlib.Omega.{arith}
 use native.Mathlib.Decide.{ℕ-discrete}
 use lib.ListN.{length, getD}
 use lib.Dec.{leb}
-use borrow.Author.Tests.{leb-true}
 use Rattle.lists.proofs.Tests.{contradiction}
-use Rattle.model.specs.Tables.{seats, capacity, yes?, at, message, slotAt, place, entry, held, applied, highest, blank, forwardNumber, withEntry, withRead, withMark}
+use Rattle.model.specs.Tables.{seats, capacity, yes?, at, message, slotAt, place, entry, held, applied, highest, unheld, forwardNumber, withEntry, withRead, withMark}
 use Rattle.model.specs.Events.{nextSlot, received}
 use Rattle.model.specs.Sized.{SizedController}
 use Rattle.model.specs.WellFormed.{inLog}
@@ -22,22 +21,27 @@ use Rattle.model.specs.Facts.{GoodController}
 use Rattle.model.proofs.Allowed.{HandoverAllowed}
 use Rattle.invariant.proofs.Stores.{seated, at-sized, read-place, read-place-other, forward-case}
 use Rattle.invariant.proofs.Logs.{log-shorter}
-use Rattle.invariant.proofs.Buffering.{blank-absent}
+use Rattle.invariant.proofs.Buffering.{unheld-absent}
 use Rattle.invariant.proofs.Receiving.{above-unapplied, next-slot-run}
-use Rattle.invariant.proofs.Highest.{highest-applied}
 use Rattle.broadcast.specs.State.{State, append, fifoDeliver, forward, receive}
 use Rattle.broadcast.specs.Events.{MayRead}
 use Rattle.broadcast.proofs.Updates.{read-case}
 use Rattle.broadcast.proofs.Invariant.{Invariant}
 use Rattle.broadcast.proofs.Legal.{forward-case as abstract-forward-case, receive-delivered}
 use Rattle.broadcast.proofs.Stored.{Stored, passed-stored, marked-stored}
-use Rattle.broadcast.proofs.Theorem.{passed-over}
-use Rattle.consistency.proofs.Bridge.{top, senderOf, system, codeAt, marksOf, AbsentMarks, Shows, Related}
-use Rattle.consistency.proofs.BridgeMarks.{marked-new, marked-given, marked-other, marked-absent}
+use Rattle.consistency.proofs.Bridge.{top, system, codeAt, marksOf, AbsentMarks, Shows, Related}
+use Rattle.consistency.proofs.PassedOver.{passed-applied}
+use Rattle.consistency.proofs.BridgeMarks.{Marked, marked}
 use Rattle.consistency.proofs.BridgeKept.{append-readable, append-log}
-use Rattle.consistency.proofs.BridgeFacts.{few, lacking, codes-differ, code-owner, logged-position, position-logged, length-is}
+use Rattle.consistency.proofs.BridgeFacts.{few, lacking, codes-differ, logged-position, position-logged, length-is}
 
-module _ (n : ℕ) (t : Table) (s : State) (g : Related n t s) (r o : ℕ) (reader : r < n) (owner : o < n) (a : HandoverAllowed t (suc r) (suc o)) where
+module _ {n : ℕ} {t : Table} {s : State} (g : Related n t s) (r o : ℕ) (a : HandoverAllowed t (suc r) (suc o)) where
+  pub reader : r < n
+  reader = omega (arith, a .receiver, g .size)
+
+  owner : o < n
+  owner = omega (arith, a .owner, g .size)
+
   abbrev c : Controller
   c = at t (suc r)
 
@@ -51,7 +55,7 @@ module _ (n : ℕ) (t : Table) (s : State) (g : Related n t s) (r o : ℕ) (read
   abbrev v : Invariant (system n) s
   v = g .all .invariant
 
-  h : Shows n (t .count) (codeAt t) s r c
+  h : Shows n t s r c
   h = g .controllers r reader
 
   good : GoodController t (suc r) c
@@ -72,7 +76,7 @@ module _ (n : ℕ) (t : Table) (s : State) (g : Related n t s) (r o : ℕ) (read
   pub may-read : MayRead (system n) s r o m
   unfolding nextSlot
   may-read = record {
-    process = omega (arith, few g);
+    process = omega (arith, few g, reader);
     running = h .running ∙ a .running;
     next = g .controllers o owner .log (place c (suc o)) (a .unread) ∙ sym place-is;
     unread = omega (arith, a .unread, place-is, g .controllers o owner .length);
@@ -81,14 +85,7 @@ module _ (n : ℕ) (t : Table) (s : State) (g : Related n t s) (r o : ℕ) (read
 
   -- what is passed over was delivered
   passed-delivered : leb (message t j .number .0) (highest c (message t j .sender)) ≡ true → s .delivered r m ≡ true
-  passed-delivered e =
-      let l = leb-true (message t j .number .0) (highest c (message t j .sender)) e in
-      let y = highest-applied t (suc r) c good (message t j .sender) (g .formed .senders j run) (omega (arith, l, g .formed .numbers j run .0)) in
-      let x = y .slot in
-      let own : senderOf (codeAt t x) ≡ senderOf m = code-owner t (g .formed) x (y .below) ∙ ap (λ z. z - 1) (y .sender) ∙ sym (code-owner t (g .formed) j run) in
-      passed-over (system n) s (g .all) r (codeAt t x) m (h .applied-is x (y .below) ∙ y .is-applied) own
-      (rw (code-owner t (g .formed) j run)
-      (omega (arith, l, g .numbered j run, g .numbered x (y .below), y .number, ap (λ z. s .position (z - 1) (codeAt t x)) (y .sender))))
+  passed-delivered e = h .applied-is j run ∙ passed-applied g (suc r) (suc o) a e
 
   unapplied : leb (message t j .number .0) (highest c (message t j .sender)) ≡ false → applied c j ≡ false
   unapplied = above-unapplied t (g .formed) (suc r) c good j run
@@ -121,15 +118,15 @@ module _ (n : ℕ) (t : Table) (s : State) (g : Related n t s) (r o : ℕ) (read
   read-places : (q : ℕ) → q < n → S .read r q ≡ place (withRead c (suc o)) (suc q)
   read-places q l =
       read-case (forward (system n) s r m) r o (λ p. p ≡ place (withRead c (suc o)) (suc q)) r q
-      (λ _ e. rw (e, read-place c (suc o) size (omega (arith, few g)), forward-same .0) (omega (arith, place-is)))
-      (λ d. rw (read-place-other c (suc o) (suc q) (omega (arith, few g)) (omega (arith, few g)) (λ e. d refl (omega arith)), forward-same .0) (h .places q l))
+      (λ _ e. rw (e, read-place c (suc o) size (omega (arith, few g, owner)), forward-same .0) (omega (arith, place-is)))
+      (λ d. rw (read-place-other c (suc o) (suc q) (omega (arith, few g, owner)) (omega (arith, few g)) (λ e. d refl (omega arith)), forward-same .0) (h .places q l))
 
   -- what of the receiver no kind of reading changes
   receiver-shows : (x : Controller) → x .read ≡ withRead c (suc o) .read → x .running ≡ c .running → x .applied ≡ c .applied
       → S .readable r ≡ x .length → ((p : ℕ) → p < x .length → S .position r (codeAt t (slotAt x p)) ≡ p)
       → Stored (system n) (t .count) (codeAt t) (marksOf x) S r
       → AbsentMarks x
-      → Shows n (t .count) (codeAt t) S r x
+      → Shows n t S r x
   unfolding fifoDeliver
   receiver-shows x read running applied′ length log marks absent-marks = record {
     length = length;
@@ -143,7 +140,7 @@ module _ (n : ℕ) (t : Table) (s : State) (g : Related n t s) (r o : ℕ) (read
 
   -- PASSED OVER
 
-  passed-shows : leb (message t j .number .0) (highest c (message t j .sender)) ≡ true → Shows n (t .count) (codeAt t) S r (withRead c (suc o))
+  passed-shows : leb (message t j .number .0) (highest c (message t j .sender)) ≡ true → Shows n t S r (withRead c (suc o))
   unfolding fifoDeliver
   passed-shows e =
       let d = passed-delivered e in
@@ -156,9 +153,6 @@ module _ (n : ℕ) (t : Table) (s : State) (g : Related n t s) (r o : ℕ) (read
   abbrev k : ℕ
   k = place c (suc o) + 1
 
-  seat : o < seats
-  seat = omega (arith, few g)
-
   slot-room : j < capacity
   slot-room = omega (arith, run, g .formed .counted)
 
@@ -167,35 +161,38 @@ module _ (n : ℕ) (t : Table) (s : State) (g : Related n t s) (r o : ℕ) (read
     abbrev x : Controller
     x = withMark c j ms (suc o) k
 
+    w : Marked c x j ms o k
+    w = marked c size j slot-room ms sized o k (omega (arith, few g, owner))
+
     cell-same : (i f : ℕ) → f < seats → (i ≡ j → f ≡ o → ⊥) → marksOf x i f ≡ marksOf c i f
     cell-same i f l d = go (ℕ-discrete i j)
       where
         go : Dec (i ≡ j) → marksOf x i f ≡ marksOf c i f
-        go (yes e) = rw e (marked-given c size j slot-room ms sized o k seat f (d e) ∙ same f l (d e))
-        go (no e) = marked-other c size j slot-room ms sized o k seat i f e
+        go (yes e) = rw e (w .given f (d e) ∙ same f l (d e))
+        go (no e) = w .other i f e
 
     marked-marks : Stored (system n) (t .count) (codeAt t) (marksOf x) S r
     marked-marks =
         marked-stored (system n) s (g .all) r o m may-read (t .count) (codeAt t) (marksOf c) j (marksOf x) refl (λ i l e. codes-differ t (g .formed) i j l run e)
-        (marked-new c size j slot-room ms sized o k seat ∙ omega (arith, place-is)) (λ i f l b d. cell-same i f (omega arith) d) (h .marks)
+        (w .new ∙ omega (arith, place-is)) (λ i f l b d. cell-same i f (omega arith) d) (h .marks)
 
-  marked-shows : held c j ≡ true → Shows n (t .count) (codeAt t) S r (withMark (withRead c (suc o)) j (entry (c .pending) j .marks) (suc o) k)
+  marked-shows : held c j ≡ true → Shows n t S r (withMark (withRead c (suc o)) j (entry (c .pending) j .marks) (suc o) k)
   unfolding fifoDeliver
   marked-shows e =
       let q = forward-known (held-logged e) in
       let ms = entry (c .pending) j .marks in
       let l = size .marks j slot-room in
       receiver-shows (withMark (withRead c (suc o)) j ms (suc o) k) refl refl refl (rw q (h .length)) (λ p b. rw q (h .log p b))
-      (marked-marks ms l (λ f _ _. refl)) (marked-absent c size j slot-room ms l o k seat (h .absent-marks))
+      (marked-marks ms l (λ f _ _. refl)) (w ms l (λ f _ _. refl) .absent-marks (h .absent-marks))
 
   -- its log lacked it
-  entered-shows : inLog c j ≡ false → held c j ≡ false → Shows n (t .count) (codeAt t) S r (withMark (withEntry (withRead c (suc o)) j) j (blank .marks) (suc o) k)
+  entered-shows : inLog c j ≡ false → held c j ≡ false → Shows n t S r (withMark (withEntry (withRead c (suc o)) j) j (unheld .marks) (suc o) k)
   unfolding fifoDeliver
   entered-shows e d =
-      receiver-shows (withMark (withEntry (withRead c (suc o)) j) j (blank .marks) (suc o) k) refl refl refl
+      receiver-shows (withMark (withEntry (withRead c (suc o)) j) j (unheld .marks) (suc o) k) refl refl refl
       (rw q (append-readable n s r m new ∙ omega (arith, h .length)))
       (λ p l. rw q (append-log n s r m new c size room log-length (codeAt t) j refl (h .log) p l))
-      (marked-marks (blank .marks) refl same) (marked-absent c size j slot-room (blank .marks) refl o k seat (h .absent-marks))
+      (marked-marks (unheld .marks) refl same) (w (unheld .marks) refl same .absent-marks (h .absent-marks))
     where
       new : s .position r m ≡ top
       new = lacked-position e
@@ -206,13 +203,13 @@ module _ (n : ℕ) (t : Table) (s : State) (g : Related n t s) (r o : ℕ) (read
       room : c .length < capacity
       room = omega (arith, log-shorter t (suc r) c good j run e, g .formed .counted)
 
-      same : (f : ℕ) → f < seats → f ≢ o → getD (blank .marks) f (forwardNumber 0) .0 ≡ marksOf c j f
-      same f l _ = blank-absent f l ∙ sym (h .absent-marks j f slot-room l d)
+      same : (f : ℕ) → f < seats → f ≢ o → getD (unheld .marks) f (forwardNumber 0) .0 ≡ marksOf c j f
+      same f l _ = unheld-absent f l ∙ sym (h .absent-marks j f slot-room l d)
 
-  pub received-shows : Shows n (t .count) (codeAt t) S r (received t (suc r) (suc o))
+  pub received-shows : Shows n t S r (received t (suc r) (suc o))
   unfolding received
   received-shows =
-      forward-case (Shows n (t .count) (codeAt t) S r) (withRead c (suc o)) (message t j) j (suc o) k
+      forward-case (Shows n t S r) (withRead c (suc o)) (message t j) j (suc o) k
       passed-shows (λ _ e. marked-shows e) (λ b e. entered-shows (lacked b e) e)
 
   pub received-running : yes? (received t (suc r) (suc o) .running) ≡ true

@@ -6,21 +6,21 @@ use Prim.Native.Nat.{ℕ, suc, _+_, _-_, _<_}
 use native.Mathlib.Numerals.{add-one}
 use native.Mathlib.Omega.{arith}
 use Rattle.lists.proofs.Tests.{refuted}
-use Rattle.model.specs.Tables.{seats, capacity, absent, at, message, slotAt, held, applied, blank, messageNumber, messageOf, withController, withMessage, withEntry, withMark}
-use Rattle.model.specs.Events.{send, next}
+use Rattle.model.specs.Tables.{seats, capacity, absent, at, message, slotAt, held, applied, unheld, withMessage, withMark}
+use Rattle.model.specs.Events.{sentMessage, sent, subject, after, withSent, next}
 use Rattle.model.specs.Sized.{SizedController}
+use Rattle.model.specs.Questions.{firstNo, eventQuestions}
 use Rattle.model.specs.declared.Message.{Message}
 use Rattle.model.specs.declared.Payload.{Payload}
 use Rattle.model.specs.declared.Controller.{Controller}
 use Rattle.model.specs.declared.Table.{Table}
 use Rattle.model.specs.declared.Event.the-variants.{Send}
 use Rattle.model.specs.Facts.{GoodController}
-use Rattle.model.proofs.Allowed.{SendAllowed}
+use Rattle.model.proofs.Allowed.{SendAllowed, send-allowed}
 use Rattle.invariant.proofs.Stores.{seated, at-sized, message-new, message-old}
-use Rattle.invariant.proofs.Sizes.{message-sized, next-sized}
 use Rattle.invariant.proofs.Logs.{log-within}
-use Rattle.invariant.proofs.Buffering.{blank-absent}
-use Rattle.invariant.proofs.Sending.{Added, new, old, added, send-well-formed}
+use Rattle.invariant.proofs.Buffering.{unheld-absent}
+use Rattle.invariant.proofs.Sending.{Added, new, old, added}
 use Rattle.broadcast.specs.State.{State, append}
 use Rattle.broadcast.specs.Events.{MayBroadcast, broadcasts}
 use Rattle.broadcast.proofs.Logs.{Entry}
@@ -28,13 +28,18 @@ use Rattle.broadcast.proofs.Invariant.{Invariant}
 use Rattle.broadcast.proofs.Legal.{broadcast-entry}
 use Rattle.broadcast.proofs.Stored.{Stored, sent-stored}
 use Rattle.broadcast.proofs.Slots.{Slot}
-use Rattle.broadcast.proofs.Runs.{event-kept}
 use Rattle.consistency.proofs.Bridge.{top, code, system, code-sender, code-many, code-injective, codeAt, marksOf, AbsentMarks, Shows, Related}
 use Rattle.consistency.proofs.BridgeFacts.{few, lacking, length-is}
-use Rattle.consistency.proofs.BridgeMarks.{marked-new, marked-given, marked-other, marked-absent}
-use Rattle.consistency.proofs.BridgeKept.{Followed, append-readable, append-position, append-log, append-others, append-slot-of, append-numbered, replaced-shows}
+use Rattle.consistency.proofs.BridgeMarks.{Marked, marked}
+use Rattle.consistency.proofs.BridgeKept.{append-readable, append-position, append-log, append-others, append-slot-of, append-numbered, Followed, followed}
 
-module _ (n : ℕ) (t : Table) (s : State) (g : Related n t s) (c : ℕ) (p : Payload) (process : c < n) (a : SendAllowed t (suc c) p) where
+module _ {n : ℕ} {t : Table} {s : State} (g : Related n t s) (c : ℕ) (p : Payload) (q : firstNo (eventQuestions t (Send (suc c) p)) ≡ 0) where
+  a : SendAllowed t (suc c) p
+  a = send-allowed t (suc c) p q
+
+  process : c < n
+  process = omega (arith, a .sender, g .size)
+
   abbrev v : Invariant (system n) s
   v = g .all .invariant
 
@@ -49,9 +54,9 @@ module _ (n : ℕ) (t : Table) (s : State) (g : Related n t s) (c : ℕ) (p : Pa
   m = code (suc c) k
 
   abbrev t₁ : Table
-  t₁ = withMessage t (messageOf (suc c) (messageNumber k) p)
+  t₁ = withMessage t (sentMessage t (suc c) p)
 
-  h : Shows n (t .count) (codeAt t) s c x
+  h : Shows n t s c x
   h = g .controllers c process
 
   good : GoodController t (suc c) x
@@ -72,6 +77,7 @@ module _ (n : ℕ) (t : Table) (s : State) (g : Related n t s) (c : ℕ) (p : Pa
   one-more = add-one (t .count)
 
   code-new : codeAt t₁ (t .count) ≡ m
+  unfolding sentMessage
   code-new = ap (λ (y : Message). code (y .sender) (y .number .0)) (message-new t _ (g .sized) (a .room))
 
   code-old : (j : ℕ) → j < t .count → codeAt t₁ j ≡ codeAt t j
@@ -93,7 +99,7 @@ module _ (n : ℕ) (t : Table) (s : State) (g : Related n t s) (c : ℕ) (p : Pa
 
   may-broadcast : MayBroadcast (system n) s c m
   may-broadcast = record {
-    process = omega (arith, few g);
+    process = omega (arith, few g, process);
     running = h .running ∙ a .running;
     own = code-sender (suc c) k (omega arith) (omega (arith, room)) ∙ omega arith;
     message = code-many (suc c) k (seated (g .formed .few) (a .sender)) (omega (arith, room));
@@ -113,7 +119,7 @@ module _ (n : ℕ) (t : Table) (s : State) (g : Related n t s) (c : ℕ) (p : Pa
     abbrev z : Controller
     z = at t (suc i)
 
-    h′ : Shows n (t .count) (codeAt t) s i z
+    h′ : Shows n t s i z
     h′ = g .controllers i process′
 
     outside : (held z (t .count) ≡ false) × (applied z (t .count) ≡ false)
@@ -134,7 +140,7 @@ module _ (n : ℕ) (t : Table) (s : State) (g : Related n t s) (c : ℕ) (p : Pa
 
     sent-shows : y .read ≡ z .read → y .running ≡ z .running → y .applied ≡ z .applied → u .readable i ≡ y .length
         → ((q : ℕ) → q < y .length → u .position i (codeAt t₁ (slotAt y q)) ≡ q)
-        → Stores → AbsentMarks y → Shows n (t₁ .count) (codeAt t₁) u i y
+        → Stores → AbsentMarks y → Shows n t₁ u i y
     unfolding append
     sent-shows read running applied′ length log stores absent-marks = record {
       length = length;
@@ -146,32 +152,24 @@ module _ (n : ℕ) (t : Table) (s : State) (g : Related n t s) (c : ℕ) (p : Pa
       absent-marks = absent-marks;
     }
       where
-        each : (j : ℕ) → Added t (messageOf (suc c) (messageNumber k) p) j → s .delivered i (codeAt t₁ j) ≡ applied z j
+        each : (j : ℕ) → Added t (sentMessage t (suc c) p) j → s .delivered i (codeAt t₁ j) ≡ applied z j
         each j (new e _) = rw (e, code-new) (undelivered i ∙ sym (outside .1))
         each j (old l _) = rw (code-old j l) (h′ .applied-is j l)
 
-  -- c after it has sent
-  abbrev y : Controller
-  y = withMark (withEntry x (t .count)) (t .count) (blank .marks) (suc c) k
-
-  sender-shows : Shows n (t₁ .count) (codeAt t₁) u c y
+  sender-shows : Shows n t₁ u c (sent t (suc c))
+  unfolding sent
   sender-shows =
-      sent-shows c process y refl refl refl
+      sent-shows c process (sent t (suc c)) refl refl refl
       (append-readable n s c m (nowhere c) ∙ omega (arith, h .length))
       (append-log n s c m (nowhere c) x size room log-length (codeAt t₁) (t .count) code-new
       (λ q b. rw (code-old (slotAt x q) (good .log-run q b)) (h .log q b)))
-      (record {
-        kept = λ j f l b. marked-other x size (t .count) (a .room) (blank .marks) refl c k seat j f (omega arith);
-        mine = λ _. marked-new x size (t .count) (a .room) (blank .marks) refl c k seat;
-        unmarked = λ f b d. marked-given x size (t .count) (a .room) (blank .marks) refl c k seat f (d refl) ∙ blank-absent f b;
-      })
-      (marked-absent x size (t .count) (a .room) (blank .marks) refl c k seat (h .absent-marks))
+      (record { kept = λ j f l b. w .other j f (omega arith); mine = λ _. w .new; unmarked = λ f b d. w .given f (d refl) ∙ unheld-absent f b })
+      (w .absent-marks (h .absent-marks))
     where
-      seat : c < seats
-      seat = omega (arith, few g)
+      w : Marked x (withMark x (t .count) (unheld .marks) (suc c) k) (t .count) (unheld .marks) c k
+      w = marked x size (t .count) (a .room) (unheld .marks) refl c k (omega (arith, few g, process))
 
-  others-show : (i : ℕ) → i < n → i ≢ c → Shows n (t₁ .count) (codeAt t₁) u i (at t₁ (suc i))
-  unfolding withMessage at
+  others-show : (i : ℕ) → i < n → i ≢ c → Shows n t₁ u i (at t (suc i))
   others-show i l d =
       let b = append-others n s v c m enters (t .count) (codeAt t) i (at t (suc i)) d (g .controllers i l) in
       let q = g .formed .controllers (suc i) (omega (arith, g .size)) in
@@ -190,23 +188,14 @@ module _ (n : ℕ) (t : Table) (s : State) (g : Related n t s) (c : ℕ) (p : Pa
       (λ i q l. let o = g .slot-of i q l in record { slot = o .slot; below = omega (arith, one-more, o .below); is = code-old (o .slot) (o .below) ∙ o .is })
 
   numbered : (j : ℕ) → j < t₁ .count → suc (u .position (message t₁ j .sender - 1) (codeAt t₁ j)) ≡ message t₁ j .number .0
+  unfolding sentMessage
   numbered j l = each (added t _ (g .sized) (a .room) j (omega (arith, one-more)))
     where
-      each : Added t (messageOf (suc c) (messageNumber k) p) j → suc (u .position (message t₁ j .sender - 1) (codeAt t₁ j)) ≡ message t₁ j .number .0
+      each : Added t (sentMessage t (suc c) p) j → suc (u .position (message t₁ j .sender - 1) (codeAt t₁ j)) ≡ message t₁ j .number .0
       each (new _ e) = let from-zero : suc c - 1 ≡ c = omega arith in rw (e, from-zero) (omega (arith, append-position n s c m (nowhere c), log-length))
       each (old b e) = rw e (append-numbered n s v c m enters _ _ _ (g .formed .numbers j b .1) (g .numbered j b))
 
-  send-related : Related n (next t (Send (suc c) p)) u
-  unfolding next send withController message withMessage
-  send-related = record {
-    sized = next-sized t (Send (suc c) p) (g .sized);
-    formed = send-well-formed t (g .formed) (g .sized) (suc c) p a;
-    size = g .size;
-    all = event-kept (system n) s u (g .all) (broadcasts c m may-broadcast) .all;
-    controllers = replaced-shows n t₁ (message-sized t _ (g .sized)) (few g) c process y u sender-shows others-show;
-    slot-of = slot-of;
-    numbered = numbered;
-  }
-
   pub send-followed : Followed n (next t (Send (suc c) p)) s
-  send-followed = record { after = u; legal = broadcasts c m may-broadcast; related = send-related }
+  unfolding subject after withSent
+  send-followed =
+      followed g (Send (suc c) p) q c refl u (broadcasts c m may-broadcast) sender-shows others-show slot-of numbered

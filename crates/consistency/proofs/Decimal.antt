@@ -1,78 +1,37 @@
 -- Decimal numbers read back, and text split at a byte: what the reader of listing lines rests on. Assumes nothing.
-use Prim.Native.Nat.{ℕ, zero, suc, _+_, _-_, _*_, _/_, _%_, _≤_, _<_}
-use mathlib.Core.Path.{_≡_, refl, ap}
+use Prim.Native.Nat.{ℕ, suc, _+_, _-_, _*_, _%_, _≤_, _<_}
+use mathlib.Core.Path.{_≡_, refl}
 use mathlib.Core.List.{List, [], _∷_, _++_}
 use mathlib.Core.Logic.{_≢_}
 use native.Mathlib.Omega.{arith}
-use lib.ListN.{length, length-append}
 use lib.IntN.{ℤ, pos, negsuc}
-use lib.Dec.{ltb}
-use borrow.Author.Tests.{ltb-true, eq-eqb, ne-eqb}
-use Rattle.lists.proofs.Tests.{cond-case}
-use Rattle.model.specs.Runs.{digits, decimal, signed}
+use borrow.Author.Tests.{eq-eqb, ne-eqb}
+use Rattle.lists.proofs.Every.{Every, every-append, every-weaker}
+use Rattle.model.specs.Runs.{decimal, signed}
+use Rattle.model.proofs.Decimals.{by-decimal}
 use Rattle.consistency.specs.Demand3.{first, split, numberFrom, numberIn}
-
--- EVERY ELEMENT OF A LIST
-
-unfoldable pub Every : {A : Type 0} → (A → Type 0) → List A → Type 0
-Every P [] = Unit {0}
-Every P (x ∷ xs) = P x × Every P xs
-
-pub every-append : {A : Type 0} (P : A → Type 0) (xs ys : List A) → Every P xs → Every P ys → Every P (xs ++ ys)
-unfolding Every
-every-append P [] ys h k = k
-every-append P (x ∷ xs) ys h k = (h .0, every-append P xs ys (h .1) k)
-
-pub every-weaker : {A : Type 0} (P Q : A → Type 0) → ((x : A) → P x → Q x) → (xs : List A) → Every P xs → Every Q xs
-unfolding Every
-every-weaker P Q f [] h = h
-every-weaker P Q f (x ∷ xs) h = (f x (h .0), every-weaker P Q f xs (h .1))
 
 -- DECIMAL NUMBERS
 
 abbrev pub Digit : ℕ → Type 0
 Digit b = (48 ≤ b) × (b ≤ 57)
 
-digits-are : (f x : ℕ) → Every Digit (digits f x)
-unfolding digits Every
-digits-are zero x = tt
-digits-are (suc f) x =
-    cond-case (Every Digit) (ltb x 10) _ _
-    (λ e. (omega (arith, ltb-true x 10 e), tt))
-    (λ e. every-append Digit (digits f (x / 10)) ((48 + x % 10) ∷ []) (digits-are f (x / 10)) (omega arith, tt))
-
 pub decimal-digits : (x : ℕ) → Every Digit (decimal x)
-unfolding decimal
-decimal-digits x = digits-are 5 x
-
-pub decimal-not-empty : (x : ℕ) → decimal x ≢ []
-unfolding decimal digits
-decimal-not-empty x =
-    cond-case (λ s. s ≢ []) (ltb x 10) _ _ (λ _. snoc-not-empty [] (48 + x)) (λ _. snoc-not-empty (digits 4 (x / 10)) (48 + x % 10))
-  where
-    snoc-not-empty : (s : List ℕ) (b : ℕ) → s ++ (b ∷ []) ≢ []
-    snoc-not-empty s b e = absurd (omega (arith, length-append s (b ∷ []), ap length e))
+unfolding Every
+decimal-digits =
+    by-decimal (λ x s. Every Digit s) (λ x h. (omega arith, tt))
+    (λ x s h r. every-append Digit s ((48 + x % 10) ∷ []) r (omega arith, tt))
 
 number-snoc : (k : ℕ) (s : List ℕ) (b : ℕ) → numberFrom k (s ++ (b ∷ [])) ≡ numberFrom k s * 10 + (b - 48)
 unfolding numberFrom
 number-snoc k [] b = refl
 number-snoc k (a ∷ s) b = number-snoc (k * 10 + (a - 48)) s b
 
--- the first number that f digits cannot hold
-limit : ℕ → ℕ
-limit zero = 1
-limit (suc f) = limit f * 10
-
-digits-number : (f x : ℕ) → x < limit f → numberIn (digits f x) ≡ x
-unfolding digits numberFrom limit
-digits-number zero x h = omega arith
-digits-number (suc f) x h =
-    cond-case (λ s. numberIn s ≡ x) (ltb x 10) _ _ (λ _. omega arith)
-    (λ _. omega (arith, number-snoc 0 (digits f (x / 10)) (48 + x % 10), digits-number f (x / 10) (omega arith)))
-
-pub decimal-number : (x : ℕ) → x < 100000 → numberIn (decimal x) ≡ x
-unfolding decimal limit
-decimal-number x h = digits-number 5 x h
+-- every number is read back
+pub decimal-number : (x : ℕ) → numberIn (decimal x) ≡ x
+unfolding numberFrom
+decimal-number =
+    by-decimal (λ x s. numberIn s ≡ x) (λ x h. omega arith) (λ x s h r. omega (arith, number-snoc 0 s (48 + x % 10)))
 
 -- SPLITTING
 

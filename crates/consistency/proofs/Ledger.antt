@@ -1,8 +1,8 @@
 -- The ledger and the table say the same: the record of it, the names that a ledger knows as slots of the table, and the start.
 -- Assumes nothing.
-use mathlib.Core.Path.{_≡_, refl, sym, ap, _∙_}
+use mathlib.Core.Path.{_≡_, refl, sym, ap, subst, _∙_}
 use mathlib.Core.Bool.{true, not}
-use mathlib.Core.List.{[], map}
+use mathlib.Core.List.{[], map, flatten}
 use Prim.Native.Nat.{ℕ, _-_, _≤_, _<_}
 use native.Mathlib.Nat.{not-suc-le-zero}
 use native.Mathlib.Omega.{arith}
@@ -11,9 +11,9 @@ use lib.IntN.{ℤ, pos, _-ℤ_}
 use Rattle.lists.specs.Build.{tabulateFrom, tabulate}
 use Rattle.lists.proofs.Tests.{and-right, contradiction}
 use Rattle.lists.proofs.Grow.{map-tabulate}
-use Rattle.model.specs.Tables.{seats, yes?, at, message, place, slotAt, applied, idle, fresh, withController}
+use Rattle.model.specs.Tables.{seats, yes?, at, message, place, slotAt, applied, idle, start as begun, fresh, withController, withMessage}
 use Rattle.model.specs.Delivery.{Slots, has as member}
-use Rattle.model.specs.Events.{nameOf, namesOf}
+use Rattle.model.specs.Events.{sentMessage, withSent, next, nameOf, namesOf}
 use Rattle.model.specs.Sized.{Sized}
 use Rattle.model.specs.WellFormed.{inLog}
 use Rattle.model.specs.declared.Name.{Name}
@@ -21,10 +21,13 @@ use Rattle.model.specs.declared.Message.{Message}
 use Rattle.model.specs.declared.Payload.{Payload}
 use Rattle.model.specs.declared.Controller.{Controller}
 use Rattle.model.specs.declared.Table.{Table}
+use Rattle.model.specs.declared.Event.{Event}
+use Rattle.model.specs.declared.Event.the-variants.{Send, Handover, Stop}
 use Rattle.model.specs.Facts.{Named, GoodController, WellFormed}
+use Rattle.invariant.proofs.Stores.{message-old}
 use Rattle.invariant.proofs.Sizes.{fresh-sized}
 use Rattle.invariant.proofs.Kept.{at-fresh, fresh-well-formed}
-use Rattle.consistency.specs.Demand3.{has, Distinct, join, Sent, Ledger, start, sentNames}
+use Rattle.consistency.specs.Demand3.{has, Distinct, Sent, Ledger, start, sentNames}
 use Rattle.consistency.proofs.Names.{same-true, has-tabulate-at, has-tabulate-of, distinct-tabulate}
 use Rattle.consistency.proofs.SlotNames.{nameAt, names-at, slots-differ, logNames}
 
@@ -49,6 +52,10 @@ pub record Slot (t : Table) (m : Name) : Type 0 where
   pub below : which < t .count
   pub named : nameAt t which ≡ m
 
+-- what holds of the names of slots holds of it
+pub slot-case : {t : Table} {m : Name} (P : Name → Type 0) → Slot t m → ((j : ℕ) → j < t .count → P (nameAt t j)) → P m
+slot-case P s f = subst P (s .named) (f (s .which) (s .below))
+
 pub record Recorded (n : ℕ) (t : Table) (l : Ledger) : Type 0 where
   pub sized : Sized t
   pub formed : WellFormed t
@@ -57,14 +64,12 @@ pub record Recorded (n : ℕ) (t : Table) (l : Ledger) : Type 0 where
   pub places : (r o : ℕ) → Named n r → Named n o → l .place r o ≡ place (at t r) o
   pub runs : (c : ℕ) → Named n c → l .runs c ≡ yes? (at t c .running)
   pub sent : l .sent ≡ tabulate (t .count) (sentAt t)
-  -- a running sender's log has all its messages
-  pub own : (j : ℕ) → j < t .count → yes? (at t (senderAt t j) .running) ≡ true → inLog (at t (senderAt t j)) j ≡ true
   -- cut off is what its sender's log lacks
   pub cut : (j : ℕ) → j < t .count → has (nameAt t j) (l .cut) ≡ not (inLog (at t (senderAt t j)) j)
   pub cut-sent : (m : Name) → has m (l .cut) ≡ true → Slot t m
-  pub applies : (c : ℕ) → Named n c → (j : ℕ) → j < t .count → has (nameAt t j) (join (l .sets c)) ≡ applied (at t c) j
-  pub applied-sent : (c : ℕ) (m : Name) → has m (join (l .sets c)) ≡ true → Slot t m
-  pub once : (c : ℕ) → Distinct (join (l .sets c))
+  pub applies : (c : ℕ) → Named n c → (j : ℕ) → j < t .count → has (nameAt t j) (flatten (l .sets c)) ≡ applied (at t c) j
+  pub applied-sent : (c : ℕ) (m : Name) → has m (flatten (l .sets c)) ≡ true → Slot t m
+  pub once : (c : ℕ) → Distinct (flatten (l .sets c))
   pub unnamed : (c : ℕ) → (Named n c → ⊥) → l .sets c ≡ []
 
 -- NAMES AS SLOTS
@@ -80,11 +85,18 @@ names-slot t S m e =
     let o = names-at t S m e in
     record { which = o .which; below = o .below; named = sym (same-true m _ (and-right (member S (o .which)) _ (o .passes))) }
 
-pub slot-replaced : (t : Table) (c : ℕ) (x : Controller) (m : Name) → Slot t m → Slot (withController t c x) m
-unfolding withController message
-slot-replaced t c x m s = record { which = s .which; below = s .below; named = s .named }
+-- no event takes a message away
+pub slot-kept : (t : Table) (e : Event) (m : Name) → Slot t m → Slot (next t e) m
+unfolding next withSent withController withMessage message
+slot-kept t (Send c p) m s = record {
+  which = s .which;
+  below = omega (arith, s .below);
+  named = ap (λ (y : Message). nameOf y) (message-old t (sentMessage t c p) (s .which) (s .below)) ∙ s .named;
+}
+slot-kept t (Handover r o) m s = record { which = s .which; below = s .below; named = s .named }
+slot-kept t (Stop c k) m s = record { which = s .which; below = s .below; named = s .named }
 
-module _ (n : ℕ) (t : Table) (l : Ledger) (r : Recorded n t l) where
+module _ {n : ℕ} {t : Table} {l : Ledger} (r : Recorded n t l) where
   sent-names : sentNames l ≡ tabulate (t .count) (nameAt t)
   sent-names = ap (map (λ (m : Sent). m .name)) (r .sent) ∙ map-tabulate (λ (m : Sent). m .name) (t .count) (sentAt t)
 
@@ -107,7 +119,7 @@ module _ (n : ℕ) (t : Table) (l : Ledger) (r : Recorded n t l) where
 -- THE START
 
 pub start-recorded : (n : ℕ) → 0 < n → n ≤ seats → Recorded n (fresh n) start
-unfolding fresh idle start has Distinct join logNames tabulate tabulateFrom
+unfolding fresh begun idle start has Distinct flatten logNames tabulate tabulateFrom
 start-recorded n low high = record {
   sized = fresh-sized n;
   formed = fresh-well-formed n low high;
@@ -116,7 +128,6 @@ start-recorded n low high = record {
   places = λ r o h k. rw (at-fresh n r (omega arith)) (sym (getD-replicate {A = ℕ} seats (o - 1) 0 0 (omega arith)));
   runs = λ c h. rw (at-fresh n c (omega arith));
   sent = refl;
-  own = λ j h. absurd (not-suc-le-zero h);
   cut = λ j h. absurd (not-suc-le-zero h);
   cut-sent = λ m e. contradiction e refl;
   applies = λ c h j k. absurd (not-suc-le-zero k);

@@ -1,9 +1,9 @@
--- The ledger and the table say the same after an accepted handover, on a table where what is passed over was applied.
+-- The ledger and the table say the same after an accepted handover, on a table that a run reaches.
 -- Assumes nothing.
 use mathlib.Core.Path.{_≡_, refl, sym, ap, ap₂, _∙_}
 use mathlib.Core.Bool.{Bool, true, false, not, _||_, cond, or-comm}
 use mathlib.Core.Logic.{inl, inr}
-use mathlib.Core.List.{List, [], _∷_, _++_, append-nil, append-assoc}
+use mathlib.Core.List.{List, [], _∷_, _++_, flatten, append-nil, append-assoc}
 use Prim.Native.Nat.{ℕ, _+_, _-_, _<_}
 use native.Mathlib.Omega.{arith}
 use lib.ListN.{getD}
@@ -11,32 +11,36 @@ use lib.Dec.{leb}
 use Rattle.lists.proofs.Tests.{cond-case, cond-true, cond-false, or-cases, or-left, or-right, refuted, contradiction}
 use Rattle.model.specs.Tables.{seats, yes?, at, message, place, held, applied, highest, noName, withController, withEntry, withRead}
 use Rattle.model.specs.Delivery.{has as member}
-use Rattle.model.specs.Sized.{Sized}
-use Rattle.model.specs.Events.{nextSlot, received, handoverSet, deliver, namesOf, handover, next}
+use Rattle.model.specs.Events.{nextSlot, received, handoverSet, deliver, namesOf, subject, after, withSent, next}
 use Rattle.model.specs.WellFormed.{inLog}
+use Rattle.model.specs.Questions.{firstNo, eventQuestions}
 use Rattle.model.specs.declared.Name.{Name}
 use Rattle.model.specs.declared.Controller.{Controller}
 use Rattle.model.specs.declared.Table.{Table}
 use Rattle.model.specs.declared.Event.the-variants.{Handover}
-use Rattle.model.specs.Facts.{Named, GoodController, WellFormed}
-use Rattle.model.proofs.Allowed.{HandoverAllowed}
+use Rattle.model.specs.Facts.{Named, GoodController}
+use Rattle.model.proofs.Allowed.{HandoverAllowed, handover-allowed}
 use Rattle.invariant.proofs.Stores.{seated, at-sized, read-place, read-place-other, forward-case}
-use Rattle.invariant.proofs.Sizes.{read-sized}
+use Rattle.invariant.proofs.Sizes.{read-sized, next-sized}
 use Rattle.invariant.proofs.Logs.{log-shorter}
 use Rattle.invariant.proofs.Delivering.{delivered-applied}
 use Rattle.invariant.proofs.Receiving.{above-unapplied, next-slot-run, receiver-good}
+use Rattle.invariant.proofs.Kept.{next-well-formed}
 use Rattle.invariant.proofs.Counter.{received-applied, applied-new}
-use Rattle.consistency.specs.Demand3.{has, Distinct, join, put, Ledger, carried}
+use Rattle.broadcast.specs.State.{State}
+use Rattle.consistency.specs.Demand3.{has, Distinct, put, Ledger, carried, moved}
+use Rattle.consistency.proofs.Bridge.{Related}
+use Rattle.consistency.proofs.BridgeFacts.{own-logged}
 use Rattle.consistency.proofs.Names.{has-append, distinct-append}
 use Rattle.consistency.proofs.SlotNames.{nameAt, logNames, log-at, log-entered, has-log, has-names, distinct-names}
-use Rattle.consistency.proofs.PassedOver.{PassedOver}
-use Rattle.consistency.proofs.Ledger.{senderAt, Slot, Recorded, names-slot, slot-replaced}
+use Rattle.consistency.proofs.PassedOver.{passed-applied}
+use Rattle.consistency.proofs.Ledger.{senderAt, Slot, slot-case, Recorded, names-slot, slot-kept}
 use Rattle.consistency.proofs.LedgerChanges.{put-case, at-case, at-kept, put-at}
 
-join-last : (ss : List (List Name)) (s : List Name) → join (ss ++ (s ∷ [])) ≡ join ss ++ s
-unfolding join
-join-last [] s = append-nil s
-join-last (x ∷ ss) s = rw (join-last ss s, append-assoc)
+flatten-last : (ss : List (List Name)) (s : List Name) → flatten (ss ++ (s ∷ [])) ≡ flatten ss ++ s
+unfolding flatten
+flatten-last [] s = append-nil s
+flatten-last (x ∷ ss) s = rw (flatten-last ss s, append-assoc)
 
 -- READING
 
@@ -52,7 +56,10 @@ received-same t r o =
 abbrev receiverAfter : Table → ℕ → ℕ → Controller
 receiverAfter t r o = deliver t (received t r o) (handoverSet t r o)
 
-module _ (t : Table) (l : Ledger) (k : Recorded (t .n) t l) (r o : ℕ) (a : HandoverAllowed t r o) (p : PassedOver t) where
+module _ {n : ℕ} {t : Table} {u : State} {l : Ledger} (g : Related n t u) (k : Recorded (t .n) t l) (r o : ℕ) (q : firstNo (eventQuestions t (Handover r o)) ≡ 0) where
+  a : HandoverAllowed t r o
+  a = handover-allowed t r o q
+
   good : GoodController t r (at t r)
   good = k .formed .controllers r (a .receiver)
 
@@ -76,7 +83,7 @@ module _ (t : Table) (l : Ledger) (k : Recorded (t .n) t l) (r o : ℕ) (a : Han
   log-read =
       forward-case (λ (x : Controller). logNames t x ≡ cond (inLog (at t r) (nextSlot t r o)) (logNames t (at t r)) (logNames t (at t r) ++ (nameAt t (nextSlot t r o) ∷ [])))
       (withRead (at t r) o) (message t (nextSlot t r o)) (nextSlot t r o) o (place (at t r) o + 1)
-      (λ e. sym (cond-true _ _ (in-log ∙ or-right (held (at t r) (nextSlot t r o)) (p .was-applied r o a e))))
+      (λ e. sym (cond-true _ _ (in-log ∙ or-right (held (at t r) (nextSlot t r o)) (passed-applied g r o a e))))
       (λ _ e. sym (cond-true _ _ (in-log ∙ or-left _ e)))
       (λ above e. new (in-log ∙ rw (e, unapplied above) refl))
     where
@@ -112,7 +119,7 @@ module _ (t : Table) (l : Ledger) (k : Recorded (t .n) t l) (r o : ℕ) (a : Han
 
   -- the receiver runs, so its log has all its messages
   own-receiver : (j : ℕ) → j < t .count → senderAt t j ≡ r → inLog (at t r) j ≡ true
-  own-receiver j h e = rw e at (k .own j h (rw e (a .running)))
+  own-receiver j h e = rw e at (own-logged g j h (rw e (a .running)))
 
   uncut : (j : ℕ) → j < t .count → senderAt t j ≡ r → has (nameAt t j) (l .cut) ≡ not (inLog (receiverAfter t r o) j)
   uncut j h e = k .cut j h ∙ rw (e, own-receiver j h e, log-grows j h (own-receiver j h e))
@@ -130,56 +137,48 @@ module _ (t : Table) (l : Ledger) (k : Recorded (t .n) t l) (r o : ℕ) (a : Han
   abbrev answer : List Name
   answer = namesOf t (handoverSet t r o)
 
-  applied-slot : (m : Name) → has m (join (l .sets r ++ (answer ∷ []))) ≡ true → Slot t m
+  applied-slot : (m : Name) → has m (flatten (l .sets r ++ (answer ∷ []))) ≡ true → Slot t m
   applied-slot m e =
-      let q = or-cases (has m (join (l .sets r))) (has m answer) (sym (has-append m (join (l .sets r)) answer) ∙ sym (ap (has m) (join-last (l .sets r) answer)) ∙ e) in
+      let q = or-cases (has m (flatten (l .sets r))) (has m answer) (sym (has-append m (flatten (l .sets r)) answer) ∙ sym (ap (has m) (flatten-last (l .sets r) answer)) ∙ e) in
       elim q [ inl x ↦ k .applied-sent r m x | inr x ↦ names-slot t (handoverSet t r o) m x ]
 
-  applied-after : (j : ℕ) → j < t .count → has (nameAt t j) (join (l .sets r ++ (answer ∷ []))) ≡ applied (receiverAfter t r o) j
+  applied-after : (j : ℕ) → j < t .count → has (nameAt t j) (flatten (l .sets r ++ (answer ∷ []))) ≡ applied (receiverAfter t r o) j
   applied-after j h =
-      ap (has (nameAt t j)) (join-last (l .sets r) answer)
-      ∙ has-append (nameAt t j) (join (l .sets r)) answer
+      ap (has (nameAt t j)) (flatten-last (l .sets r) answer)
+      ∙ has-append (nameAt t j) (flatten (l .sets r)) answer
       ∙ ap₂ _||_ (k .applies r (a .receiver) j h) (has-names t (k .formed) (handoverSet t r o) j h)
       ∙ or-comm (applied (at t r) j) (member (handoverSet t r o) j)
       ∙ ap (λ (xs : List ℕ). member (handoverSet t r o) j || yes? (getD xs j 0)) (sym (received-applied t r o))
       ∙ sym (delivered-applied t (received t r o) (handoverSet t r o) j (omega (arith, k .formed .counted)))
 
-  once-after : Distinct (join (l .sets r ++ (answer ∷ [])))
+  once-after : Distinct (flatten (l .sets r ++ (answer ∷ [])))
   once-after =
-      rw (join-last (l .sets r) answer)
-      (distinct-append (join (l .sets r)) answer (k .once r) (distinct-names t (k .formed) (handoverSet t r o)) (λ m e. refuted (has m answer) (new m (k .applied-sent r m e) e)))
+      rw (flatten-last (l .sets r) answer)
+      (distinct-append (flatten (l .sets r)) answer (k .once r) (distinct-names t (k .formed) (handoverSet t r o))
+      (λ m e. slot-case (λ m. has m (flatten (l .sets r)) ≡ true → has m answer ≡ false) (k .applied-sent r m e) (λ j h e. refuted (has (nameAt t j) answer) (new j h e)) e))
     where
-      new : (m : Name) → Slot t m → has m (join (l .sets r)) ≡ true → has m answer ≡ true → ⊥
-      new m f e q =
-          let e′ = rw (← f .named) at e in
-          let q′ = rw (← f .named) at q in
-          contradiction (sym (k .applies r (a .receiver) (f .which) (f .below)) ∙ e′)
-          (applied-new t (k .formed) (k .sized) r o a (f .which) (f .below) (sym (has-names t (k .formed) (handoverSet t r o) (f .which) (f .below)) ∙ q′))
+      new : (j : ℕ) → j < t .count → has (nameAt t j) (flatten (l .sets r)) ≡ true → has (nameAt t j) answer ≡ true → ⊥
+      new j h e w =
+          contradiction (sym (k .applies r (a .receiver) j h) ∙ e)
+          (applied-new t (k .formed) (k .sized) r o a j h (sym (has-names t (k .formed) (handoverSet t r o) j h) ∙ w))
 
-  module _ (s : List ℕ) (z : Sized (next t (Handover r o))) (v : WellFormed (next t (Handover r o))) where
-    pub handover-recorded : Recorded (t .n) (next t (Handover r o)) (carried l s (Handover r o) answer)
-    unfolding next handover deliver carried withController message logNames
-    handover-recorded = record {
-      sized = z;
-      formed = v;
-      size = refl;
-      logs = λ d h. put-at t r _ (k .sized) (at-seat (a .receiver)) d (at-seat h) (λ xs y. xs ≡ logNames t y) (l .log) _ log-after (k .logs d h);
-      places = λ d q h.
-          put-at t r _ (k .sized) (at-seat (a .receiver)) d (at-seat h) (λ f y. Named (t .n) q → f q ≡ place y q) (l .place) _ (place-after q) (k .places d q h);
-      runs = λ d h. k .runs d h ∙ sym (at-kept t r _ (k .sized) (at-seat (a .receiver)) d (at-seat h) (λ y. yes? (y .running)) (ap (λ f. yes? f) (received-same t r o .1)));
-      sent = k .sent;
-      own = λ j h.
-          at-case t r _ (k .sized) (at-seat (a .receiver)) (senderAt t j) (at-seat (k .formed .senders j h))
-          (λ y. yes? (y .running) ≡ true → inLog y j ≡ true) (λ e _. log-grows j h (own-receiver j h e)) (λ _. k .own j h);
-      cut = λ j h.
-          at-case t r _ (k .sized) (at-seat (a .receiver)) (senderAt t j) (at-seat (k .formed .senders j h))
-          (λ y. has (nameAt t j) (l .cut) ≡ not (inLog y j))
-          (uncut j h) (λ _. k .cut j h);
-      cut-sent = λ m e. slot-replaced t r _ m (k .cut-sent m e);
-      applies = λ d h j. put-at t r _ (k .sized) (at-seat (a .receiver)) d (at-seat h)
-          (λ ss y. j < t .count → has (nameAt t j) (join ss) ≡ applied y j) (l .sets) _ (applied-after j) (k .applies d h j);
-      applied-sent = λ d m. put-case (λ (ss : List (List Name)). has m (join ss) ≡ true → Slot (withController t r (receiverAfter t r o)) m) (l .sets) r _ d
-          (λ _ e. slot-replaced t r _ m (applied-slot m e)) (λ _ e. slot-replaced t r _ m (k .applied-sent d m e));
-      once = λ d. put-case (λ (ss : List (List Name)). Distinct (join ss)) (l .sets) r _ d (λ _. once-after) (λ _. k .once d);
-      unnamed = λ d f. put-case (λ (ss : List (List Name)). ss ≡ []) (l .sets) r _ d (λ e. absurd (f (rw e (a .receiver)))) (λ _. k .unnamed d f);
-    }
+  pub handover-recorded : (s : List ℕ) → Recorded (t .n) (next t (Handover r o)) (moved l (carried s (Handover r o) answer))
+  unfolding next subject after withSent deliver moved withController message logNames
+  handover-recorded s = record {
+    sized = next-sized t (Handover r o) (k .sized);
+    formed = next-well-formed t (Handover r o) (k .sized) (k .formed) q;
+    size = refl;
+    logs = λ d h. put-at k (Handover r o) q h (λ xs y. xs ≡ logNames t y) (l .log) _ log-after (k .logs d h);
+    places = λ d e h.
+        put-at k (Handover r o) q h (λ f y. Named (t .n) e → f e ≡ place y e) (l .place) _ (place-after e) (k .places d e h);
+    runs = λ d h. k .runs d h ∙ sym (at-kept k (Handover r o) q h (λ y. yes? (y .running)) (ap (λ f. yes? f) (received-same t r o .1)));
+    sent = k .sent;
+    cut = λ j h. at-case k (Handover r o) q (k .formed .senders j h) (λ y. has (nameAt t j) (l .cut) ≡ not (inLog y j)) (uncut j h) (λ _. k .cut j h);
+    cut-sent = λ m e. slot-kept t (Handover r o) m (k .cut-sent m e);
+    applies = λ d h j.
+        put-at k (Handover r o) q h (λ ss y. j < t .count → has (nameAt t j) (flatten ss) ≡ applied y j) (l .sets) _ (applied-after j) (k .applies d h j);
+    applied-sent = λ d m e. slot-kept t (Handover r o) m
+        (put-case (λ (ss : List (List Name)). has m (flatten ss) ≡ true → Slot t m) (l .sets) r _ d (λ _. applied-slot m) (λ _. k .applied-sent d m) e);
+    once = λ d. put-case (λ (ss : List (List Name)). Distinct (flatten ss)) (l .sets) r _ d (λ _. once-after) (λ _. k .once d);
+    unnamed = λ d f. put-case (λ (ss : List (List Name)). ss ≡ []) (l .sets) r _ d (λ e. absurd (f (rw e (a .receiver)))) (λ _. k .unnamed d f);
+  }

@@ -1,4 +1,4 @@
--- The amount in an accepted record is that of the message sent, and every accepted event keeps the ledger and the table saying
+-- The amount in an accepted record is that of the message sent, and every legal step keeps the ledger and the table saying
 -- the same. Assumes nothing.
 use mathlib.Core.Path.{_≡_, refl, sym, ap, subst, _∙_}
 use mathlib.Core.Bool.{Bool, true, false, cond, false≢true}
@@ -11,16 +11,16 @@ use Rattle.model.specs.Tables.{report, sync}
 use Rattle.model.specs.Records.{byte, kind, word, amount, decode}
 use Rattle.model.specs.Events.{next, appliedBy, namesOf}
 use Rattle.model.specs.Questions.{firstNo, eventQuestions}
-use Rattle.model.specs.WellFormed.{magnitude, fairAmount}
+use Rattle.model.specs.WellFormed.{fairMagnitude, fairAmount}
+use Rattle.model.specs.declared.Name.{Name}
 use Rattle.model.specs.declared.Payload.{Payload}
 use Rattle.model.specs.declared.Table.{Table}
 use Rattle.model.specs.declared.Event.{Event}
 use Rattle.model.specs.declared.Event.the-variants.{Send, Handover, Stop}
-use Rattle.model.proofs.Allowed.{send-allowed, handover-allowed, stop-allowed}
-use Rattle.invariant.proofs.Sizes.{next-sized}
-use Rattle.invariant.proofs.Kept.{next-well-formed}
-use Rattle.consistency.specs.Demand3.{Ledger, twos, amountIn, carried}
-use Rattle.consistency.proofs.PassedOver.{PassedOver}
+use Rattle.model.proofs.Allowed.{send-allowed}
+use Rattle.broadcast.specs.State.{State}
+use Rattle.consistency.specs.Demand3.{Ledger, twos, amountIn, carried, moved}
+use Rattle.consistency.proofs.Bridge.{Related}
 use Rattle.consistency.proofs.Ledger.{balance, Recorded}
 use Rattle.consistency.proofs.LedgerSend.{send-recorded}
 use Rattle.consistency.proofs.LedgerHandover.{handover-recorded}
@@ -36,7 +36,7 @@ minus-sum x y =
     ∙ ap (λ k. k +ℤ negℤ (pos y)) (+ℤ-invr (pos x))
 
 positive : (w : ℕ) → fairAmount (report 0 w) ≡ true → 0 < w
-unfolding fairAmount magnitude
+unfolding fairAmount fairMagnitude
 positive zero e = absurd (false≢true e)
 positive (suc w) e = omega arith
 
@@ -65,21 +65,26 @@ decoded-amount s c p = go (eqb (kind s) 1) (eqb (kind s) 2) (eqb (kind s) 3)
     go false false true e f = let q : _≡_ {A = ℕ} 0 1 = cc in absurd (omega arith)
     go false false false e f = let q : _≡_ {A = ℕ} 0 1 = cc in absurd (omega arith)
 
--- EVENTS
+-- STEPS
 
-module _ (t : Table) (l : Ledger) (k : Recorded (t .n) t l) (p : PassedOver t) (s : List ℕ) where
-  event-recorded : (e : Event) → decode s ≡ e → firstNo (eventQuestions t e) ≡ 0 → Recorded (t .n) (next t e) (carried l s e (namesOf t (appliedBy t e)))
-  unfolding appliedBy
-  event-recorded (Send c y) d q =
-      let a = send-allowed t c y q in
-      send-recorded t l k c y a s (decoded-amount s c y d (a .amount)) _ (next-sized t (Send c y) (k .sized)) (next-well-formed t (Send c y) (k .sized) (k .formed) q)
-  event-recorded (Handover r o) d q =
-      handover-recorded t l k r o (handover-allowed t r o q) p s (next-sized t (Handover r o) (k .sized)) (next-well-formed t (Handover r o) (k .sized) (k .formed) q)
-  event-recorded (Stop c i) d q =
-      stop-recorded t l k c i (stop-allowed t c i q) s _ (next-sized t (Stop c i) (k .sized)) (next-well-formed t (Stop c i) (k .sized) (k .formed) q)
+-- an event that no question refuses, with the set that it applies, and with bytes that say the amount of a message sent
+pub record Legal (t : Table) (s : List ℕ) (e : Event) (ms : List Name) : Type 0 where
+  pub asked : firstNo (eventQuestions t e) ≡ 0
+  pub set : ms ≡ namesOf t (appliedBy t e)
+  pub amount : (c : ℕ) (p : Payload) → e ≡ Send c p → amountIn s ≡ balance p
 
-pub next-recorded : (n : ℕ) (t : Table) (l : Ledger) → Recorded n t l → PassedOver t → (s : List ℕ) → firstNo (eventQuestions t (decode s)) ≡ 0
-    → Recorded n (next t (decode s)) (carried l s (decode s) (namesOf t (appliedBy t (decode s))))
-next-recorded n t l k p s q =
-    subst (λ m. Recorded m (next t (decode s)) (carried l s (decode s) (namesOf t (appliedBy t (decode s))))) (k .size)
-    (event-recorded t l (subst (λ m. Recorded m t l) (sym (k .size)) k) p s (decode s) refl q)
+pub record-legal : (t : Table) (s : List ℕ) → firstNo (eventQuestions t (decode s)) ≡ 0 → Legal t s (decode s) (namesOf t (appliedBy t (decode s)))
+record-legal t s q = record { asked = q; set = refl; amount = λ c p e. decoded-amount s c p e (send-allowed t c p (rw e at q) .amount) }
+
+event-recorded : {n : ℕ} {t : Table} {u : State} {l : Ledger} → Related n t u → Recorded (t .n) t l → (s : List ℕ) (e : Event) (ms : List Name) → Legal t s e ms
+    → Recorded (t .n) (next t e) (moved l (carried s e ms))
+unfolding appliedBy
+event-recorded g k s (Send c y) ms a = send-recorded k c y (a .asked) s (a .amount c y refl) ms
+event-recorded g k s (Handover r o) ms a = rw (a .set) (handover-recorded g k r o (a .asked) s)
+event-recorded g k s (Stop c i) ms a = stop-recorded k c i (a .asked) s ms
+
+pub next-recorded : {n : ℕ} {t : Table} {u : State} {l : Ledger} → Related n t u → Recorded n t l → (s : List ℕ) (e : Event) (ms : List Name) → Legal t s e ms
+    → Recorded n (next t e) (moved l (carried s e ms))
+next-recorded {t = t} {l = l} g k s e ms a =
+    subst (λ m. Recorded m (next t e) (moved l (carried s e ms))) (k .size)
+    (event-recorded g (subst (λ m. Recorded m t l) (sym (k .size)) k) s e ms a)

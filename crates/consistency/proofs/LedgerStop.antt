@@ -9,22 +9,23 @@ use lib.ListN.{take, drop, take-append-drop}
 use lib.Dec.{eqb}
 use borrow.Author.Tests.{eq-eqb, ne-eqb}
 use Rattle.lists.proofs.Tests.{and-left, or-cases, or-right}
-use Rattle.model.specs.Tables.{seats, yes?, at, message, place, applied, withController, withStop}
-use Rattle.model.specs.Sized.{Sized}
-use Rattle.model.specs.Events.{next}
+use Rattle.model.specs.Tables.{yes?, at, message, place, applied, withController, withStop}
+use Rattle.model.specs.Events.{subject, after, withSent, next}
+use Rattle.model.specs.Questions.{firstNo, eventQuestions}
 use Rattle.model.specs.WellFormed.{inLog}
 use Rattle.model.specs.declared.Name.{Name}
 use Rattle.model.specs.declared.Controller.{Controller}
 use Rattle.model.specs.declared.Table.{Table}
 use Rattle.model.specs.declared.Event.the-variants.{Stop}
-use Rattle.model.specs.Facts.{Named, GoodController, WellFormed}
-use Rattle.model.proofs.Allowed.{StopAllowed}
-use Rattle.invariant.proofs.Stores.{seated}
+use Rattle.model.specs.Facts.{GoodController}
+use Rattle.model.proofs.Allowed.{StopAllowed, stop-allowed}
 use Rattle.invariant.proofs.Logs.{in-log-at, in-log-of}
-use Rattle.consistency.specs.Demand3.{has, ownOf, Ledger, carried}
+use Rattle.invariant.proofs.Sizes.{next-sized}
+use Rattle.invariant.proofs.Kept.{next-well-formed}
+use Rattle.consistency.specs.Demand3.{has, ownOf, Ledger, carried, moved}
 use Rattle.consistency.proofs.Names.{has-append, has-own, has-drop}
 use Rattle.consistency.proofs.SlotNames.{nameAt, logNames, log-stopped, has-log, distinct-log}
-use Rattle.consistency.proofs.Ledger.{senderAt, Slot, Recorded, log-slot, slot-replaced}
+use Rattle.consistency.proofs.Ledger.{senderAt, Slot, Recorded, log-slot, slot-kept}
 use Rattle.consistency.proofs.LedgerChanges.{at-case, at-kept, put-at}
 
 -- a log cut names less
@@ -45,13 +46,12 @@ not-now true b = refl
 not-now false true = refl
 not-now false false = refl
 
-module _ (t : Table) (l : Ledger) (r : Recorded (t .n) t l) (c k : ℕ) (a : StopAllowed t c k)
-    (s : List ℕ) (ms : List Name) (z : Sized (next t (Stop c k))) (w : WellFormed (next t (Stop c k))) where
+module _ {t : Table} {l : Ledger} (r : Recorded (t .n) t l) (c k : ℕ) (q : firstNo (eventQuestions t (Stop c k)) ≡ 0) (s : List ℕ) (ms : List Name) where
+  a : StopAllowed t c k
+  a = stop-allowed t c k q
+
   good : GoodController t c (at t c)
   good = r .formed .controllers c (a .controller)
-
-  at-seat : {d : ℕ} → Named (t .n) d → Named seats d
-  at-seat = seated (r .formed .few)
 
   log-cut : take k (l .log c) ≡ logNames t (withStop (at t c) k)
   log-cut = ap (take k) (r .logs c (a .controller)) ∙ sym (log-stopped t (at t c) k (a .within))
@@ -76,33 +76,30 @@ module _ (t : Table) (l : Ledger) (r : Recorded (t .n) t l) (c k : ℕ) (a : Sto
         ∙ or-right (has m (take k (logNames t (at t c)))) (ap (λ (xs : List Name). has m (drop k xs)) (sym (r .logs c (a .controller))) ∙ dropped))
   ]
 
-  cut-of : (j : ℕ) → j < t .count
-      → has (nameAt t j) (l .cut ++ ownOf c (drop k (l .log c))) ≡ not (inLog (at (withController t c (withStop (at t c) k)) (senderAt t j)) j)
+  cut-of : (j : ℕ) → j < t .count → has (nameAt t j) (l .cut ++ ownOf c (drop k (l .log c))) ≡ not (inLog (at (next t (Stop c k)) (senderAt t j)) j)
+  unfolding subject after
   cut-of j h =
       has-append (nameAt t j) (l .cut) _
       ∙ ap₂ _||_ (r .cut j h) (has-own (nameAt t j) c _ ∙ ap (λ b. b && eqb (senderAt t j) c) (has-cut j h))
-      ∙ at-case t c _ (r .sized) (at-seat (a .controller)) (senderAt t j) (at-seat (r .formed .senders j h))
+      ∙ at-case r (Stop c k) q (r .formed .senders j h)
       (λ y. (not (inLog (at t (senderAt t j)) j) || ((inLog (at t c) j && not (inLog (withStop (at t c) k) j)) && eqb (senderAt t j) c)) ≡ not (inLog y j))
       (λ e. rw (e, eq-eqb c c refl) (cut-now (inLog (at t c) j) (inLog (withStop (at t c) k) j) (stopped-in-log (at t c) k j (a .within))))
       (λ d. rw (ne-eqb (senderAt t j) c d) (not-now (not (inLog (at t (senderAt t j)) j)) (inLog (at t c) j && not (inLog (withStop (at t c) k) j))))
 
-  pub stop-recorded : Recorded (t .n) (next t (Stop c k)) (carried l s (Stop c k) ms)
-  unfolding next carried withController message logNames
+  pub stop-recorded : Recorded (t .n) (next t (Stop c k)) (moved l (carried s (Stop c k) ms))
+  unfolding next subject after withSent moved withController message logNames
   stop-recorded = record {
-    sized = z;
-    formed = w;
+    sized = next-sized t (Stop c k) (r .sized);
+    formed = next-well-formed t (Stop c k) (r .sized) (r .formed) q;
     size = refl;
-    logs = λ d h. put-at t c _ (r .sized) (at-seat (a .controller)) d (at-seat h) (λ xs y. xs ≡ logNames t y) (l .log) _ log-cut (r .logs d h);
-    places = λ q o h ho. r .places q o h ho ∙ sym (at-kept t c _ (r .sized) (at-seat (a .controller)) q (at-seat h) (λ y. place y o) refl);
-    runs = λ d h. put-at t c _ (r .sized) (at-seat (a .controller)) d (at-seat h) (λ b y. b ≡ yes? (y .running)) (l .runs) _ refl (r .runs d h);
+    logs = λ d h. put-at r (Stop c k) q h (λ xs y. xs ≡ logNames t y) (l .log) _ log-cut (r .logs d h);
+    places = λ d o h ho. r .places d o h ho ∙ sym (at-kept r (Stop c k) q h (λ y. place y o) refl);
+    runs = λ d h. put-at r (Stop c k) q h (λ b y. b ≡ yes? (y .running)) (l .runs) _ refl (r .runs d h);
     sent = r .sent;
-    own = λ j h.
-        at-case t c _ (r .sized) (at-seat (a .controller)) (senderAt t j) (at-seat (r .formed .senders j h))
-        (λ y. yes? (y .running) ≡ true → inLog y j ≡ true) (λ _ e. absurd (false≢true e)) (λ _. r .own j h);
     cut = cut-of;
-    cut-sent = λ m e. slot-replaced t c _ m (cut-slot m e);
-    applies = λ d h j b. r .applies d h j b ∙ sym (at-kept t c _ (r .sized) (at-seat (a .controller)) d (at-seat h) (λ y. applied y j) refl);
-    applied-sent = λ d m e. slot-replaced t c _ m (r .applied-sent d m e);
+    cut-sent = λ m e. slot-kept t (Stop c k) m (cut-slot m e);
+    applies = λ d h j b. r .applies d h j b ∙ sym (at-kept r (Stop c k) q h (λ y. applied y j) refl);
+    applied-sent = λ d m e. slot-kept t (Stop c k) m (r .applied-sent d m e);
     once = r .once;
     unnamed = r .unnamed;
   }

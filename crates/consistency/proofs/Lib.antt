@@ -1,10 +1,8 @@
 pub mod Decimal
 pub mod Reader
-pub mod Steps
-pub mod FileRuns
-pub mod ReadableNames
 pub mod Bridge
 pub mod BridgeFacts
+pub mod PassedOver
 pub mod BridgeMarks
 pub mod BridgeKept
 pub mod BridgeStop
@@ -18,10 +16,12 @@ pub mod SlotNames
 pub mod Ledger
 pub mod LedgerChanges
 pub mod LedgerStop
-pub mod PassedOver
 pub mod LedgerHandover
 pub mod LedgerSend
 pub mod LedgerNext
 pub mod Sums
 pub mod Moments
+pub mod MomentFacts
+pub mod FileRuns
+pub mod Heads
 pub mod Theorem

@@ -1,91 +1,103 @@
--- At every moment of a list of calls the table, the ledger and a state of the abstract system say the same.
--- Assumes nothing.
-use mathlib.Core.Path.{_≡_, refl, sym, ap, subst, _∙_}
-use mathlib.Core.Bool.{cond}
-use mathlib.Core.List.{List, [], _∷_, _++_}
-use Prim.Native.Nat.{ℕ, _-_, _≤_, _<_}
-use native.Mathlib.Omega.{arith}
+-- The entries of a list are legal steps one after another, and after every step the table, the ledger and a state of the abstract
+-- system say the same. Assumes nothing.
+use mathlib.Core.Path.{_≡_, refl}
+use mathlib.Core.List.{List, [], _∷_, _++_, append-assoc, flatMap, foldl}
+use Prim.Native.Nat.{ℕ, _≤_, _<_}
 use lib.ListN.{length}
-use lib.Dec.{eqb}
 use borrow.Author.Tests.{ne-eqb}
 use Rattle.model.specs.Tables.{seats, fresh}
-use Rattle.model.specs.Events.{next, appliedBy, namesOf}
+use Rattle.model.specs.Events.{next}
 use Rattle.model.specs.Records.{decode}
-use Rattle.model.specs.Questions.{firstNo, eventQuestions, stepQuestions}
-use Rattle.model.specs.Calls.{Outcome, accepted, refused, step, event, look}
-use Rattle.model.specs.declared.Name.{Name}
+use Rattle.model.specs.WellFormed.{wellFormed}
+use Rattle.model.specs.Questions.{firstNo, lentTable, stepQuestions}
+use Rattle.model.specs.Calls.{Outcome, accepted, refused, event, look}
 use Rattle.model.specs.declared.Table.{Table}
-use Rattle.model.specs.Facts.{Named}
-use Rattle.model.proofs.Tested.{tested}
-use Rattle.model.proofs.Allowed.{step-asked}
-use Rattle.model.proofs.Steps.{step-case, event-number-step}
+use Rattle.model.proofs.Allowed.{no-no, step-asked}
+use Rattle.model.proofs.Steps.{settled-case}
 use Rattle.broadcast.specs.State.{State, fresh as freshState}
 use Rattle.broadcast.specs.Events.{Run, start as stays, then}
-use Rattle.broadcast.proofs.Theorem.{passed-over}
-use Rattle.consistency.specs.Demand3.{Call, single, panel, Entry, answered, looked, listed, transcript, Ledger, start, carried, after, ledgerFrom}
-use Rattle.consistency.proofs.Bridge.{top, system, codeAt, Related}
-use Rattle.consistency.proofs.BridgeFacts.{applied-delivered, code-owner}
+use Rattle.consistency.specs.Demand3.{Call, singleEvent, panelLook, Entry, answered, looked, listed, entry, left, transcript, Step, carried, steps, did, Ledger, start, moved}
+use Rattle.consistency.proofs.Bridge.{top, system, Related}
 use Rattle.consistency.proofs.BridgeNext.{fresh-related, next-related}
-use Rattle.consistency.proofs.PassedOver.{Gapless, gapless-passed-over}
 use Rattle.consistency.proofs.Ledger.{Recorded, start-recorded}
-use Rattle.consistency.proofs.LedgerNext.{next-recorded}
+use Rattle.consistency.proofs.LedgerNext.{Legal, record-legal, next-recorded}
 
--- COURSES: entries that the definitions of the calls give, from a table on
+-- COURSES: P holds at each element of a list, with the state that those before it leave, and the last leaves u
 
--- a record that a file run accepted
-pub record Took (t : Table) (s : List ℕ) (ms : List Name) : Type 0 where
-  pub room : ℕ
-  pub asked : firstNo (stepQuestions t s room) ≡ 0
-  pub names : ms ≡ namesOf t (appliedBy t (decode s))
+module _ {S A : Type 0} (on : S → A → S) (P : S → A → Type 0) where
+  unfoldable pub Course : S → List A → S → Type 0
+  Course s [] u = s ≡ u
+  Course s (x ∷ xs) u = P s x × Course (on s x) xs u
 
-unfoldable pub tableAfter : Table → Entry → Table
-tableAfter t (answered s w a) = event t s (length w) .table
-tableAfter t (looked c a) = t
-tableAfter t (listed s ms) = next t (decode s)
+  pub course-append : (s : S) (xs : List A) (t : S) (ys : List A) (u : S) → Course s xs t → Course t ys u → Course s (xs ++ ys) u
+  unfolding Course
+  course-append s [] t ys u p q = rw p q
+  course-append s (x ∷ xs) t ys u p q = (p .0, course-append (on s x) xs t ys u (p .1) q)
 
+  pub course-first : (s : S) (xs ys : List A) (u : S) → Course s (xs ++ ys) u → Course s xs (foldl on s xs)
+  unfolding Course
+  course-first s [] ys u p = refl
+  course-first s (x ∷ xs) ys u p = (p .0, course-first (on s x) xs ys u (p .1))
+
+  pub course-rest : (s : S) (xs ys : List A) (u : S) → Course s (xs ++ ys) u → Course (foldl on s xs) ys u
+  unfolding Course
+  course-rest s [] ys u p = p
+  course-rest s (x ∷ xs) ys u p = course-rest (on s x) xs ys u (p .1)
+
+-- STEPS
+
+unfoldable pub stepped : Table → Step → Table
+stepped t (carried s e ms) = next t e
+
+unfoldable pub Takes : Table → Step → Type 0
+Takes t (carried s e ms) = Legal t s e ms
+
+-- ENTRIES
+
+-- what the definitions of the calls answer
 unfoldable pub Gives : Table → Entry → Type 0
 Gives t (answered s w a) = a ≡ event t s (length w) .answer
 Gives t (looked c a) = a ≡ look t c
-Gives t (listed s ms) = Took t s ms
+Gives t (listed s ms) = Legal t s (decode s) ms
 
-unfoldable pub Course : Table → List Entry → Type 0
-Course t [] = Unit {0}
-Course t (e ∷ es) = Gives t e × Course (tableAfter t e) es
+-- the table that an entry leaves
+unfoldable pub told : Table → Entry → Table
+told t (answered s w a) = event t s (length w) .table
+told t (looked c a) = t
+told t (listed s ms) = next t (decode s)
 
-unfoldable pub tableAt : Table → List Entry → Table
-tableAt t [] = t
-tableAt t (e ∷ es) = tableAt (tableAfter t e) es
+-- an event call with this outcome stands for legal steps, or none, that lead to the table that it leaves
+event-taken : (t : Table) (s w : List ℕ) → Course stepped Takes t (steps (answered s w (event t s (length w) .answer))) (event t s (length w) .table)
+unfolding event accepted refused steps stepped Takes Course lentTable
+event-taken t s w =
+    let k = firstNo (lentTable t ∷ stepQuestions t s (length w)) in
+    settled-case (λ (o : Outcome). Course stepped Takes t (steps (answered s w (o .answer))) (o .table)) t s k
+    (λ e. (record-legal t s (step-asked t s (length w) (no-no 3 (wellFormed t) _ e .1) .1), refl))
+    (λ d. rw (ne-eqb k 0 d) refl)
 
-pub transcript-course : (t : Table) (cs : List Call) → Course t (transcript t cs)
-unfolding Course transcript Gives tableAfter
-transcript-course t [] = tt
-transcript-course t (single s w ∷ cs) = (refl, transcript-course (event t s (length w) .table) cs)
-transcript-course t (panel c ∷ cs) = (refl, transcript-course t cs)
+entry-taken : (t : Table) (e : Entry) → Gives t e → Course stepped Takes t (steps e) (told t e)
+unfolding Gives told steps stepped Takes Course
+entry-taken t (answered s w a) q = rw q (event-taken t s w)
+entry-taken t (looked c a) q = refl
+entry-taken t (listed s ms) q = (q, refl)
 
-pub course-append : (t : Table) (xs ys : List Entry) → Course t xs → Course (tableAt t xs) ys → Course t (xs ++ ys)
-unfolding Course tableAt
-course-append t [] ys p q = q
-course-append t (e ∷ xs) ys p q = (p .0, course-append (tableAfter t e) xs ys (p .1) q)
+-- LISTS
 
-pub course-first : (t : Table) (xs ys : List Entry) → Course t (xs ++ ys) → Course t xs
-unfolding Course
-course-first t [] ys p = tt
-course-first t (e ∷ xs) ys p = (p .0, course-first (tableAfter t e) xs ys (p .1))
+pub did-append : (xs ys : List Entry) → did (xs ++ ys) ≡ did xs ++ did ys
+unfolding flatMap
+did-append [] ys = refl
+did-append (e ∷ xs) ys = rw (did-append xs ys, append-assoc)
 
-pub course-rest : (t : Table) (xs ys : List Entry) → Course t (xs ++ ys) → Course (tableAt t xs) ys
-unfolding Course tableAt
-course-rest t [] ys p = p
-course-rest t (e ∷ xs) ys p = course-rest (tableAfter t e) xs ys (p .1)
+pub entries-taken : (t : Table) (es : List Entry) (u : Table) → Course told Gives t es u → Course stepped Takes t (did es) u
+unfolding Course flatMap
+entries-taken t [] u p = p
+entries-taken t (e ∷ es) u p = course-append stepped Takes t (steps e) (told t e) (did es) u (entry-taken t e (p .0)) (entries-taken (told t e) es u (p .1))
 
-pub table-append : (t : Table) (xs ys : List Entry) → tableAt t (xs ++ ys) ≡ tableAt (tableAt t xs) ys
-unfolding tableAt
-table-append t [] ys = refl
-table-append t (e ∷ xs) ys = table-append (tableAfter t e) xs ys
-
-pub ledger-append : (l : Ledger) (xs ys : List Entry) → ledgerFrom l (xs ++ ys) ≡ ledgerFrom (ledgerFrom l xs) ys
-unfolding ledgerFrom
-ledger-append l [] ys = refl
-ledger-append l (e ∷ xs) ys = ledger-append (after l e) xs ys
+pub transcript-course : (t : Table) (cs : List Call) → Course told Gives t (transcript t cs) (foldl left t cs)
+unfolding Course Gives told transcript entry left
+transcript-course t [] = refl
+transcript-course t (singleEvent s w ∷ cs) = (refl, transcript-course (event t s (length w) .table) cs)
+transcript-course t (panelLook c ∷ cs) = (refl, transcript-course t cs)
 
 -- MOMENTS
 
@@ -99,52 +111,23 @@ pub record Moment (n : ℕ) (s : State) (t : Table) (l : Ledger) : Type 0 where
 pub first-moment : (n : ℕ) → 0 < n → n ≤ seats → Moment n (freshState top) (fresh n) start
 first-moment n low high = record { state = freshState top; run = stays; related = fresh-related n low high; recorded = start-recorded n low high }
 
--- a controller that has applied a message has applied every earlier one of its sender
-gapless : {n : ℕ} {t : Table} {s : State} → Related n t s → Gapless t
-gapless {n} {t} {s} g = record {
-  earlier-applied = λ c i j h li lj same le a.
-      let h′ : Named n c = record { low = h .low; high = omega (arith, h .high, g .size) } in
-      let oi = code-owner t (g .formed) i li in
-      let oj = code-owner t (g .formed) j lj in
-      sym (applied-delivered g c i h′ li)
-      ∙ passed-over (system n) s (g .all) (c - 1) (codeAt t j) (codeAt t i) (applied-delivered g c j h′ lj ∙ a)
-      (oj ∙ sym (ap (λ x. x - 1) same) ∙ sym oi)
-      (rw oi (omega (arith, g .numbered i li, g .numbered j lj, ap (λ x. s .position (x - 1) (codeAt t j)) same)));
-}
+step-moment : {n : ℕ} {s₀ : State} {t : Table} {l : Ledger} → Moment n s₀ t l → (x : Step) → Takes t x → Moment n s₀ (stepped t x) (moved l x)
+unfolding Takes stepped
+step-moment m (carried s e ms) a =
+    let g = m .related in
+    let f = next-related g e (a .asked) in
+    record {
+      state = f .after;
+      run = then (m .run) (f .legal);
+      related = f .related;
+      recorded = next-recorded g (m .recorded) s e ms a;
+    }
 
-module _ {n : ℕ} {s₀ : State} {t : Table} {l : Ledger} (m : Moment n s₀ t l) where
-  carried-moment : (s : List ℕ) → firstNo (eventQuestions t (decode s)) ≡ 0
-      → Moment n s₀ (next t (decode s)) (carried l s (decode s) (namesOf t (appliedBy t (decode s))))
-  carried-moment s q =
-      let f = next-related (m .related) (decode s) q in
-      let g = m .related in
-      record {
-        state = f .after;
-        run = then (m .run) (f .legal);
-        related = f .related;
-        recorded = next-recorded n t l (m .recorded) (gapless-passed-over t (g .formed) (gapless g)) s q;
-      }
-
-  -- what a call with this outcome leaves
-  abbrev Leaves : List ℕ → Outcome → Type 0
-  Leaves s o = Moment n s₀ (o .table) (cond (eqb (o .answer .number) 0) (carried l s (decode s) (o .answer .names)) l)
-
-  step-moment : (s : List ℕ) (room : ℕ) → Leaves s (step t s room)
-  unfolding accepted refused
-  step-moment s room =
-      step-case t s room (Leaves s) (λ e. carried-moment s (step-asked t s room e .1)) (λ d. rw (ne-eqb (firstNo (stepQuestions t s room)) 0 d) m)
-
-  pub entry-moment : (e : Entry) → Gives t e → Moment n s₀ (tableAfter t e) (after l e)
-  unfolding Gives tableAfter after
-  entry-moment (answered s w a) q =
-      rw q (subst (λ (o : Outcome). Leaves s o) (sym (event-number-step t s (length w) (tested t (m .related .formed)))) (step-moment s (length w)))
-  entry-moment (looked c a) q = m
-  entry-moment (listed s ms) q = rw (q .names) (carried-moment s (step-asked t s (q .room) (q .asked) .1))
-
-pub moment-after : {n : ℕ} {s₀ : State} {t : Table} {l : Ledger} → Moment n s₀ t l → (es : List Entry) → Course t es → Moment n s₀ (tableAt t es) (ledgerFrom l es)
-unfolding Course tableAt ledgerFrom
-moment-after m [] p = m
-moment-after m (e ∷ es) p = moment-after (entry-moment m e (p .0)) es (p .1)
+pub moment-after : {n : ℕ} {s₀ : State} {t u : Table} {l : Ledger} → Moment n s₀ t l → (xs : List Step) → Course stepped Takes t xs u
+    → Moment n s₀ u (foldl moved l xs)
+unfolding Course
+moment-after m [] p = rw (← p) m
+moment-after m (x ∷ xs) p = moment-after (step-moment m x (p .0)) xs (p .1)
 
 -- the same moment as a start of its own
 pub restarted : {n : ℕ} {s₀ : State} {t : Table} {l : Ledger} (m : Moment n s₀ t l) → Moment n (m .state) t l

@@ -1,6 +1,6 @@
 -- Lists of names as sets: membership and distinctness in what is put together, sorted, chosen or taken away. Assumes nothing.
 use mathlib.Core.Path.{_≡_, refl, sym, ap, ap₂, subst, _∙_}
-use mathlib.Core.Bool.{Bool, true, false, not, _&&_, _||_, cond}
+use mathlib.Core.Bool.{Bool, true, false, not, _&&_, _||_, cond, or-assoc}
 use mathlib.Core.Logic.{inl, inr}
 use mathlib.Core.List.{List, [], _∷_, _++_}
 use Prim.Native.Nat.{ℕ, zero, suc, _<_}
@@ -33,10 +33,6 @@ pub same-sym : (a b : Name) → same a b ≡ same b a
 same-sym a b = bool-eq _ _ (λ e. rw (same-true a b e) (same-self b)) (λ e. rw (same-true b a e) (same-self a))
 
 -- MEMBERS
-
-or-assoc : (a b c : Bool) → ((a || b) || c) ≡ (a || (b || c))
-or-assoc true b c = refl
-or-assoc false b c = refl
 
 or-swap : (a b c : Bool) → (a || (b || c)) ≡ (b || (a || c))
 or-swap true true c = refl

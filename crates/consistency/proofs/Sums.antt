@@ -2,25 +2,24 @@
 -- applied. Assumes nothing.
 use mathlib.Core.Path.{_≡_, refl, sym, ap, ap₂, subst, _∙_}
 use mathlib.Core.Bool.{Bool, true, false, cond, Bool·not-not}
-use mathlib.Core.Logic.{_↔_}
 use mathlib.Core.List.{List, [], _∷_, _++_, map}
 use Prim.Native.Nat.{ℕ, zero, suc, _+_, _<_}
 use native.Mathlib.Omega.{arith}
 use lib.IntN.{ℤ, pos, negℤ, _+ℤ_, _-ℤ_, +ℤ-assoc, +ℤ-comm, negℤ-+ℤ, pos-+ℤ-pos}
 use Rattle.lists.specs.Below.{sum}
 use Rattle.lists.specs.Build.{tabulateFrom, tabulate}
-use Rattle.lists.proofs.Tests.{and-left, refuted, contradiction, bool-eq, or-false, cond-apart}
+use Rattle.lists.proofs.Tests.{and-left, refuted, contradiction, or-false, cond-apart}
 use Rattle.lists.proofs.Below.{sum-ext, sum-plus}
 use Rattle.lists.proofs.Grow.{tabulate-suc, map-tabulate}
 use Rattle.lists.proofs.Clipped.{sum-none}
 use Rattle.model.specs.Tables.{at, message}
-use Rattle.model.specs.Events.{weigh, total}
+use Rattle.model.specs.Events.{weigh, shown, panelOf}
 use Rattle.model.specs.WellFormed.{inLog}
 use Rattle.model.specs.declared.Name.{Name}
 use Rattle.model.specs.declared.Payload.{Payload}
 use Rattle.model.specs.declared.Table.{Table}
 use Rattle.model.specs.Facts.{Named}
-use Rattle.consistency.specs.Demand3.{same, has, Distinct, Sent, Ledger, applied, sentNames, remaining, amountOf, amounts}
+use Rattle.consistency.specs.Demand3.{same, has, Distinct, Sent, Ledger, applied, sentNames, remaining, amountOf, amounts, Exactly}
 use Rattle.consistency.proofs.Names.{same-true, same-sym, has-tabulate-at, has-less, distinct-less}
 use Rattle.consistency.proofs.SlotNames.{nameAt, slots-differ}
 use Rattle.consistency.proofs.Ledger.{balance, sentAt, senderAt, Slot, Recorded, slot-sent, sent-slot, distinct-sent}
@@ -119,21 +118,21 @@ amounts-balance xs b (m ∷ ms) =
 
 -- SUMS OF THE LEDGER
 
-module _ (n : ℕ) (t : Table) (l : Ledger) (k : Recorded n t l) where
+module _ {n : ℕ} {t : Table} {l : Ledger} (k : Recorded n t l) where
   weights-members : (v : Payload → ℕ) (ms : List Name) → Distinct ms → weights v (l .sent) ms ≡ sum (t .count) (λ j. cond (has (nameAt t j) ms) (v (message t j .payload)) 0)
   weights-members v ms d =
       ap (λ (xs : List Sent). weights v xs ms) (k .sent)
       ∙ weights-sum v (sentAt t) (t .count) (λ i j h b. slots-differ t (k .formed) i j h (omega arith) (omega arith)) ms d
 
   -- what was applied weighs what the table says
-  pub weights-weigh : (v : Payload → ℕ) (c : ℕ) → Named n c → weights v (l .sent) (applied l c) ≡ weigh v t c
+  pub weights-weigh : (v : Payload → ℕ) (c : ℕ) → Named n c → weights v (l .sent) (applied l c) ≡ weigh v t (at t c)
   unfolding weigh
   weights-weigh v c h =
       weights-members v (applied l c) (k .once c)
       ∙ sum-ext (t .count) _ _ (λ j b. ap (λ x. cond x (v (message t j .payload)) 0) (k .applies c h j b))
 
   -- the same members, the same sum
-  pub same-members-same-weights : (v : Payload → ℕ) (ms ks : List Name) → Distinct ms → Distinct ks → ((m : Name) → has m ms ≡ has m ks)
+  pub same-members-same-weights : (v : Payload → ℕ) (ms ks : List Name) → Distinct ms → Distinct ks → Exactly ms ks
       → weights v (l .sent) ms ≡ weights v (l .sent) ks
   same-members-same-weights v ms ks d e f =
       weights-members v ms d
@@ -144,15 +143,15 @@ module _ (n : ℕ) (t : Table) (l : Ledger) (k : Recorded n t l) where
   unfolding tabulate
   amounts-weights = amounts-balance (l .sent) (rw (k .sent) (balanced-tabulate (sentAt t) (λ j. refl) 0 (t .count)))
 
-  pub same-members-same-sum : (ms ks : List Name) → Distinct ms → Distinct ks → ((m : Name) → has m ms ≡ has m ks) → amounts (l .sent) ms ≡ amounts (l .sent) ks
+  pub same-members-same-sum : (ms ks : List Name) → Distinct ms → Distinct ks → Exactly ms ks → amounts (l .sent) ms ≡ amounts (l .sent) ks
   same-members-same-sum ms ks d e f =
       amounts-weights ms
       ∙ ap₂ (λ x y. pos x -ℤ pos y) (same-members-same-weights (λ p. p .added) ms ks d e f) (same-members-same-weights (λ p. p .withdrawn) ms ks d e f)
       ∙ sym (amounts-weights ks)
 
   -- what a look shows
-  pub look-amounts : (c : ℕ) → Named n c → total t c ≡ amounts (l .sent) (applied l c)
-  unfolding total
+  pub look-amounts : (c : ℕ) → Named n c → panelOf t c .total ≡ amounts (l .sent) (applied l c)
+  unfolding panelOf shown
   look-amounts c h =
       ap₂ (λ x y. pos x -ℤ pos y) (sym (weights-weigh (λ p. p .added) c h)) (sym (weights-weigh (λ p. p .withdrawn) c h))
       ∙ sym (amounts-weights (applied l c))
@@ -160,18 +159,16 @@ module _ (n : ℕ) (t : Table) (l : Ledger) (k : Recorded n t l) where
   -- WHAT REMAINS
 
   pub distinct-remaining : Distinct (remaining l)
-  distinct-remaining = distinct-less (sentNames l) (l .cut) (distinct-sent n t l k)
+  distinct-remaining = distinct-less (sentNames l) (l .cut) (distinct-sent k)
 
   pub has-remaining : (j : ℕ) → j < t .count → has (nameAt t j) (remaining l) ≡ inLog (at t (senderAt t j)) j
   has-remaining j h =
       has-less (nameAt t j) (sentNames l) (l .cut)
-      ∙ rw (slot-sent n t l k (nameAt t j) (record { which = j; below = h; named = refl }), k .cut j h) (Bool·not-not (inLog (at t (senderAt t j)) j))
+      ∙ rw (slot-sent k (nameAt t j) (record { which = j; below = h; named = refl }), k .cut j h) (Bool·not-not (inLog (at t (senderAt t j)) j))
 
   pub remaining-slot : (m : Name) → has m (remaining l) ≡ true → Slot t m
-  remaining-slot m e = sent-slot n t l k m (and-left (has m (sentNames l)) _ (sym (has-less m (sentNames l) (l .cut)) ∙ e))
+  remaining-slot m e = sent-slot k m (and-left (has m (sentNames l)) _ (sym (has-less m (sentNames l) (l .cut)) ∙ e))
 
   -- where what was applied is what remains, a look shows the sum over that
-  pub look-remaining : (c : ℕ) → Named n c → ((m : Name) → (has m (applied l c) ≡ true) ↔ (has m (remaining l) ≡ true)) → total t c ≡ amounts (l .sent) (remaining l)
-  look-remaining c h f =
-      look-amounts c h
-      ∙ same-members-same-sum (applied l c) (remaining l) (k .once c) distinct-remaining (λ m. bool-eq _ _ (f m .0) (f m .1))
+  pub look-remaining : (c : ℕ) → Named n c → Exactly (applied l c) (remaining l) → panelOf t c .total ≡ amounts (l .sent) (remaining l)
+  look-remaining c h f = look-amounts c h ∙ same-members-same-sum (applied l c) (remaining l) (k .once c) distinct-remaining f

@@ -2,17 +2,18 @@
 -- the calls' arguments and answers. That it holds of every list is proofs/Theorem.antt.
 use Prim.Native.Nat.{ℕ, zero, suc, _+_, _-_, _*_, _<_}
 use mathlib.Core.Path.{_≡_}
-use mathlib.Core.Logic.{_⊎_, _↔_}
+use mathlib.Core.Logic.{_⊎_}
 use mathlib.Core.Bool.{Bool, true, false, _&&_, _||_, cond}
-use mathlib.Core.List.{List, [], _∷_, _++_, map}
+use mathlib.Core.List.{List, [], _∷_, _++_, map, flatMap, flatten, foldl}
 use lib.ListN.{length, getD, take, drop}
 use lib.IntN.{ℤ, pos, _+ℤ_, _-ℤ_}
 use lib.Dec.{eqb, ltb}
 use Rattle.lists.specs.Below.{count}
 use Rattle.model.specs.Tables.{messageNumber, noName, Named}
-use Rattle.model.specs.Records.{kind, word, behind, decode}
-use Rattle.model.specs.Calls.{EventAnswer, event, look}
-use Rattle.model.specs.Runs.{RunOutcome}
+use Rattle.model.specs.Records.{byte, kind, word, behind, decode}
+use Rattle.model.specs.Questions.{firstNo, fileQuestions}
+use Rattle.model.specs.Calls.{EventAnswer, event, freshTable, look}
+use Rattle.model.specs.Runs.{RunOutcome, fileRun}
 use Rattle.model.specs.declared.Name.{Name}
 use Rattle.model.specs.declared.Payload.{Payload}
 use Rattle.model.specs.declared.Table.{Table}
@@ -37,10 +38,6 @@ unfoldable pub Distinct : List Name → Type 0
 Distinct [] = Unit {0}
 Distinct (x ∷ xs) = (has x xs ≡ false) × Distinct xs
 
-unfoldable pub join : List (List Name) → List Name
-join [] = []
-join (s ∷ ss) = s ++ join ss
-
 -- the messages of sender c
 unfoldable pub ownOf : ℕ → List Name → List Name
 ownOf c [] = []
@@ -51,30 +48,47 @@ unfoldable pub less : List Name → List Name → List Name
 less [] ys = []
 less (x ∷ xs) ys = cond (has x ys) (less xs ys) (x ∷ less xs ys)
 
--- THE LIST OF CALLS
+-- THE CALLS
 
 -- "In the list stand the single-event call, with any bytes and any scratch, and the panel look at any number."
 pub data Call : Type 0 where
-  single : List ℕ → List ℕ → Call
-  panel : ℕ → Call
+  singleEvent : (bytes scratch : List ℕ) → Call
+  panelLook : (controller : ℕ) → Call
 
--- a call's arguments with its answer; or a record that a file run accepted, with the set of its listing line
+-- "Its words are read from the calls' arguments and answers, never from the stored table." A call's arguments with its answer; or
+-- a record that a file run accepted, with the set of its listing line.
 pub data Entry : Type 0 where
-  answered : List ℕ → List ℕ → EventAnswer → Entry
-  looked : ℕ → LookAnswer → Entry
-  listed : List ℕ → List Name → Entry
+  answered : (bytes scratch : List ℕ) → EventAnswer → Entry
+  looked : (controller : ℕ) → LookAnswer → Entry
+  listed : (bytes : List ℕ) (set : List Name) → Entry
+
+unfoldable pub entry : Table → Call → Entry
+entry t (singleEvent s w) = answered s w (event t s (length w) .answer)
+entry t (panelLook c) = looked c (look t c)
+
+-- the table that a call leaves
+unfoldable pub left : Table → Call → Table
+left t (singleEvent s w) = event t s (length w) .table
+left t (panelLook c) = t
 
 -- Each call gets the table that the last one left.
 unfoldable pub transcript : Table → List Call → List Entry
 transcript t [] = []
-transcript t (single s w ∷ cs) = let o = event t s (length w) in answered s w (o .answer) ∷ transcript (o .table) cs
-transcript t (panel c ∷ cs) = looked c (look t c) ∷ transcript t cs
+transcript t (c ∷ cs) = entry t c ∷ transcript (left t c) cs
 
--- the set that a call answers
-unfoldable pub setOf : Entry → List Name
-setOf (answered s w a) = a .names
-setOf (looked c a) = []
-setOf (listed s ms) = ms
+-- a step of Algorithm 1: an event carried out, with the bytes of its record and the set that was answered
+pub data Step : Type 0 where
+  carried : (bytes : List ℕ) → Event → (set : List Name) → Step
+
+-- "A call is accepted when its number is 0; a refused one moves nothing here."
+unfoldable pub steps : Entry → List Step
+steps (answered s w a) = cond (eqb (a .number) 0) (carried s (decode s) (a .names) ∷ []) []
+steps (looked c a) = []
+steps (listed s ms) = carried s (decode s) ms ∷ []
+
+-- what entries did
+abbrev pub did : List Entry → List Step
+did es = flatMap steps es
 
 -- THE LEDGER
 
@@ -109,10 +123,9 @@ twos x = cond (ltb x 32768) (pos x) (pos x -ℤ pos 65536)
 unfoldable pub amountIn : List ℕ → ℤ
 amountIn s = cond (eqb (kind s) 1) (twos (word s 3)) (pos 0)
 
--- An accepted event, its record s and the set that it answered.
-unfoldable pub carried : Ledger → List ℕ → Event → List Name → Ledger
+unfoldable pub moved : Ledger → Step → Ledger
 -- "An accepted report or sync of c puts c.k at the end of c's log, k being the length before plus one. That message is then sent"
-carried l s (Send c p) ms =
+moved l (carried s (Send c p) ms) =
     let m = name c (length (l .log c) + 1) in
     record {
       log = put (l .log) c (l .log c ++ (m ∷ []));
@@ -124,7 +137,7 @@ carried l s (Send c p) ms =
     }
 -- "An accepted handover to r from o moves r's place in o's log, 0 at first, on by one. If r's log lacks the message there, it goes
 -- to the end of r's log."
-carried l s (Handover r o) ms =
+moved l (carried s (Handover r o) ms) =
     let m = getD (l .log o) (l .place r o) noName in
     record {
       log = put (l .log) r (cond (has m (l .log r)) (l .log r) (l .log r ++ (m ∷ [])));
@@ -136,7 +149,7 @@ carried l s (Handover r o) ms =
     }
 -- "An accepted stop of c cuts c's log to the length kept that its record names. Until then c runs. A message is cut off when its
 -- entry in its sender's log went with that cut."
-carried l s (Stop c k) ms = record {
+moved l (carried s (Stop c k) ms) = record {
   log = put (l .log) c (take k (l .log c));
   place = l .place;
   runs = put (l .runs) c false;
@@ -145,22 +158,12 @@ carried l s (Stop c k) ms = record {
   sets = l .sets;
 }
 
--- "A call is accepted when its number is 0; a refused one moves nothing here."
-unfoldable pub after : Ledger → Entry → Ledger
-after l (answered s w a) = cond (eqb (a .number) 0) (carried l s (decode s) (a .names)) l
-after l (looked c a) = l
-after l (listed s ms) = carried l s (decode s) ms
-
-unfoldable pub ledgerFrom : Ledger → List Entry → Ledger
-ledgerFrom l [] = l
-ledgerFrom l (e ∷ es) = ledgerFrom (after l e) es
-
-unfoldable pub ledger : List Entry → Ledger
-ledger es = ledgerFrom start es
+abbrev pub ledger : List Step → Ledger
+ledger xs = foldl moved start xs
 
 -- "A controller has applied the messages in the sets that accepted handovers to it answered."
 abbrev pub applied : Ledger → ℕ → List Name
-applied l c = join (l .sets c)
+applied l c = flatten (l .sets c)
 
 abbrev pub sentNames : Ledger → List Name
 sentNames l = map (λ m. m .name) (l .sent)
@@ -178,49 +181,7 @@ unfoldable pub amounts : List Sent → List Name → ℤ
 amounts xs [] = pos 0
 amounts xs (m ∷ ms) = amountOf xs m +ℤ amounts xs ms
 
--- THE CLAIM
-
-abbrev pub Contains : List Name → List Name → Type 0
-Contains xs ys = (m : Name) → has m ys ≡ true → has m xs ≡ true
-
--- more than half of all controllers run, and each of these has read each of the n logs to its end
-pub record ReadOut (n : ℕ) (l : Ledger) : Type 0 where
-  pub majority : n < 2 * count n (λ i. l .runs (suc i))
-  pub to-end : (r o : ℕ) → Named n r → Named n o → l .runs r ≡ true → l .place r o ≡ length (l .log o)
-
--- Of n controllers: what stands first in the list, what the calls after it give, and the calls. A moment is a number of entries.
-pub record Consistent (n : ℕ) (head : List Entry) (answers : List Call → List Entry) (calls : List Call) : Type 0 where
-  -- "at any two moments of the list, what one controller has applied at one of them contains what another has applied at the
-  -- other, or the reverse"
-  pub contains : (i j c d : ℕ)
-      → Contains (applied (ledger (take i (head ++ answers calls))) c) (applied (ledger (take j (head ++ answers calls))) d)
-      ⊎ Contains (applied (ledger (take j (head ++ answers calls))) d) (applied (ledger (take i (head ++ answers calls))) c)
-  -- "Each applied message was sent earlier in the list"
-  pub sent : (before after : List Entry) (e : Entry) → head ++ answers calls ≡ before ++ (e ∷ after)
-      → (m : Name) → has m (setOf e) ≡ true → has m (sentNames (ledger before)) ≡ true
-  -- "and no controller applies it twice"
-  pub once : (i c : ℕ) → Distinct (applied (ledger (take i (head ++ answers calls))) c)
-  -- "Each look that is not refused shows the sum of the amounts that its controller has applied."
-  pub looks : (before after : List Entry) (c : ℕ) (a : LookAnswer) → head ++ answers calls ≡ before ++ (looked c a ∷ after)
-      → a .number ≡ 0 → a .total ≡ amounts (ledger before .sent) (applied (ledger before) c)
-  -- "Whenever more than half of all controllers run and each of these has read every log to its end, each of these has applied
-  -- exactly the messages sent, less those cut off with a stopped sender's log"
-  pub ending : (i : ℕ) → ReadOut n (ledger (take i (head ++ answers calls)))
-      → (r : ℕ) → Named n r → ledger (take i (head ++ answers calls)) .runs r ≡ true
-      → (m : Name)
-      → (has m (applied (ledger (take i (head ++ answers calls))) r) ≡ true)
-      ↔ (has m (remaining (ledger (take i (head ++ answers calls)))) ≡ true)
-  -- "and a look at it shows the sum of their amounts": the list up to a moment, extended by that look
-  pub ending-look : (i : ℕ) → ReadOut n (ledger (head ++ answers (take i calls)))
-      → (r : ℕ) → Named n r → ledger (head ++ answers (take i calls)) .runs r ≡ true
-      → answers (take i calls ++ (panel r ∷ []))
-      ≡ answers (take i calls)
-      ++ (looked r (record {
-        number = 0;
-        total = amounts (ledger (head ++ answers (take i calls)) .sent) (remaining (ledger (head ++ answers (take i calls))));
-      }) ∷ [])
-
--- A FILE RUN AT THE HEAD: "the records it accepted stand first as calls, its listing lines give their sets"
+-- THE LINES OF A FILE RUN
 
 -- the parts between bytes x
 unfoldable pub first : ℕ → List (List ℕ) → List (List ℕ)
@@ -255,6 +216,96 @@ unfoldable pub recordEntries : ℕ → ℕ → List ℕ → List (List ℕ) → 
 recordEntries zero e s ls = []
 recordEntries (suc k) e s ls = listed s (lineSet e ls) ∷ recordEntries k (e + 1) (behind s) ls
 
--- what a file run, with this outcome, puts first in the list
+-- "the records it accepted stand first as calls, its listing lines give their sets"
 unfoldable pub fileEntries : List ℕ → RunOutcome → List Entry
 fileEntries s o = recordEntries (o .answer .events) 1 (drop 2 s) (split 10 (take (o .answer .written) (o .listing)))
+
+-- THE HEAD AND THE LIST
+
+-- "The list starts from the table that an accepted request for a fresh table gave." "A file run past question 3 may head a list in
+-- place of that request"
+pub data Head : Type 0 where
+  request : (controllers : ℕ) → Head
+  file : (bytes listing scratch : List ℕ) → Head
+
+-- accepted; past question 3: every question put to a file was answered yes
+unfoldable pub Heads : Head → Type 0
+Heads (request n) = freshTable n .number ≡ 0
+Heads (file s listing scratch) = firstNo (fileQuestions s) ≡ 0
+
+unfoldable pub controllers : Head → ℕ
+controllers (request n) = n
+controllers (file s listing scratch) = byte s 1
+
+-- what it puts first in the list
+unfoldable pub opening : Head → List Entry
+opening (request n) = []
+opening (file s listing scratch) = fileEntries s (fileRun s listing scratch)
+
+-- "the next call, if any, gets its last table"
+unfoldable pub given : Head → Table
+given (request n) = freshTable n .table
+given (file s listing scratch) = fileRun s listing scratch .answer .table
+
+-- the list: what the head puts first, and then the calls, from its table on
+unfoldable pub entries : Head → List Call → List Entry
+entries h calls = opening h ++ transcript (given h) calls
+
+-- "A moment is its start or the end of one of its calls."
+abbrev pub moment : Head → List Call → ℕ → Ledger
+moment h calls i = ledger (did (take i (entries h calls)))
+
+-- THE CLAIM
+
+abbrev pub Contains : List Name → List Name → Type 0
+Contains xs ys = (m : Name) → has m ys ≡ true → has m xs ≡ true
+
+abbrev pub Exactly : List Name → List Name → Type 0
+Exactly xs ys = (m : Name) → has m xs ≡ has m ys
+
+-- r is one of n controllers, and has not stopped
+pub record Runs (n : ℕ) (l : Ledger) (r : ℕ) : Type 0 where
+  pub named : Named n r
+  pub running : l .runs r ≡ true
+
+-- more than half of all controllers run, and each of these has read each of the n logs to its end
+pub record ReadOut (n : ℕ) (l : Ledger) : Type 0 where
+  pub majority : n < 2 * count n (λ i. l .runs (suc i))
+  -- "A log is read to its end when the reader's place equals its length."
+  pub to-end : (r o : ℕ) → Runs n l r → Named n o → l .place r o ≡ length (l .log o)
+
+-- a look at r behind these calls, and what it is answered: it is not refused, and its panel shows this total
+pub record LookShows (h : Head) (calls : List Call) (r : ℕ) (total : ℤ) : Type 0 where
+  pub answer : LookAnswer
+  pub last : entries h (calls ++ (panelLook r ∷ [])) ≡ entries h calls ++ (looked r answer ∷ [])
+  pub accepted : answer .number ≡ 0
+  pub shown : answer .panel .total ≡ total
+
+-- "Demand 3 is a single claim about the whole list, and not one for each call."
+pub record Consistent (h : Head) (calls : List Call) : Type 0 where
+  -- "at any two moments of the list, what one controller has applied at one of them contains what another has applied at the
+  -- other, or the reverse"
+  pub contains : (i j c d : ℕ)
+      → let l = moment h calls i in
+      let k = moment h calls j in
+      Contains (applied l c) (applied k d) ⊎ Contains (applied k d) (applied l c)
+  -- "Each applied message was sent earlier in the list"
+  pub sent : (before after : List Step) (s : List ℕ) (e : Event) (ms : List Name)
+      → did (entries h calls) ≡ before ++ (carried s e ms ∷ after) → Contains (sentNames (ledger before)) ms
+  -- "and no controller applies it twice": "in two of them, or twice in one"
+  pub once : (i c : ℕ) → Distinct (applied (moment h calls i) c)
+  -- "Each look that is not refused shows the sum of the amounts that its controller has applied."
+  pub looks : (i c : ℕ) (a : LookAnswer) (after : List Entry) → drop i (entries h calls) ≡ looked c a ∷ after
+      → let l = moment h calls i in
+      a .number ≡ 0 → a .panel .total ≡ amounts (l .sent) (applied l c)
+  -- "Whenever more than half of all controllers run and each of these has read every log to its end, each of these has applied
+  -- exactly the messages sent, less those cut off with a stopped sender's log"
+  pub ending : (i r : ℕ)
+      → let l = moment h calls i in
+      ReadOut (controllers h) l → Runs (controllers h) l r → Exactly (applied l r) (remaining l)
+  -- "and a look at it shows the sum of their amounts": the list up to a moment, extended by that look
+  pub ending-look : (i r : ℕ)
+      → let now = take i calls in
+      let l = ledger (did (entries h now)) in
+      ReadOut (controllers h) l → Runs (controllers h) l r
+      → LookShows h now r (amounts (l .sent) (remaining l))

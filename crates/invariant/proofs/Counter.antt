@@ -1,18 +1,17 @@
 -- The counter of Algorithm 4: an accepted event adds to its subject's sum of any weight that of the set applied, and no other
 -- sum changes. Assumes nothing.
-use mathlib.Core.Path.{_≡_, refl, sym, ap, _∙_}
+use mathlib.Core.Path.{_≡_, refl, ap, _∙_}
 use mathlib.Core.Bool.{true, false, _||_, cond}
 use mathlib.Core.List.{List, []}
 use Prim.Native.Nat.{ℕ, zero, suc, _+_, _<_}
 use native.Mathlib.Omega.{arith}
-use native.Mathlib.Decide.{ℕ-discrete}
 use lib.ListN.{getD}
 use lib.Dec.{eqb}
 use borrow.Author.Tests.{eq-eqb, ne-eqb}
 use Rattle.lists.specs.Below.{sum}
 use Rattle.lists.proofs.Tests.{cond-apart, refuted}
 use Rattle.lists.proofs.Below.{sum-ext, sum-plus, sum-last}
-use Rattle.model.specs.Tables.{seats, yes?, at, message, place, applied, withController, withMessage, withRead, withStop}
+use Rattle.model.specs.Tables.{yes?, at, message, place, applied, withController, withMessage, withRead, withStop}
 use Rattle.model.specs.Delivery.{Slots, has}
 use Rattle.model.specs.Events.{sentMessage, sent, nextSlot, received, handoverSet, deliver, subject, after, withSent, next, appliedBy, weigh}
 use Rattle.model.specs.Sized.{Sized}
@@ -26,12 +25,12 @@ use Rattle.model.specs.declared.Event.the-variants.{Send, Handover, Stop}
 use Rattle.model.specs.Facts.{Named, WellFormed}
 use Rattle.model.proofs.Allowed.{HandoverAllowed, send-allowed, handover-allowed, subject-allowed}
 use Rattle.invariant.proofs.Stores.{seated, message-old, forward-case}
-use Rattle.invariant.proofs.Sizes.{next-same, next-other}
+use Rattle.invariant.proofs.Sizes.{next-case}
 use Rattle.invariant.proofs.Delivering.{delivered-applied}
 use Rattle.invariant.proofs.Receiving.{received-good, applied-held}
 
 -- the sum of a weight over the messages of a set
-pub weighSet : (Payload → ℕ) → Table → Slots → ℕ
+unfoldable pub weighSet : (Payload → ℕ) → Table → Slots → ℕ
 weighSet v t S = sum (t .count) (λ s. cond (has S s) (v (message t s .payload)) 0)
 
 none-weighs : (v : Payload → ℕ) (t : Table) → weighSet v t [] ≡ 0
@@ -117,12 +116,8 @@ weigh-other t (Stop d k) w q v c h = weigh-replaced v _ _ _ _
 
 pub weigh-next : (t : Table) (e : Event) → Sized t → WellFormed t → firstNo (eventQuestions t e) ≡ 0 → (v : Payload → ℕ) (c : ℕ) → Named (t .n) c
     → weigh v (next t e) (at (next t e) c) ≡ weigh v t (at t c) + cond (eqb c (subject e)) (weighSet v t (appliedBy t e)) 0
-weigh-next t e z w q v c h = go (ℕ-discrete c (subject e))
-  where
-    seat : Named seats (subject e)
-    seat = seated (w .few) (subject-allowed t e q)
-
-    go : Dec (c ≡ subject e)
-        → weigh v (next t e) (at (next t e) c) ≡ weigh v t (at t c) + cond (eqb c (subject e)) (weighSet v t (appliedBy t e)) 0
-    go (yes p) = rw (p, eq-eqb (subject e) (subject e) refl, next-same t e z seat) (weigh-subject t e z w q v)
-    go (no n) = rw (ne-eqb c (subject e) n, next-other t e c seat (seated (w .few) h) n) (omega (arith, weigh-other t e w q v c h))
+weigh-next t e z w q v c h =
+    next-case t e z (seated (w .few) (subject-allowed t e q))
+    (λ x. weigh v (next t e) x ≡ weigh v t (at t c) + cond (eqb c (subject e)) (weighSet v t (appliedBy t e)) 0) c (seated (w .few) h)
+    (λ p. rw (p, eq-eqb (subject e) (subject e) refl) (weigh-subject t e z w q v))
+    (λ n. rw (ne-eqb c (subject e) n) (omega (arith, weigh-other t e w q v c h)))

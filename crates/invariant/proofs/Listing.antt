@@ -1,67 +1,120 @@
 -- No file's listing passes 13,888 bytes: each of 7 controllers applies each of 64 messages once, and a message takes at most 31
 -- bytes of lines. So question 16 never refuses where the listing has that room. Assumes nothing.
-use mathlib.Core.Path.{_≡_, refl, ap}
+use mathlib.Core.Path.{_≡_, refl, sym, ap, _∙_}
 use mathlib.Core.Logic.{_≢_, inl, inr}
 use mathlib.Core.Bool.{Bool, true, false, cond}
-use mathlib.Core.List.{List, [], _∷_, _++_}
+use mathlib.Core.List.{List, [], _∷_}
 use Prim.Native.Nat.{ℕ, zero, suc, _+_, _-_, _*_, _≤_, _<_}
 use native.Mathlib.Omega.{arith}
 use native.Mathlib.Decide.{ℕ-discrete}
 use lib.ListN.{length, length-append, drop}
-use lib.IntN.{ℤ}
-use lib.Dec.{eqb, leb}
-use borrow.Author.Tests.{eqb-true, le-leb}
+use lib.IntN.{ℤ, pos, negsuc, natAbs}
+use lib.Signed.{leZ}
+use lib.Dec.{eqb}
+use borrow.Author.Tests.{eqb-true, eq-eqb, ne-eqb, leb-true, le-leb}
 use Rattle.lists.specs.Below.{sum}
 use Rattle.lists.proofs.Tests.{cond-case}
 use Rattle.lists.proofs.Below.{sum-ext, sum-bound}
-use Rattle.model.specs.Tables.{at, message, fresh, withController, withMessage}
+use Rattle.lists.proofs.Every.{Every}
+use Rattle.model.specs.Tables.{at, message, applied}
 use Rattle.model.specs.Delivery.{Slots, has}
-use Rattle.model.specs.Events.{send, handover, handoverSet, next, appliedBy, weigh, total, insert, namesBelow, namesOf, nameOf}
-use Rattle.model.specs.Records.{byte, decode}
+use Rattle.model.specs.Events.{subject, next, appliedBy, weigh, panelOf, earlier, insert, namesBelow, namesOf, nameOf}
+use Rattle.model.specs.Records.{byte, behind, decode}
 use Rattle.model.specs.Sized.{Sized}
-use Rattle.model.specs.Questions.{ask, firstNo, fileQuestions, eventQuestions, stepQuestions, lineFits}
-use Rattle.model.specs.Calls.{Outcome, receiver, accepted, refused, step}
-use Rattle.model.specs.Runs.{line, lineOf, Progress, records, progress}
+use Rattle.model.specs.Questions.{firstNo, fileQuestions, eventQuestions, lineFits}
+use Rattle.model.specs.Calls.{accepted, step}
+use Rattle.model.specs.Runs.{line, lineOf, Progress, lineAt, verdict, records, begun, progress}
 use Rattle.model.specs.declared.Name.{Name}
+use Rattle.model.specs.declared.Panel.{Panel}
 use Rattle.model.specs.declared.Table.{Table}
 use Rattle.model.specs.declared.Event.{Event}
-use Rattle.model.specs.declared.Event.the-variants.{Send, Handover, Stop}
-use Rattle.model.specs.Facts.{WellFormed}
-use Rattle.model.proofs.Allowed.{step-asked, line-asked, file-allowed, handover-allowed}
-use Rattle.model.proofs.Steps.{step-case}
-use Rattle.model.proofs.Lengths.{length-insert, none-named, decimal-bound, signed-bound, names-bound, length-line}
-use Rattle.invariant.proofs.Sizes.{next-sized, fresh-sized}
+use Rattle.model.specs.Facts.{Named, WellFormed}
+use Rattle.model.proofs.Allowed.{step-asked, file-allowed, subject-allowed}
+use Rattle.model.proofs.Steps.{step-number, step-is-accepted, accepted-asked}
+use Rattle.model.proofs.Runs.{gone, verdict-passed, advance-case}
+use Rattle.model.proofs.Decimals.{decimal-bound}
+use Rattle.model.proofs.Lengths.{length-insert, SmallName, signed-bound, names-bound, length-line}
+use Rattle.invariant.proofs.Sizes.{next-sized, next-n, fresh-sized}
 use Rattle.invariant.proofs.Kept.{next-well-formed, fresh-well-formed}
 use Rattle.invariant.proofs.Refusals.{step-number-range}
-use Rattle.invariant.proofs.Counter.{weigh-receiver, weigh-kept}
+use Rattle.invariant.proofs.Counter.{weighSet, weigh-next}
+use Rattle.invariant.proofs.Bounds.{total-bounds}
 
 -- LINES
 
-line-length : (e c : ℕ) (x : ℤ) (ms : List Name) → length (line e c x ms) ≤ 19 + 12 * length ms
-line-length e c x ms = omega (arith, length-line e c x ms, decimal-bound e, decimal-bound c, signed-bound x, names-bound ms)
+-- what a line is written for, in numbers that are small enough
+record SmallLine (e c : ℕ) (p : Panel) (ms : List Name) : Type 0 where
+  event : e < 100000
+  controller : c < 100000
+  total : natAbs (p .total) < 100000
+  names : Every SmallName ms
 
-lineOf-length : (e c : ℕ) (x : ℤ) (ms : List Name) → length (lineOf e c x ms) ≤ 31 * length ms
+line-length : (e c : ℕ) (p : Panel) (ms : List Name) → SmallLine e c p ms → length (line e c p ms) ≤ 19 + 8 * length ms
+line-length e c p ms h =
+    omega (
+      arith,
+      length-line e c p ms,
+      decimal-bound 4 e (h .event),
+      decimal-bound 4 c (h .controller),
+      signed-bound 4 (p .total) (h .total),
+      names-bound ms (h .names),
+    )
+
+lineOf-length : (e c : ℕ) (p : Panel) (ms : List Name) → SmallLine e c p ms → length (lineOf e c p ms) ≤ 31 * length ms
 unfolding lineOf
-lineOf-length e c x [] = omega arith
-lineOf-length e c x (m ∷ ms) = omega (arith, line-length e c x (m ∷ ms))
+lineOf-length e c p [] h = omega arith
+lineOf-length e c p (m ∷ ms) h = omega (arith, line-length e c p (m ∷ ms) h)
+
+-- THE NUMBERS OF A LINE
+
+every-insert : (P : Name → Type 0) (x : Name) (ys : List Name) → P x → Every P ys → Every P (insert x ys)
+unfolding insert Every
+every-insert P x [] h k = (h, tt)
+every-insert P x (y ∷ ys) h k =
+    cond-case (Every P) (earlier x y) (x ∷ y ∷ ys) (y ∷ insert x ys) (λ _. (h, k)) (λ _. (k .0, every-insert P x ys h (k .1)))
+
+every-below : (P : Name → Type 0) (k : ℕ) (t : Table) (S : Slots) → ((s : ℕ) → s < k → P (nameOf (message t s))) → Every P (namesBelow k t S)
+unfolding namesBelow Every
+every-below P zero t S h = tt
+every-below P (suc k) t S h =
+    let r = every-below P k t S (λ s l. h s (omega arith)) in
+    cond-case (Every P) (has S k) _ _ (λ _. every-insert P (nameOf (message t k)) (namesBelow k t S) (h k (omega arith)) r) (λ _. r)
+
+small-total : (x : ℤ) → leZ (negsuc 23039) x ≡ true → leZ x (pos 23040) ≡ true → natAbs x < 100000
+small-total (pos x) l h = omega (arith, leb-true x 23040 h)
+small-total (negsuc x) l h = omega (arith, leb-true x 23039 l)
+
+-- of an event that no question refuses
+small-line : (t : Table) (e : Event) → Sized t → WellFormed t → firstNo (eventQuestions t e) ≡ 0 → (k : ℕ) → k < 100000
+    → SmallLine k (subject e) (panelOf (next t e) (subject e)) (namesOf t (appliedBy t e))
+unfolding panelOf namesOf
+small-line t e z w q k h =
+    let b = total-bounds (next t e) (next-well-formed t e z w q) (at (next t e) (subject e)) in
+    record {
+      event = h;
+      controller = omega (arith, w .few, subject-allowed t e q .high);
+      total = small-total (panelOf (next t e) (subject e) .total) (b .0) (b .1);
+      names = every-below SmallName (t .count) t (appliedBy t e)
+          (λ s l. record { sender = omega (arith, w .few, w .senders s l .high); number = omega (arith, w .numbers s l .1) });
+    }
 
 -- DELIVERIES
 
 -- how often messages were applied, by all controllers together
 deliveries : Table → ℕ
-deliveries t = sum (t .n) (λ i. weigh (λ p. 1) t (suc i))
+deliveries t = sum (t .n) (λ i. weigh (λ p. 1) t (at t (suc i)))
 
 deliveries-bound : (t : Table) → WellFormed t → deliveries t ≤ 448
 unfolding deliveries weigh
 deliveries-bound t w =
     omega (
       arith,
-      sum-bound (t .n) (λ i. weigh (λ p. 1) t (suc i)) 64
+      sum-bound (t .n) (λ i. weigh (λ p. 1) t (at t (suc i))) 64
           (λ i h. omega (
             arith,
             w .counted,
-            sum-bound (t .count) (λ s. cond (Rattle.model.specs.Tables.applied (at t (suc i)) s) 1 0) 1
-                (λ s l. cond-case (λ x. x ≤ 1) (Rattle.model.specs.Tables.applied (at t (suc i)) s) 1 0 (λ _. omega arith) (λ _. omega arith)),
+            sum-bound (t .count) (λ s. cond (applied (at t (suc i)) s) 1 0) 1
+                (λ s l. cond-case (λ x. x ≤ 1) (applied (at t (suc i)) s) 1 0 (λ _. omega arith) (λ _. omega arith)),
           )),
       w .few,
     )
@@ -76,107 +129,101 @@ names-length (suc k) t S = go (has S k) (names-length k t S)
     go true e = omega (arith, length-insert (nameOf (message t k)) (namesBelow k t S))
     go false e = omega (arith, e)
 
--- one term of a sum raised by d
-sum-raised : (n : ℕ) (f g : ℕ → ℕ) (r d : ℕ) → r < n → g r ≡ f r + d → ((k : ℕ) → k < n → k ≢ r → g k ≡ f k) → sum n g ≡ sum n f + d
+-- the term of controller r raised by d
+sum-raised : (n : ℕ) (f g : ℕ → ℕ) (r d : ℕ) → Named n r → ((k : ℕ) → k < n → g k ≡ f k + cond (eqb (suc k) r) d 0) → sum n g ≡ sum n f + d
 unfolding sum
-sum-raised zero f g r d h e o = absurd (omega arith)
-sum-raised (suc n) f g r d h e o = go (ℕ-discrete n r) (λ l. sum-raised n f g r d l e (λ k m. o k (omega arith)))
+sum-raised zero f g r d h e = absurd (omega (arith, h))
+sum-raised (suc n) f g r d h e =
+    go (ℕ-discrete (suc n) r) (λ l. sum-raised n f g r d (record { low = h .low; high = l }) (λ k m. e k (omega arith)))
   where
-    go : Dec (n ≡ r) → (r < n → sum n g ≡ sum n f + d) → sum n g + g n ≡ sum n f + f n + d
-    go (yes q) r′ = rw q (omega (arith, e, sum-ext r g f (λ k m. o k (omega arith) (omega arith))))
-    go (no q) r′ = omega (arith, r′ (omega arith), o n (omega arith) q)
-
-next-n : (t : Table) (e : Event) → next t e .n ≡ t .n
-unfolding next send handover withController withMessage
-next-n t (Send c p) = refl
-next-n t (Handover r o) = refl
-next-n t (Stop c k) = refl
-
-quiet-deliveries : (t : Table) (e : Event) → Sized t → WellFormed t → firstNo (eventQuestions t e) ≡ 0 → receiver e ≡ 0 → deliveries (next t e) ≡ deliveries t
-unfolding deliveries next
-quiet-deliveries t e z w q h =
-    rw (next-n t e) (sum-ext (t .n) _ _ (λ i l. weigh-kept t e z w q (λ p. 1) (suc i) (record { low = omega arith; high = l }) (omega arith)))
-
-handover-deliveries : (t : Table) (r o : ℕ) → Sized t → WellFormed t → firstNo (eventQuestions t (Handover r o)) ≡ 0
-    → deliveries (next t (Handover r o)) ≡ deliveries t + length (namesOf t (handoverSet t r o))
-unfolding deliveries namesOf next handover withController receiver
-handover-deliveries t r o z w q =
-    let a = handover-allowed t r o q .receiver in
-    let back : suc (r - 1) ≡ r = omega arith in
-    sum-raised (t .n) (λ i. weigh (λ p. 1) t (suc i)) (λ i. weigh (λ p. 1) (next t (Handover r o)) (suc i)) (r - 1) _ (omega arith)
-    (rw (back, names-length (t .count) t (handoverSet t r o)) (weigh-receiver t r o z w q (λ p. 1)))
-    (λ i l d. weigh-kept t (Handover r o) z w q (λ p. 1) (suc i) (record { low = omega arith; high = l }) (omega arith))
+    go : Dec (suc n ≡ r) → (r ≤ n → sum n g ≡ sum n f + d) → sum n g + g n ≡ sum n f + f n + d
+    go (yes q) on =
+        let same = sum-ext n g f (λ k m. e k (omega arith) ∙ rw (ne-eqb (suc k) r (omega arith)) (omega arith)) in
+        omega (arith, same, rw (eq-eqb (suc n) r q) at (e n (omega arith)))
+    go (no q) on = omega (arith, on (omega (arith, h .high, q)), rw (ne-eqb (suc n) r q) at (e n (omega arith)))
 
 -- an event applies what it names
 deliveries-next : (t : Table) (e : Event) → Sized t → WellFormed t → firstNo (eventQuestions t e) ≡ 0
     → deliveries (next t e) ≡ deliveries t + length (namesOf t (appliedBy t e))
-unfolding appliedBy receiver
-deliveries-next t (Send c p) z w q = omega (arith, quiet-deliveries t (Send c p) z w q refl, ap length (none-named t))
-deliveries-next t (Handover r o) z w q = handover-deliveries t r o z w q
-deliveries-next t (Stop c k) z w q = omega (arith, quiet-deliveries t (Stop c k) z w q refl, ap length (none-named t))
+unfolding deliveries namesOf weighSet
+deliveries-next t e z w q =
+    ap (λ n. sum n (λ i. weigh (λ p. 1) (next t e) (at (next t e) (suc i)))) (next-n t e)
+    ∙ sum-raised (t .n) _ _ (subject e) _ (subject-allowed t e q) (λ i l. weigh-next t e z w q (λ p. 1) (suc i) (record { low = omega arith; high = l }))
+    ∙ ap (λ k. deliveries t + k) (sym (names-length (t .count) t (appliedBy t e)))
+
+-- ONE RECORD
+
+-- a run that goes on with at most f records, and has listed no more than its deliveries allow
+record Listed (f : ℕ) (p : Progress) : Type 0 where
+  going : p .number ≡ 0
+  few : p .events + f < 100000
+  sized : Sized (p .table)
+  formed : WellFormed (p .table)
+  lines : length (p .lines) ≤ 31 * deliveries (p .table)
+
+module _ (p : Progress) (s : List ℕ) (room space f : ℕ) (h : Listed (suc f) p) where
+  -- with an accepted event more it is such a run
+  accepted-listed : step (p .table) s room .answer .number ≡ 0 → Listed f (gone p s room space)
+  unfolding accepted lineAt
+  accepted-listed e =
+      let t = p .table in
+      let a = accepted-asked t s room e in
+      let q = step-asked t s room a .1 in
+      let ms = namesOf t (appliedBy t (decode s)) in
+      rw (step-is-accepted t s room a) (record {
+        going = refl;
+        few = omega (arith, h .few);
+        sized = next-sized t (decode s) (h .sized);
+        formed = next-well-formed t (decode s) (h .sized) (h .formed) q;
+        lines = omega (
+          arith,
+          h .lines,
+          deliveries-next t (decode s) (h .sized) (h .formed) q,
+          length-append (p .lines) (lineOf (p .events + 1) (subject (decode s)) (panelOf (next t (decode s)) (subject (decode s))) ms),
+          lineOf-length (p .events + 1) (subject (decode s)) (panelOf (next t (decode s)) (subject (decode s))) ms
+              (small-line t (decode s) (h .sized) (h .formed) q (p .events + 1) (omega (arith, h .few))),
+        );
+      })
+
+  -- so that question 16 does not refuse
+  verdict-not-16 : 13888 ≤ space → verdict p s room space ≢ 16
+  unfolding verdict firstNo lineFits
+  verdict-not-16 l =
+      let k = step (p .table) s room .answer .number in
+      cond-case (λ v. v ≢ 16) (eqb k 0) _ k
+      (λ e.
+      let d = accepted-listed (eqb-true k 0 e) in
+      rw (le-leb (length (lineAt p s room)) (space - length (p .lines))
+      (omega (arith, d .lines, length-append (p .lines) (lineAt p s room), deliveries-bound (gone p s room space .table) (d .formed)))) (omega arith))
+      (λ _ z. elim (step-number-range (p .table) s room) [
+        | inl y ↦ absurd (omega (arith, step-number (p .table) s room))
+        | inr y ↦ absurd (omega (arith, step-number (p .table) s room))
+      ])
 
 -- THE RUN
 
-refusal-not-16 : (t : Table) (s : List ℕ) (room : ℕ) → firstNo (stepQuestions t s room) ≢ 16
-refusal-not-16 t s room e = elim (step-number-range t s room) [ inl z ↦ absurd (omega arith) | inr z ↦ absurd (omega arith) ]
-
--- what a step answers: a refusal that is not 16, or the names of what it applied
-record Stepped (t : Table) (s : List ℕ) (o : Outcome) : Type 0 where
-  not-16 : o .answer .number ≢ 16
-  then : o .answer .number ≡ 0 → Sized (o .table) × WellFormed (o .table) × (deliveries (o .table) ≡ deliveries t + length (o .answer .names))
-
-stepped : (t : Table) (s : List ℕ) (room : ℕ) → Sized t → WellFormed t → Stepped t s (step t s room)
-unfolding accepted refused
-stepped t s room z w =
-    step-case t s room (Stepped t s)
-    (λ e.
-    let q = step-asked t s room e .1 in
-    record {
-      not-16 = omega arith;
-      then = λ _. (next-sized t (decode s) z, next-well-formed t (decode s) z w q, deliveries-next t (decode s) z w q);
-    })
-    (λ n. record { not-16 = refusal-not-16 t s room; then = λ h. absurd (n h) })
-
--- a run that has listed no more than its deliveries allow goes on so
 record Fits (p : Progress) : Type 0 where
   not-16 : p .number ≢ 16
   short : length (p .lines) ≤ 13888
 
--- the step's number and question 16, in this order
-ended-not-16 : (k x y : ℕ) → k ≢ 16 → (k ≡ 0 → x ≤ y) → firstNo (ask k (eqb k 0) ∷ lineFits x y ∷ []) ≢ 16
-unfolding firstNo lineFits
-ended-not-16 k x y n f =
-    cond-case (λ v. v ≢ 16) (eqb k 0) (cond (leb x y) 0 16) k
-    (λ e. rw (le-leb x y (f (eqb-true k 0 e))) (omega arith)) (λ _. n)
+listed-fits : (f : ℕ) (p : Progress) → Listed f p → Fits p
+listed-fits f p h = record { not-16 = omega (arith, h .going); short = omega (arith, h .lines, deliveries-bound (p .table) (h .formed)) }
 
-records-fit : (f : ℕ) (t : Table) (s : List ℕ) (room space e : ℕ) (l : List ℕ) → Sized t → WellFormed t → 13888 ≤ space → length l ≤ 31 * deliveries t
-    → Fits (records f t s room space e l)
+records-fit : (f : ℕ) (p : Progress) (s : List ℕ) (room space : ℕ) → 13888 ≤ space → Listed f p → Fits (records f p s room space)
 unfolding records
-records-fit zero t s room space e l z w h b = record { not-16 = omega arith; short = omega (arith, deliveries-bound t w) }
-records-fit (suc f) t [] room space e l z w h b = record { not-16 = omega arith; short = omega (arith, deliveries-bound t w) }
-records-fit (suc f) t (y ∷ s) room space e l z w h b =
-    let o = step t (y ∷ s) room in
-    let c = receiver (decode (y ∷ s)) in
-    let x = lineOf (e + 1) c (total (o .table) c) (o .answer .names) in
-    let d = stepped t (y ∷ s) room z w in
-    let short = lineOf-length (e + 1) c (total (o .table) c) (o .answer .names) in
-    cond-case Fits (eqb (firstNo (ask (o .answer .number) (eqb (o .answer .number) 0) ∷ lineFits (length x) (space - length l) ∷ [])) 0)
-    (records f (o .table) (o .answer .rest) room space (e + 1) (l ++ x)) _
-    (λ q.
-    let v = d .then (line-asked (o .answer .number) (length x) (space - length l) (eqb-true _ 0 q) .0) in
-    records-fit f (o .table) (o .answer .rest) room space (e + 1) (l ++ x) (v .0) (v .1) h
-    (omega (arith, v .2, length-append l x)))
-    (λ _. record {
-      not-16 = ended-not-16 (o .answer .number) (length x) (space - length l) (d .not-16)
-          (λ k. let v = d .then k in omega (arith, v .2, deliveries-bound (o .table) (v .1)));
-      short = omega (arith, deliveries-bound t w);
-    })
+records-fit zero p s room space l h = listed-fits 0 p h
+records-fit (suc f) p [] room space l h = listed-fits (suc f) p h
+records-fit (suc f) p (b ∷ s) room space l h =
+    advance-case p (b ∷ s) room space (λ q. Fits (cond (eqb (q .number) 0) (records f q (behind (b ∷ s)) room space) q))
+    (λ v. records-fit f (gone p (b ∷ s) room space) (behind (b ∷ s)) room space l (accepted-listed p (b ∷ s) room space f h (verdict-passed p (b ∷ s) room space v .0)))
+    (λ d. rw (ne-eqb (verdict p (b ∷ s) room space) 0 d) (record { not-16 = verdict-not-16 p (b ∷ s) room space f h l; short = listed-fits (suc f) p h .short }))
 
 pub listing-fits : (s : List ℕ) (room space : ℕ) → firstNo (fileQuestions s) ≡ 0 → 13888 ≤ space
     → (progress s room space .number ≢ 16) × (length (progress s room space .lines) ≤ 13888)
-unfolding progress
+unfolding progress begun
 listing-fits s room space q h =
     let a = file-allowed s q in
     let n = byte s 1 in
-    let r = records-fit (length s) (fresh n) (drop 2 s) room space 0 [] (fresh-sized n) (fresh-well-formed n (a .some) (a .few)) h (omega arith) in
+    let r = records-fit (length s) (begun n) (drop 2 s) room space h
+    (record { going = refl; few = omega (arith, a .short); sized = fresh-sized n; formed = fresh-well-formed n (a .some) (a .few); lines = omega arith }) in
     (r .not-16, r .short)

@@ -7,7 +7,7 @@ use native.Mathlib.Omega.{arith}
 use native.Mathlib.Decide.{ℕ-discrete}
 use Rattle.lists.proofs.Tests.{contradiction}
 use Rattle.lists.proofs.Below.{greatest-ext, greatest-last}
-use Rattle.model.specs.Tables.{capacity, yes?, at, message, held, applied, unheld, withController, withMessage, withEntry, withMark}
+use Rattle.model.specs.Tables.{capacity, yes?, at, message, held, applied, unheld, withController, withMessage}
 use Rattle.model.specs.Events.{numberOf, sentMessage, sent}
 use Rattle.model.specs.Sized.{Sized}
 use Rattle.model.specs.WellFormed.{inLog, fairAmount, greatestApplied}

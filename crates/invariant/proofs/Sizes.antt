@@ -144,6 +144,21 @@ pub next-other : (t : Table) (e : Event) (d : ℕ) → Named seats (subject e) �
 unfolding next
 next-other t e d h k n = at-other (withSent t e) (subject e) d (after t e) h k n ∙ sent-at t e d
 
+-- what the subject is afterwards, and what another was
+pub next-case : (t : Table) (e : Event) → Sized t → Named seats (subject e) → (P : Controller → Type 0) (d : ℕ) → Named seats d
+    → (d ≡ subject e → P (after t e)) → (d ≢ subject e → P (at t d)) → P (at (next t e) d)
+next-case t e z h P d k new old = go (ℕ-discrete d (subject e))
+  where
+    go : Dec (d ≡ subject e) → P (at (next t e) d)
+    go (yes p) = rw (p, next-same t e z h) (new p)
+    go (no n) = rw (next-other t e d h k n) (old n)
+
+pub next-n : (t : Table) (e : Event) → next t e .n ≡ t .n
+unfolding next withSent withController withMessage
+next-n t (Send c p) = refl
+next-n t (Handover r o) = refl
+next-n t (Stop c k) = refl
+
 -- THE FRESH TABLE
 
 pub fresh-sized : (n : ℕ) → Sized (fresh n)

@@ -1,0 +1,130 @@
+-- What the claim says of one moment or of two: containment, looks, and the ending. Assumes nothing.
+use mathlib.Core.Path.{_≡_, refl, sym, ap, ap₂, _∙_}
+use mathlib.Core.Logic.{_⊎_, inl, inr, _↔_}
+use mathlib.Core.Bool.{true, false≢true}
+use mathlib.Core.List.{List, [], flatten}
+use Prim.Native.Nat.{ℕ, zero, suc, _-_, _*_, _<_}
+use native.Mathlib.Omega.{arith}
+use native.Mathlib.Decide.{decLt}
+use lib.ListN.{length}
+use Rattle.lists.specs.Below.{count}
+use Rattle.lists.proofs.Tests.{bool-eq}
+use Rattle.lists.proofs.Below.{count-ext}
+use Rattle.model.specs.Tables.{yes?, at, message, place, applied as appliedAt, Named}
+use Rattle.model.specs.Events.{panelOf}
+use Rattle.model.specs.WellFormed.{named, wellFormed, inLog}
+use Rattle.model.specs.Questions.{firstNo, lentTable}
+use Rattle.model.specs.Calls.{look}
+use Rattle.model.specs.declared.Name.{Name}
+use Rattle.model.specs.declared.Table.{Table}
+use Rattle.model.specs.declared.LookAnswer.{LookAnswer}
+use Rattle.model.specs.Facts.{WellFormed}
+use Rattle.model.proofs.Tested.{named-at, named-of, tested}
+use Rattle.model.proofs.Allowed.{no-no}
+use Rattle.invariant.proofs.Stores.{seated}
+use Rattle.broadcast.specs.State.{State}
+use Rattle.broadcast.specs.Delivery.{Subset}
+use Rattle.broadcast.proofs.Theorem.{containment, ending}
+use Rattle.consistency.specs.Demand3.{name, has, Ledger, applied, remaining, amounts, Contains, Exactly, Runs, ReadOut}
+use Rattle.consistency.proofs.Bridge.{system, codeAt, code-injective, Related}
+use Rattle.consistency.proofs.BridgeFacts.{few, shown, applied-delivered, delivered-slot, remains-logged, all-read, quorum-runs}
+use Rattle.consistency.proofs.SlotNames.{nameAt, length-log}
+use Rattle.consistency.proofs.Ledger.{slot-case, Recorded}
+use Rattle.consistency.proofs.Sums.{look-amounts, has-remaining, remaining-slot, look-remaining}
+use Rattle.consistency.proofs.Moments.{Moment}
+
+-- CONTAINMENT
+
+-- slots of two tables with one code have one name
+code-name : (t u : Table) → WellFormed t → WellFormed u → (i j : ℕ) → i < t .count → j < u .count → codeAt t i ≡ codeAt u j → nameAt t i ≡ nameAt u j
+code-name t u w v i j li lj e =
+    let q = code-injective (message t i .sender) (message t i .number .0) (message u j .sender) (message u j .number .0)
+    (seated (w .few) (w .senders i li)) (seated (v .few) (v .senders j lj)) (w .numbers i li .0) (w .numbers i li .1) (v .numbers j lj .0) (v .numbers j lj .1) e in
+    ap₂ (λ (c k : ℕ). name c k) (q .0) (q .1)
+
+module _ {n : ℕ} {t u : Table} {l k : Ledger} {s r : State} (g : Related n t s) (p : Recorded n t l) (h : Related n u r) (q : Recorded n u k) where
+  subset-contains : (c d : ℕ) → Named n c → Named n d → Subset (s .delivered (c - 1)) (r .delivered (d - 1)) → Contains (applied k d) (applied l c)
+  subset-contains c d hc hd w m e = slot-case (λ m. has m (applied l c) ≡ true → has m (applied k d) ≡ true) (p .applied-sent c m e) each e
+    where
+      each : (j : ℕ) → j < t .count → has (nameAt t j) (applied l c) ≡ true → has (nameAt t j) (applied k d) ≡ true
+      each j b e =
+          let y = w .each (codeAt t j) (applied-delivered g c j hc b ∙ (sym (p .applies c hc j b) ∙ e)) in
+          let o = delivered-slot h (d - 1) (codeAt t j) y in
+          rw (← code-name u t (h .formed) (g .formed) (o .slot) j (o .below) b (o .is))
+          (q .applies d hd (o .slot) (o .below) ∙ (sym (applied-delivered h d (o .slot) hd (o .below)) ∙ rw (o .is) y))
+
+-- what an unnamed controller has applied is nothing
+unnamed-none : {n : ℕ} {t : Table} {l : Ledger} → Recorded n t l → (c : ℕ) → (Named n c → ⊥) → (xs : List Name) → Contains xs (applied l c)
+unfolding has flatten
+unnamed-none {l = l} p c f xs m e = absurd (false≢true (rw (p .unnamed c f) at e))
+
+naming : (n c : ℕ) → Dec (Named n c)
+naming n zero = no (λ h. omega (arith, h .low))
+naming n (suc c) = elim (decLt c n) [ yes h ↦ yes (record { low = omega arith; high = h }) | no h ↦ no (λ k. h (k .high)) ]
+
+-- a moment, and one that a run from its state reaches
+pub comparable : {n : ℕ} {s₀ : State} {t u : Table} {l k : Ledger} (m : Moment n s₀ t l) → Moment n (m .state) u k → (c d : ℕ)
+    → Contains (applied l c) (applied k d) ⊎ Contains (applied k d) (applied l c)
+comparable {n} {s₀} {t} {u} {l} {k} m m′ c d = go (naming n c) (naming n d)
+  where
+    go : Dec (Named n c) → Dec (Named n d) → Contains (applied l c) (applied k d) ⊎ Contains (applied k d) (applied l c)
+    go (no f) y = inr (unnamed-none (m .recorded) c f (applied k d))
+    go (yes x) (no f) = inl (unnamed-none (m′ .recorded) d f (applied l c))
+    go (yes x) (yes y) = elim (containment (system n) (m .state) (m′ .state) (m .related .all) (m′ .run) (c - 1) (d - 1)) [
+      | inl w ↦ inr (subset-contains (m .related) (m .recorded) (m′ .related) (m′ .recorded) c d x y w)
+      | inr w ↦ inl (subset-contains (m′ .related) (m′ .recorded) (m .related) (m .recorded) d c y x w)
+    ]
+
+-- A LOOK
+
+module _ {n : ℕ} {s₀ : State} {t : Table} {l : Ledger} (m : Moment n s₀ t l) where
+  -- a look that is not refused names a controller
+  look-named : (c : ℕ) → look t c .number ≡ 0 → Named n c
+  unfolding look lentTable
+  look-named c e =
+      let h = named-at t c (no-no 7 (named t c) [] (no-no 3 (wellFormed t) _ e .1) .0) in
+      omega (arith, m .related .size)
+
+  look-is : (c : ℕ) → Named n c → look t c ≡ record { number = 0; panel = panelOf t c }
+  unfolding look lentTable firstNo
+  look-is c h = rw (tested t (m .related .formed), named-of t c (omega (arith, m .related .size)))
+
+  pub look-shows : (c : ℕ) (a : LookAnswer) → a ≡ look t c → a .number ≡ 0 → a .panel .total ≡ amounts (l .sent) (applied l c)
+  look-shows c a e z =
+      let h = look-named c (ap (λ (b : LookAnswer). b .number) (sym e) ∙ z) in
+      ap (λ (b : LookAnswer). b .panel .total) (e ∙ look-is c h) ∙ look-amounts (m .recorded) c h
+
+-- THE ENDING
+
+module _ {n : ℕ} {s₀ : State} {t : Table} {l : Ledger} (m : Moment n s₀ t l) (e : ReadOut n l) (r : ℕ) (on : Runs n l r) where
+  abbrev g : Related n t (m .state)
+  g = m .related
+
+  abbrev p : Recorded n t l
+  p = m .recorded
+
+  abbrev h : Named n r
+  h = on .named
+
+  read-out : (a o : ℕ) → Named n a → Named n o → yes? (at t a .running) ≡ true → place (at t a) o ≡ at t o .length
+  read-out a o ha ho run =
+      sym (p .places a o ha ho) ∙ (e .to-end a o (record { named = ha; running = p .runs a ha ∙ run }) ho ∙ (ap length (p .logs o ho) ∙ length-log t (at t o)))
+
+  majority-runs : n < 2 * count n (λ i. yes? (at t (suc i) .running))
+  majority-runs = rw (← count-ext n (λ i. l .runs (suc i)) (λ i. yes? (at t (suc i) .running)) (λ i k. p .runs (suc i) (record { low = omega arith; high = k }))) (e .majority)
+
+  slot-ending : (j : ℕ) → j < t .count → (appliedAt (at t r) j ≡ true) ↔ (inLog (at t (message t j .sender)) j ≡ true)
+  slot-ending j k =
+      let x = ending (system n) (m .state) (g .all) (quorum-runs g majority-runs) (all-read g read-out) (r - 1) (omega (arith, few g)) (shown g r h .running ∙ (sym (p .runs r h) ∙ on .running)) (codeAt t j) in
+      let y = remains-logged g j k in
+      ((λ a. y .0 (x .0 (applied-delivered g r j h k ∙ a))), (λ a. sym (applied-delivered g r j h k) ∙ x .1 (y .1 a)))
+
+  pub moment-ending : Exactly (applied l r) (remaining l)
+  moment-ending x = bool-eq _ _
+      (λ y. slot-case (λ m. has m (applied l r) ≡ true → has m (remaining l) ≡ true) (p .applied-sent r x y)
+      (λ j b z. has-remaining p j b ∙ slot-ending j b .0 (sym (p .applies r h j b) ∙ z)) y)
+      (λ y. slot-case (λ m. has m (remaining l) ≡ true → has m (applied l r) ≡ true) (remaining-slot p x y)
+      (λ j b z. p .applies r h j b ∙ slot-ending j b .1 (sym (has-remaining p j b) ∙ z)) y)
+
+  pub ending-shows : (look t r .number ≡ 0) × (look t r .panel .total ≡ amounts (l .sent) (remaining l))
+  ending-shows = rw (look-is m r h) (refl, look-remaining p r h moment-ending)
