@@ -9,7 +9,7 @@ use lib.Dec.{eqb}
 use borrow.Author.Tests.{eqb-true}
 use Rattle.lists.proofs.Tests.{cond-case}
 use Rattle.lists.proofs.Every.{Every, every-append}
-use Rattle.model.specs.Runs.{decimal, signed, listed, line, lineOf}
+use Rattle.model.specs.Runs.{decimal, signed, nameFields, line, lineOf}
 use Rattle.model.specs.declared.Name.{Name}
 use Rattle.model.specs.declared.Panel.{Panel}
 use Rattle.consistency.specs.Demand3.{split, numberFrom, nameIn, lineSet}
@@ -23,7 +23,7 @@ field m = decimal (m .sender) ++ (46 ∷ decimal (m .number .0))
 
 -- a line without its end
 unfoldable pub body : ℕ → ℕ → Panel → List Name → List ℕ
-body e c p ms = decimal e ++ (32 ∷ decimal c ++ (32 ∷ signed (p .total) ++ listed ms))
+body e c p ms = decimal e ++ (32 ∷ decimal c ++ (32 ∷ signed (p .total) ++ nameFields ms))
 
 field-lacks : (m : Name) (k : ℕ) → k < 46 → Lacks k (field m)
 unfolding field
@@ -42,28 +42,28 @@ pub names-read-back : (ms : List Name) → map nameIn (map field ms) ≡ ms
 names-read-back [] = refl
 names-read-back (m ∷ ms) = ap₂ _∷_ (name-read-back m) (names-read-back ms)
 
-listed-fields : (p : List ℕ) (ms : List Name) → Lacks 32 p → split 32 (p ++ listed ms) ≡ p ∷ map field ms
-unfolding listed field
-listed-fields p [] h = rw append-nil (split-whole 32 p h)
-listed-fields p (m ∷ ms) h =
+fields-split : (p : List ℕ) (ms : List Name) → Lacks 32 p → split 32 (p ++ nameFields ms) ≡ p ∷ map field ms
+unfolding nameFields field
+fields-split p [] h = rw append-nil (split-whole 32 p h)
+fields-split p (m ∷ ms) h =
     split-at-first 32 p _ h
-    ∙ ap (λ r. p ∷ r) (ap (split 32) (sym (append-assoc (decimal (m .sender)) (46 ∷ decimal (m .number .0)) (listed ms)))
-    ∙ listed-fields (field m) ms (field-lacks m 32 (omega arith)))
+    ∙ ap (λ r. p ∷ r) (ap (split 32) (sym (append-assoc (decimal (m .sender)) (46 ∷ decimal (m .number .0)) (nameFields ms)))
+    ∙ fields-split (field m) ms (field-lacks m 32 (omega arith)))
 
 pub line-fields : (e c : ℕ) (p : Panel) (ms : List Name) → split 32 (body e c p ms) ≡ decimal e ∷ decimal c ∷ signed (p .total) ∷ map field ms
 unfolding body
 line-fields e c p ms =
     split-at-first 32 (decimal e) _ (decimal-lacks e 32 (omega arith))
     ∙ ap (λ r. decimal e ∷ r) (split-at-first 32 (decimal c) _ (decimal-lacks c 32 (omega arith))
-    ∙ ap (λ r. decimal c ∷ r) (listed-fields (signed (p .total)) ms (signed-lacks (p .total) 32 (omega arith))))
+    ∙ ap (λ r. decimal c ∷ r) (fields-split (signed (p .total)) ms (signed-lacks (p .total) 32 (omega arith))))
 
-listed-lacks : (ms : List Name) (k : ℕ) → k < 32 → Lacks k (listed ms)
-unfolding listed Every
-listed-lacks [] k h = tt
-listed-lacks (m ∷ ms) k h = (
+fields-lack : (ms : List Name) (k : ℕ) → k < 32 → Lacks k (nameFields ms)
+unfolding nameFields Every
+fields-lack [] k h = tt
+fields-lack (m ∷ ms) k h = (
   omega arith,
-  lacks-joined k 46 (decimal (m .sender)) (decimal (m .number .0) ++ listed ms) (omega arith) (decimal-lacks (m .sender) k (omega arith))
-      (every-append (λ b. b ≢ k) (decimal (m .number .0)) (listed ms) (decimal-lacks (m .number .0) k (omega arith)) (listed-lacks ms k h)),
+  lacks-joined k 46 (decimal (m .sender)) (decimal (m .number .0) ++ nameFields ms) (omega arith) (decimal-lacks (m .sender) k (omega arith))
+      (every-append (λ b. b ≢ k) (decimal (m .number .0)) (nameFields ms) (decimal-lacks (m .number .0) k (omega arith)) (fields-lack ms k h)),
 )
 
 body-lacks : (e c : ℕ) (p : Panel) (ms : List Name) (k : ℕ) → k < 32 → Lacks k (body e c p ms)
@@ -71,7 +71,7 @@ unfolding body
 body-lacks e c p ms k h =
     lacks-joined k 32 _ _ (omega arith) (decimal-lacks e k (omega arith))
     (lacks-joined k 32 _ _ (omega arith) (decimal-lacks c k (omega arith))
-    (every-append (λ b. b ≢ k) (signed (p .total)) (listed ms) (signed-lacks (p .total) k (omega arith)) (listed-lacks ms k h)))
+    (every-append (λ b. b ≢ k) (signed (p .total)) (nameFields ms) (signed-lacks (p .total) k (omega arith)) (fields-lack ms k h)))
 
 line-body : (e c : ℕ) (p : Panel) (ms : List Name) (s : List ℕ) → line e c p ms ++ s ≡ body e c p ms ++ (10 ∷ s)
 unfolding line body

@@ -8,7 +8,7 @@ use lib.IntN.{ℤ, pos, negsuc, natAbs}
 use Rattle.lists.proofs.Tests.{cond-case}
 use Rattle.lists.proofs.Every.{Every}
 use Rattle.model.specs.Events.{earlier, insert, namesBelow, namesOf}
-use Rattle.model.specs.Runs.{decimal, signed, listed, line, header, footer}
+use Rattle.model.specs.Runs.{decimal, signed, nameFields, line, header, footer}
 use Rattle.model.specs.declared.Name.{Name}
 use Rattle.model.specs.declared.Panel.{Panel}
 use Rattle.model.specs.declared.Table.{Table}
@@ -43,30 +43,30 @@ pub record SmallName (m : Name) : Type 0 where
   pub sender : m .sender < 1000
   pub number : m .number .0 < 1000
 
-pub names-bound : (ms : List Name) → Every SmallName ms → length (listed ms) ≤ 8 * length ms
-unfolding listed Every
+pub names-bound : (ms : List Name) → Every SmallName ms → length (nameFields ms) ≤ 8 * length ms
+unfolding nameFields Every
 names-bound [] h = omega arith
 names-bound (m ∷ ms) h =
     let b = h .0 in
     omega (
       arith,
-      length-append (32 ∷ decimal (m .sender)) ((46 ∷ decimal (m .number .0)) ++ listed ms),
-      length-append (46 ∷ decimal (m .number .0)) (listed ms),
+      length-append (32 ∷ decimal (m .sender)) ((46 ∷ decimal (m .number .0)) ++ nameFields ms),
+      length-append (46 ∷ decimal (m .number .0)) (nameFields ms),
       decimal-bound 2 (m .sender) (b .sender),
       decimal-bound 2 (m .number .0) (b .number),
       names-bound ms (h .1),
     )
 
 pub length-line : (e c : ℕ) (p : Panel) (ms : List Name)
-    → length (line e c p ms) ≡ length (decimal e) + length (decimal c) + length (signed (p .total)) + length (listed ms) + 3
+    → length (line e c p ms) ≡ length (decimal e) + length (decimal c) + length (signed (p .total)) + length (nameFields ms) + 3
 unfolding line
 length-line e c p ms =
     omega (
       arith,
-      length-append (decimal e) ((32 ∷ decimal c) ++ ((32 ∷ signed (p .total)) ++ (listed ms ++ (10 ∷ [])))),
-      length-append (32 ∷ decimal c) ((32 ∷ signed (p .total)) ++ (listed ms ++ (10 ∷ []))),
-      length-append (32 ∷ signed (p .total)) (listed ms ++ (10 ∷ [])),
-      length-append (listed ms) (10 ∷ []),
+      length-append (decimal e) ((32 ∷ decimal c) ++ ((32 ∷ signed (p .total)) ++ (nameFields ms ++ (10 ∷ [])))),
+      length-append (32 ∷ decimal c) ((32 ∷ signed (p .total)) ++ (nameFields ms ++ (10 ∷ []))),
+      length-append (32 ∷ signed (p .total)) (nameFields ms ++ (10 ∷ [])),
+      length-append (nameFields ms) (10 ∷ []),
     )
 
 -- the lines around the listing, of numbers that are bytes and words

@@ -5,16 +5,16 @@ use mathlib.Core.Bool.{true, false, cond}
 use mathlib.Core.List.{List, [], _∷_, _++_}
 use Prim.Native.Nat.{ℕ, zero, suc, _+_, _-_, _≤_, _<_}
 use native.Mathlib.Omega.{arith}
-use lib.ListN.{length, drop, length-drop}
+use lib.ListN.{length, drop}
 use lib.Seq.{drop-length}
 use lib.Dec.{eqb}
-use borrow.Author.Tests.{eqb-true, eqb-false, eq-eqb, ne-eqb}
+use borrow.Author.Tests.{eqb-true, eqb-false, ne-eqb}
 use Rattle.lists.proofs.Tests.{cond-case, decided}
 use Rattle.model.specs.Records.{size, behind}
 use Rattle.model.specs.Calls.{step}
 use Rattle.model.specs.Runs.{Progress, lineAt, verdict, advance, records}
 use Rattle.model.proofs.Allowed.{line-asked}
-use Rattle.model.proofs.Steps.{accepted-within}
+use Rattle.model.proofs.Steps.{accepted-rest, accepted-shorter}
 
 module _ (p : Progress) (s : List ℕ) (room space : ℕ) where
   -- the run with one event more
@@ -63,9 +63,9 @@ records-end f p b s room space n =
 
 -- an accepted record leaves fewer bytes
 pub behind-shorter : (p : Progress) (s : List ℕ) (room space : ℕ) → verdict p s room space ≡ 0 → length (behind s) < length s
-unfolding behind
 behind-shorter p s room space e =
-    omega (arith, accepted-within (p .table) s room (verdict-passed p s room space e .0), length-drop (size s + 1) s)
+    let z = verdict-passed p s room space e .0 in
+    rw (accepted-rest (p .table) s room z) at (accepted-shorter (p .table) s room z)
 
 pub records-none : (f : ℕ) (p : Progress) (room space : ℕ) → records f p [] room space ≡ p
 unfolding records

@@ -3,8 +3,9 @@ use mathlib.Core.Path.{_≡_, refl, sym, ap, _∙_}
 use mathlib.Core.Logic.{_≢_}
 use mathlib.Core.Bool.{true}
 use mathlib.Core.List.{List, []}
-use Prim.Native.Nat.{ℕ, _≤_, _<_}
-use lib.ListN.{length}
+use Prim.Native.Nat.{ℕ, _+_, _≤_, _<_}
+use native.Mathlib.Omega.{arith}
+use lib.ListN.{length, length-drop}
 use lib.Dec.{eqb, leb, ltb}
 use borrow.Author.Tests.{ltb-true, leb-true, eqb-true, eqb-false, eq-eqb}
 use Rattle.lists.proofs.Tests.{cond-case, cond-true}
@@ -61,9 +62,25 @@ module _ (t : Table) (s : List ℕ) (room : ℕ) where
     unfolding recordQuestions
     accepted-within = ltb-true (size s) (length s) (no-no 4 (ltb (size s) (length s)) _ (step-asked t s room accepted-asked .0) .0)
 
+    -- what is left is shorter than what was handed in
+    pub accepted-shorter : length (step t s room .answer .rest) < length s
+    unfolding behind
+    accepted-shorter = rw accepted-rest (omega (arith, accepted-within, length-drop (size s + 1) s))
+
     pub accepted-room : 4096 ≤ room
     unfolding scratchRoom
     accepted-room = leb-true 4096 room (no-no 14 (leb 4096 room) [] (step-asked t s room accepted-asked .2) .0)
+
+-- so too of an event call
+pub event-shorter : (t : Table) (s : List ℕ) (room : ℕ) → event t s room .answer .number ≡ 0 → length (event t s room .answer .rest) < length s
+unfolding event accepted refused lentTable
+event-shorter t s room =
+    settled-case (λ (o : Outcome). o .answer .number ≡ 0 → length (o .answer .rest) < length s) t s _
+    (λ e _.
+    let a = no-no 3 (wellFormed t) (stepQuestions t s room) e .1 in
+    let z = step-number t s room ∙ a in
+    rw (← accepted-rest t s room z) (accepted-shorter t s room z))
+    (λ n z. absurd (n z))
 
 -- a file run past question 3
 pub file-run-ran : (s listing scratch : List ℕ) → firstNo (fileQuestions s) ≡ 0

@@ -32,13 +32,13 @@ signed (pos x) = decimal x
 signed (negsuc x) = 45 ∷ decimal (suc x)
 
 -- ' sender.number' for each name
-unfoldable pub listed : List Name → List ℕ
-listed [] = []
-listed (m ∷ ms) = (32 ∷ decimal (m .sender)) ++ ((46 ∷ decimal (m .number .0)) ++ listed ms)
+unfoldable pub nameFields : List Name → List ℕ
+nameFields [] = []
+nameFields (m ∷ ms) = (32 ∷ decimal (m .sender)) ++ ((46 ∷ decimal (m .number .0)) ++ nameFields ms)
 
 -- the line of event number e, in which controller c applied a set and its panel then shows p
 unfoldable pub line : ℕ → ℕ → Panel → List Name → List ℕ
-line e c p ms = decimal e ++ ((32 ∷ decimal c) ++ ((32 ∷ signed (p .total)) ++ (listed ms ++ (10 ∷ []))))
+line e c p ms = decimal e ++ ((32 ∷ decimal c) ++ ((32 ∷ signed (p .total)) ++ (nameFields ms ++ (10 ∷ []))))
 
 -- no line for an empty set
 unfoldable pub lineOf : ℕ → ℕ → Panel → List Name → List ℕ
