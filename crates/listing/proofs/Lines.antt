@@ -12,6 +12,7 @@ use mir.Val.{SFits}
 use Rattle.lists.proofs.Every.{Every}
 use Rattle.model.specs.Runs.{decimal, signed, nameFields, line, lineOf, header, footer}
 use Rattle.model.specs.declared.Name.{Name}
+use Rattle.listing.specs.Writing.{showing}
 use Rattle.model.proofs.Decimals.{decimal-bound}
 use Rattle.model.proofs.Lengths.{SmallName, signed-bound, names-bound, length-line}
 use Rattle.listing.proofs.Signs.{magnitude-bound}
@@ -20,18 +21,18 @@ regroup : (a b k s l z : List ℕ) → ((((a ++ b) ++ k) ++ s) ++ l) ++ z ≡ a 
 regroup a b k s l z = simp append-assoc
 
 -- the parts, as they are stored one after the other
-pub line-parts : (e c : ℕ) (x : ℤ) (ms : List Name) → ((((decimal e ++ (32 ∷ decimal c)) ++ (32 ∷ [])) ++ signed x) ++ nameFields ms) ++ (10 ∷ []) ≡ line e c x ms
+pub line-parts : (e c : ℕ) (x : ℤ) (ms : List Name) → ((((decimal e ++ (32 ∷ decimal c)) ++ (32 ∷ [])) ++ signed x) ++ nameFields ms) ++ (10 ∷ []) ≡ line e c (showing x) ms
 unfolding line
 line-parts e c x ms = regroup (decimal e) (32 ∷ decimal c) (32 ∷ []) (signed x) (nameFields ms) (10 ∷ [])
 
-line-of : (e c : ℕ) (x : ℤ) (ms : List Name) → 0 < length ms → line e c x ms ≡ lineOf e c x ms
+line-of : (e c : ℕ) (x : ℤ) (ms : List Name) → 0 < length ms → line e c (showing x) ms ≡ lineOf e c (showing x) ms
 unfolding lineOf
 line-of e c x [] h = absurd (omega arith)
 line-of e c x (m ∷ ms) h = refl
 
 -- the line of as many of the names as there are
 pub line-of-clipped : (e c : ℕ) (x y : ℤ) (ms : List Name) (k size : ℕ) → y ≡ x → length ms ≡ 64 → k ≡ min size 64 → (k ≡ 0 → ⊥)
-    → line e c y (take k ms) ≡ lineOf e c x (take size ms)
+    → line e c (showing y) (take k ms) ≡ lineOf e c (showing x) (take size ms)
 line-of-clipped e c x y ms k size q l h d =
     let same : take k ms ≡ take size ms = go (decLt size 64) in
     rw (q, same) (line-of e c x (take size ms) (omega (arith, ap length same, length-take k ms)))
@@ -41,18 +42,18 @@ line-of-clipped e c x y ms k size q l h d =
     go (no p) = take-all k ms (omega arith) ∙ sym (take-all size ms (omega arith))
 
 -- an empty set has no line
-pub no-line : (e c : ℕ) (x : ℤ) (ms : List Name) (k size : ℕ) → k ≡ min size 64 → k ≡ 0 → [] ≡ lineOf e c x (take size ms)
+pub no-line : (e c : ℕ) (x : ℤ) (ms : List Name) (k size : ℕ) → k ≡ min size 64 → k ≡ 0 → [] ≡ lineOf e c (showing x) (take size ms)
 unfolding lineOf
 no-line e c x ms k zero h z = refl
 no-line e c x ms k (suc size) h z = absurd (omega arith)
 
 -- the longest line
 pub line-room : (e c : ℕ) (x : ℤ) (ms : List Name) → e < 2 ^ 64 → c < 256 → SFits w32 x → length ms ≤ 64 → Every SmallName ms
-    → length (line e c x ms) ≤ 549
+    → length (line e c (showing x) ms) ≤ 549
 line-room e c x ms he hc hx hl hs =
     omega (
       arith,
-      length-line e c x ms,
+      length-line e c (showing x) ms,
       decimal-bound 19 e (omega arith),
       decimal-bound 2 c (omega arith),
       signed-bound 9 x (omega (arith, magnitude-bound x hx)),

@@ -1,21 +1,20 @@
 // The lines of a listing, each written into the tail of the listing behind the line before.
 use model::Name;
+use model::Panel;
+use model::refusal;
 ghost use mathlib.Core.Path.{_≡_};
 ghost use mathlib.Core.List.{[], _∷_};
 ghost use Prim.Native.Nat.{_+_, _≤_, _<_, min};
 ghost use lib.ListN.{length, take};
 ghost use lib.IntN.{natAbs};
 ghost use Rattle.model.specs.Runs.{decimal, signed, nameFields, line, lineOf, header, footer};
-ghost use Rattle.listing.specs.Writing.{Wrote, Stored};
+ghost use Rattle.listing.specs.Writing.{showing, Wrote, Stored};
 
 // What a writer answers: the refusal number, 0 if the line fits, and the bytes written.
 pub struct Put {
     pub number: u8,
     pub written: usize,
 }
-
-// The number of the question whether a line fits.
-const FULL: u8 = 16;
 
 const SPACE: u8 = 32;
 
@@ -113,8 +112,8 @@ fn store_line(
     names: [Name; 64],
     count: usize,
 ) -> usize
-    requires { ⌜ (count ≤ 64) × (length (line event controller total (take count names)) ≤ length (now buffer)) ⌝ }
-    ensures { λ r. ⌜ Stored (line event controller total (take count names)) (now (buffer .entry)) 0 (now (buffer .exit)) r ⌝ }
+    requires { ⌜ (count ≤ 64) × (length (line event controller (showing total) (take count names)) ≤ length (now buffer)) ⌝ }
+    ensures { λ r. ⌜ Stored (line event controller (showing total) (take count names)) (now (buffer .entry)) 0 (now (buffer .exit)) r ⌝ }
 {
     let after_event = put_number(buffer, 0, event);
     let after_controller = put_field(buffer, after_event, SPACE, controller as usize);
@@ -142,7 +141,7 @@ fn put_whole(tail: &mut [u8], text: &[u8]) -> Put
 {
     if tail.len() < text.len() {
         return Put {
-            number: FULL,
+            number: refusal::LISTING_LENGTH,
             written: 0,
         };
     }
@@ -162,19 +161,20 @@ pub fn put_line(
     tail: &mut [u8],
     event: usize,
     controller: u8,
-    total: i32,
+    panel: Panel,
     names: [Name; 64],
     size: usize,
 ) -> Put
-    ensures { λ r. ⌜ Wrote (lineOf event controller total (take size names)) (now (tail .entry)) (now (tail .exit)) r ⌝ }
+    ensures { λ r. ⌜ Wrote (lineOf event controller panel (take size names)) (now (tail .entry)) (now (tail .exit)) r ⌝ }
 {
     let count = clipped(size);
     if count == 0 {
         return Put {
-            number: 0,
+            number: refusal::ACCEPTED,
             written: 0,
         };
     }
+    let total = panel.total;
     let mut buffer = [0u8; LINE];
     let end = store_line(&mut buffer, event, controller, total, names, count);
     put_whole(tail, &buffer[..end])

@@ -5,11 +5,12 @@ use native.Mathlib.Omega.{arith}
 use lib.ListN.{length, take, length-take}
 use lib.IntN.{ℤ}
 use mir.Syntax.{w32}
-use mir.Val.{toZ, ofZ}
+use mir.Val.{SFits, toZ, ofZ}
 use Rattle.lists.proofs.Every.{every-take}
 use Rattle.model.specs.Runs.{line, lineOf}
 use Rattle.model.specs.declared.Name.{Name}
 use Rattle.model.proofs.Lengths.{SmallName}
+use Rattle.listing.specs.Writing.{showing}
 use Rattle.listing.proofs.Signs.{read-back}
 use Rattle.listing.proofs.Names.{sixty-four, small-names}
 use Rattle.listing.proofs.Lines.{line-room, line-of-clipped, no-line}
@@ -25,7 +26,7 @@ abbrev stored : tie.After-put-whole → tie.After-store-line
 stored c = c .before .before .before .before
 
 abbrev clipped : tie.After-buffer → tie.After-clipped
-clipped c = c .before .before
+clipped c = c .before .before .before
 
 abbrev start : tie.After-clipped → tie.Start
 start c = c .before .before
@@ -35,29 +36,32 @@ names : (c : tie.After-clipped) → List Name
 names c = take (c .clipped .result) (start c .args .names)
 
 total : (s : tie.Start) → ℤ
-total s = toZ w32 (ofZ w32 (s .args .total))
+total s = toZ w32 (ofZ w32 (s .args .panel .total))
+
+told : (c : tie.After-buffer) → SFits w32 (start (clipped c) .args .panel .total)
+told c = record { sfits = c .before .struct-told .given .0 .1 }
 
 -- the line that is stored fits the buffer
-room : (c : tie.After-buffer) → let s = start (clipped c) in length (line (s .args .event) (s .args .controller) (total s) (names (clipped c))) ≤ 549
+room : (c : tie.After-buffer) → let s = start (clipped c) in length (line (s .args .event) (s .args .controller) (showing (total s)) (names (clipped c))) ≤ 549
 unfolding names total
 room c =
     let s = start (clipped c) in
-    rw (read-back (s .args .total) (s .fits .total))
-    (line-room (s .args .event) (s .args .controller) (s .args .total) (names (clipped c)) (s .fits .event .fits) (s .fits .controller .fits) (s .fits .total)
+    rw (read-back (s .args .panel .total) (told c))
+    (line-room (s .args .event) (s .args .controller) (s .args .panel .total) (names (clipped c)) (s .fits .event .fits) (s .fits .controller .fits) (told c)
     (omega (arith, length-take (clipped c .clipped .result) (s .args .names)))
     (every-take SmallName (clipped c .clipped .result) (s .args .names) (small-names (s .args .names) _ (s .good .1 .1 .1 .1 .0))))
 
 -- and is the line of the set
 whole : (c : tie.After-store-line)
     → let s = start (clipped (c .before)) in
-    Front (lineOf (s .args .event) (s .args .controller) (s .args .total) (take (s .args .size) (s .args .names))) (c .store-line .last .0) (c .store-line .result)
+    Front (lineOf (s .args .event) (s .args .controller) (s .args .panel) (take (s .args .size) (s .args .names))) (c .store-line .last .0) (c .store-line .result)
 unfolding names total
 whole c =
     let k = clipped (c .before) in
     let s = start k in
     let same =
-    line-of-clipped (s .args .event) (s .args .controller) (s .args .total) (total s) (s .args .names) (k .clipped .result) (s .args .size)
-    (read-back (s .args .total) (s .fits .total)) (sixty-four (s .args .names) _ (s .good .1 .1 .1 .1 .0)) (k .clipped .ensures) (c .before .before .if1 .left) in
+    line-of-clipped (s .args .event) (s .args .controller) (s .args .panel .total) (total s) (s .args .names) (k .clipped .result) (s .args .size)
+    (read-back (s .args .panel .total) (told (c .before))) (sixty-four (s .args .names) _ (s .good .1 .1 .1 .1 .0)) (k .clipped .ensures) (c .before .before .before .if1 .left) in
     rw (← same) (stored-front (room (c .before)) (c .store-line .ensures))
 
 clipped-requires : tie.Need-clipped-requires
@@ -67,7 +71,7 @@ returns : tie.Need-returns
 returns c =
     let k = c .before in
     let s = start k in
-    rw (← no-line (s .args .event) (s .args .controller) (s .args .total) (s .args .names) _ (s .args .size) (k .clipped .ensures) (c .if1 .taken))
+    rw (← no-line (s .args .event) (s .args .controller) (s .args .panel .total) (s .args .names) _ (s .args .size) (k .clipped .ensures) (c .if1 .taken))
     (fitting-written (omega arith) (stored-none _ 0))
 
 slice-aggregate-store-line : tie.Need-slice-aggregate-store-line
