@@ -1,200 +1,92 @@
-//! Safe calls of the event engine. What each call answers and leaves is proved in `crates/engine`; this file is the
-//! boundary, which nothing proves: the structs' layouts are asserted below, and the calls only pass arguments on.
+//! Safe calls of the event engine for machines whose controllers keep one count without a master.
+//!
+//! The owner of a [`Table`] lends it to each call. No call trusts its caller: any table, any bytes and any lengths are
+//! answered, and what cannot be carried out is refused with the first question that is answered no, a [`Refusal`].
+//! A refused call changes nothing that was lent to it.
+//!
+//! ```
+//! use furnacejade::{event, fresh, look, Record, Refusal, SCRATCH};
+//!
+//! # fn main() -> Result<(), Refusal> {
+//! let mut table = fresh(2)?;
+//! let mut scratch = [0; SCRATCH];
+//! let mut play = |record: Record| event(&mut table, &record.bytes(), &mut scratch).map(|(answer, _)| answer);
+//!
+//! // Controller 1 reports 5 eggs. Both controllers read its log, and then 1 reads what 2 has forwarded: now more than
+//! // half of them back the report, and panel 1 applies it.
+//! play(Record::Report { sender: 1, amount: 5 })?;
+//! play(Record::Handover { receiver: 1, owner: 1 })?;
+//! play(Record::Handover { receiver: 2, owner: 1 })?;
+//! let answer = play(Record::Handover { receiver: 1, owner: 2 })?;
+//! assert_eq!(answer.applied().len(), 1);
+//! assert_eq!(look(&table, 1)?.total, 5);
+//! assert_eq!(look(&table, 2)?.total, 0);
+//!
+//! // There is no panel 3, and that is no total of 0.
+//! let refusal = look(&table, 3).unwrap_err();
+//! assert_eq!(refusal, Refusal::CONTROLLER);
+//! assert_eq!(refusal.to_string(), "Is every controller named from 1 to n?");
+//! # Ok(())
+//! # }
+//! ```
+//!
+//! A whole file goes through [`run`]:
+//!
+//! ```
+//! use furnacejade::{file_of, run, Record, Refusal, SCRATCH};
+//!
+//! let records = [Record::Report { sender: 1, amount: -7 }, Record::Handover { receiver: 1, owner: 1 }];
+//! let (mut listing, mut scratch) = ([0; 64], [0; SCRATCH]);
+//! let answer = run(&file_of(1, &records), &mut listing, &mut scratch);
+//! assert_eq!((answer.number, answer.events), (Refusal::ACCEPTED, 2));
+//! assert_eq!(&listing[..answer.written], b"2 1 -7 1.1\n");
+//! ```
 
-use std::mem::{offset_of, size_of, MaybeUninit};
+pub mod calls;
+mod layout;
+mod record;
+mod refusal;
 
-/// The most controllers of a run, the most messages, and the scratch bytes that an event asks for.
-pub const CONTROLLERS: usize = 7;
-pub const MESSAGES: usize = 64;
-pub const SCRATCH: usize = 4096;
-
-/// A place in a log, 1 to 64; 255 is absent.
-#[repr(C)]
-#[derive(Clone, Copy, Debug, PartialEq, Eq)]
-pub struct ForwardNumber(pub u8);
-
-/// The number that a sender gives its message, 1 to 64; 0 is none.
-#[repr(C)]
-#[derive(Clone, Copy, Debug, PartialEq, Eq)]
-pub struct MessageNumber(pub u8);
-
-/// What a message says: kind 1 is a report and 2 a sync; the amount is two magnitudes.
-#[repr(C)]
-#[derive(Clone, Copy, Debug, PartialEq, Eq)]
-pub struct Payload {
-    pub kind: u8,
-    pub added: u16,
-    pub withdrawn: u16,
-}
-
-#[repr(C)]
-#[derive(Clone, Copy, Debug, PartialEq, Eq)]
-pub struct Message {
-    pub sender: u8,
-    pub number: MessageNumber,
-    pub payload: Payload,
-}
-
-/// A message's name, `sender.number`.
-#[repr(C)]
-#[derive(Clone, Copy, Debug, PartialEq, Eq)]
-pub struct Name {
-    pub sender: u8,
-    pub number: MessageNumber,
-}
-
-/// Flags are 0 for no and anything else for yes.
-#[repr(C)]
-#[derive(Clone, Copy, Debug, PartialEq, Eq)]
-pub struct Pending {
-    pub held: u8,
-    pub marks: [ForwardNumber; CONTROLLERS],
-}
-
-#[repr(C)]
-#[derive(Clone, Copy, Debug, PartialEq, Eq)]
-pub struct Controller {
-    pub running: u8,
-    pub length: usize,
-    pub log: [u8; MESSAGES],
-    pub read: [usize; CONTROLLERS],
-    pub pending: [Pending; MESSAGES],
-    pub applied: [u8; MESSAGES],
-    pub highest: [MessageNumber; CONTROLLERS],
-}
-
-/// The table of a run. Any values may be lent: a call refuses a table that is not well formed with 4.
-#[repr(C)]
-#[derive(Clone, Copy, Debug, PartialEq, Eq)]
-pub struct Table {
-    pub n: usize,
-    pub count: usize,
-    pub messages: [Message; MESSAGES],
-    pub controllers: [Controller; CONTROLLERS],
-}
-
-#[repr(C)]
-#[derive(Clone, Copy, Debug, PartialEq, Eq)]
-pub struct Answer {
-    pub number: u8,
-    pub finished: u8,
-    pub total: i32,
-    pub size: usize,
-    pub names: [Name; MESSAGES],
-}
-
-impl Answer {
-    /// The set applied, by sender and then number.
-    pub fn applied(&self) -> &[Name] {
-        &self.names[..self.size]
-    }
-}
-
-#[repr(C)]
-#[derive(Clone, Copy, Debug, PartialEq, Eq)]
-pub struct FreshAnswer {
-    pub number: u8,
-    pub table: Table,
-}
-
-#[repr(C)]
-#[derive(Clone, Copy, Debug, PartialEq, Eq)]
-pub struct LookAnswer {
-    pub number: u8,
-    pub total: i32,
-}
-
-#[repr(C)]
-#[derive(Clone, Copy, Debug, PartialEq, Eq)]
-pub struct RunAnswer {
-    pub number: u8,
-    pub events: usize,
-    pub written: usize,
-    pub table: Table,
-}
-
-// The layouts that the library was compiled with.
-const _: () = {
-    assert!(size_of::<Payload>() == 6 && offset_of!(Payload, added) == 2 && offset_of!(Payload, withdrawn) == 4);
-    assert!(size_of::<Message>() == 8 && offset_of!(Message, number) == 1 && offset_of!(Message, payload) == 2);
-    assert!(size_of::<Name>() == 2 && offset_of!(Name, number) == 1);
-    assert!(size_of::<Pending>() == 8 && offset_of!(Pending, marks) == 1);
-    assert!(size_of::<Controller>() == 720 && offset_of!(Controller, length) == 8 && offset_of!(Controller, log) == 16);
-    assert!(offset_of!(Controller, read) == 80 && offset_of!(Controller, pending) == 136);
-    assert!(offset_of!(Controller, applied) == 648 && offset_of!(Controller, highest) == 712);
-    assert!(size_of::<Table>() == 5568 && offset_of!(Table, count) == 8);
-    assert!(offset_of!(Table, messages) == 16 && offset_of!(Table, controllers) == 528);
-    assert!(size_of::<Answer>() == 144 && offset_of!(Answer, finished) == 1 && offset_of!(Answer, total) == 4);
-    assert!(offset_of!(Answer, size) == 8 && offset_of!(Answer, names) == 16);
-    assert!(size_of::<FreshAnswer>() == 5576 && offset_of!(FreshAnswer, table) == 8);
-    assert!(size_of::<LookAnswer>() == 8 && offset_of!(LookAnswer, total) == 4);
-    assert!(size_of::<RunAnswer>() == 5592 && offset_of!(RunAnswer, events) == 8);
-    assert!(offset_of!(RunAnswer, written) == 16 && offset_of!(RunAnswer, table) == 24);
+pub use layout::{
+    Answer, Controller, ForwardNumber, FreshAnswer, LookAnswer, Message, MessageNumber, Name, Panel, Payload, Pending,
+    RunAnswer, Table, CONTROLLERS, MESSAGES, SCRATCH,
 };
+pub use record::{file_of, Record};
+pub use refusal::Refusal;
 
-extern "C" {
-    fn furnacejade_event(
-        t: *mut Table,
-        bytes: *const u8,
-        bytes_len: usize,
-        scratch: *mut u8,
-        scratch_len: usize,
-        answer: *mut Answer,
-    ) -> usize;
-    fn furnacejade_look(t: *const Table, c: usize, answer: *mut LookAnswer);
-    fn furnacejade_fresh(n: usize, answer: *mut FreshAnswer);
-    fn furnacejade_run(
-        bytes: *const u8,
-        bytes_len: usize,
-        listing: *mut u8,
-        listing_len: usize,
-        scratch: *mut u8,
-        scratch_len: usize,
-        answer: *mut RunAnswer,
-    );
+/// A fresh table of n controllers, 1 to 7.
+pub fn fresh(n: usize) -> Result<Table, Refusal> {
+    let mut answer = FreshAnswer::BLANK;
+    calls::fresh(n, &mut answer);
+    answer.number.check()?;
+    Ok(answer.table)
 }
 
-/// A place for an answer. Zeros are a value of every answer's type, and the call overwrites it wholly.
-fn place<T>() -> T {
-    unsafe { MaybeUninit::zeroed().assume_init() }
+/// Carries out the record with which the bytes begin: the set applied and a finished sync's answer, and the part of the
+/// bytes that is unread. It needs [`SCRATCH`] bytes of scratch, and leaves them zero. A refused event leaves table and
+/// scratch as they were.
+pub fn event<'a>(table: &mut Table, bytes: &'a [u8], scratch: &mut [u8]) -> Result<(Answer, &'a [u8]), Refusal> {
+    let mut answer = Answer::BLANK;
+    let left = calls::event(table, bytes, scratch, &mut answer);
+    answer.number.check()?;
+    Ok((answer, &bytes[bytes.len() - left..]))
 }
 
-/// One event, of the record with which the bytes begin: the answer, and the part of the bytes that is unread.
-pub fn event<'a>(table: &mut Table, bytes: &'a [u8], scratch: &mut [u8]) -> (Answer, &'a [u8]) {
-    let mut answer = place();
-    let left = unsafe {
-        furnacejade_event(table, bytes.as_ptr(), bytes.len(), scratch.as_mut_ptr(), scratch.len(), &mut answer)
-    };
-    (answer, &bytes[bytes.len() - left..])
+/// What the panel of a controller shows, 1 to n, running or stopped.
+pub fn look(table: &Table, controller: usize) -> Result<Panel, Refusal> {
+    let mut answer = LookAnswer::BLANK;
+    calls::look(table, controller, &mut answer);
+    answer.number.check()?;
+    Ok(answer.panel)
 }
 
-/// The panel look at a controller, from 1.
-pub fn look(table: &Table, controller: usize) -> LookAnswer {
-    let mut answer = place();
-    unsafe { furnacejade_look(table, controller, &mut answer) };
-    answer
-}
-
-/// A fresh table of n controllers.
-pub fn fresh(n: usize) -> FreshAnswer {
-    let mut answer = place();
-    unsafe { furnacejade_fresh(n, &mut answer) };
-    answer
-}
-
-/// The run of a whole file.
+/// Carries out a whole file, up to its end or the first record that is refused, and writes a line into the listing for
+/// each set applied. The answer has the number that ended the run, the events accepted before it, the bytes written and
+/// the last table; after [`Refusal::FILE_LENGTH`], [`Refusal::VERSION`] and [`Refusal::COUNT`] all but the number is
+/// blank.
+#[must_use]
 pub fn run(bytes: &[u8], listing: &mut [u8], scratch: &mut [u8]) -> RunAnswer {
-    let mut answer = place();
-    unsafe {
-        furnacejade_run(
-            bytes.as_ptr(),
-            bytes.len(),
-            listing.as_mut_ptr(),
-            listing.len(),
-            scratch.as_mut_ptr(),
-            scratch.len(),
-            &mut answer,
-        )
-    };
+    let mut answer = RunAnswer::BLANK;
+    calls::run(bytes, listing, scratch, &mut answer);
     answer
 }

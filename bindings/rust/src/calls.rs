@@ -1,0 +1,50 @@
+//! The library's calls as they are: each writes its whole answer, refused or not, to a place that the caller lends.
+//! What a call answers and leaves is proved in `crates/engine`. This file is the boundary, which nothing proves; it
+//! only passes arguments on, and what the library asks of pointers holds of every reference.
+
+use crate::{Answer, FreshAnswer, LookAnswer, RunAnswer, Table};
+
+extern "C" {
+    fn furnacejade_event(
+        t: *mut Table,
+        bytes: *const u8,
+        bytes_length: usize,
+        scratch: *mut u8,
+        scratch_length: usize,
+        answer: *mut Answer,
+    ) -> usize;
+    fn furnacejade_look(t: *const Table, c: usize, answer: *mut LookAnswer);
+    fn furnacejade_fresh(n: usize, answer: *mut FreshAnswer);
+    fn furnacejade_run(
+        bytes: *const u8,
+        bytes_length: usize,
+        listing: *mut u8,
+        listing_length: usize,
+        scratch: *mut u8,
+        scratch_length: usize,
+        answer: *mut RunAnswer,
+    );
+}
+
+/// One event, of the record with which the bytes begin. Answers how many bytes are unread: the last so many.
+pub fn event(table: &mut Table, bytes: &[u8], scratch: &mut [u8], answer: &mut Answer) -> usize {
+    let (area, length) = (scratch.as_mut_ptr(), scratch.len());
+    unsafe { furnacejade_event(table, bytes.as_ptr(), bytes.len(), area, length, answer) }
+}
+
+/// A panel look at a controller, 1 to n.
+pub fn look(table: &Table, controller: usize, answer: &mut LookAnswer) {
+    unsafe { furnacejade_look(table, controller, answer) }
+}
+
+/// A fresh table of n controllers, 1 to 7.
+pub fn fresh(n: usize, answer: &mut FreshAnswer) {
+    unsafe { furnacejade_fresh(n, answer) }
+}
+
+/// The run of a whole file. Its lines are written into the listing from the start on.
+pub fn run(bytes: &[u8], listing: &mut [u8], scratch: &mut [u8], answer: &mut RunAnswer) {
+    let (lines, room) = (listing.as_mut_ptr(), listing.len());
+    let (area, length) = (scratch.as_mut_ptr(), scratch.len());
+    unsafe { furnacejade_run(bytes.as_ptr(), bytes.len(), lines, room, area, length, answer) }
+}

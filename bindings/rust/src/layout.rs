@@ -1,0 +1,287 @@
+//! The structs that the library shares with its callers, as they lie in memory. Their layouts are asserted below.
+
+use crate::Refusal;
+use std::fmt::{Display, Formatter};
+use std::mem::{offset_of, size_of};
+
+/// A run has at most so many controllers.
+pub const CONTROLLERS: usize = 7;
+
+/// A run has at most so many messages.
+pub const MESSAGES: usize = 64;
+
+/// An event asks for so many bytes of scratch.
+pub const SCRATCH: usize = 4096;
+
+/// A place in a log, 1 to 64.
+#[repr(C)]
+#[derive(Clone, Copy, Debug, PartialEq, Eq, PartialOrd, Ord, Hash)]
+pub struct ForwardNumber(pub u8);
+
+/// The number that a sender gives its message, 1 to 64.
+#[repr(C)]
+#[derive(Clone, Copy, Debug, PartialEq, Eq, PartialOrd, Ord, Hash)]
+pub struct MessageNumber(pub u8);
+
+/// What a message says.
+#[repr(C)]
+#[derive(Clone, Copy, Debug, PartialEq, Eq, Hash)]
+pub struct Payload {
+    /// [`Payload::REPORT`] or [`Payload::SYNC`].
+    pub kind: u8,
+    /// The amount if it is positive, else 0.
+    pub added: u16,
+    /// The magnitude of the amount if it is negative, else 0.
+    pub withdrawn: u16,
+}
+
+/// A message; its index in the table is its slot.
+#[repr(C)]
+#[derive(Clone, Copy, Debug, PartialEq, Eq, Hash)]
+pub struct Message {
+    /// The controller that sent it, 1 to n.
+    pub sender: u8,
+    /// The length of the sender's log when it was sent, plus one.
+    pub number: MessageNumber,
+    /// What it says.
+    pub payload: Payload,
+}
+
+/// A message's name outside the table, `sender.number`.
+#[repr(C)]
+#[derive(Clone, Copy, Debug, PartialEq, Eq, PartialOrd, Ord, Hash)]
+pub struct Name {
+    /// The controller that sent it.
+    pub sender: u8,
+    /// Its message number.
+    pub number: MessageNumber,
+}
+
+/// What a controller knows of a message that it has not applied.
+#[repr(C)]
+#[derive(Clone, Copy, Debug, PartialEq, Eq, Hash)]
+pub struct Pending {
+    /// Whether it is pending: 0 is no, anything else yes.
+    pub held: u8,
+    /// Each controller's forward number for it, or [`ForwardNumber::ABSENT`].
+    pub marks: [ForwardNumber; CONTROLLERS],
+}
+
+/// One controller.
+#[repr(C)]
+#[derive(Clone, Debug, PartialEq, Eq, Hash)]
+pub struct Controller {
+    /// Whether it runs: 0 is no, anything else yes.
+    pub running: u8,
+    /// How many entries its log has.
+    pub length: usize,
+    /// The slots that it forwarded, in order.
+    pub log: [u8; MESSAGES],
+    /// How many entries of each controller's log it has read.
+    pub read: [usize; CONTROLLERS],
+    /// What is pending, by slot.
+    pub pending: [Pending; MESSAGES],
+    /// What it has applied, by slot: 0 is no, anything else yes.
+    pub applied: [u8; MESSAGES],
+    /// The highest number applied of each sender, or [`MessageNumber::NONE`].
+    pub highest: [MessageNumber; CONTROLLERS],
+}
+
+/// The table of a run, which its owner keeps and lends to each call. Any values may be lent: a table that is not well
+/// formed is refused with [`Refusal::TABLE`].
+#[repr(C)]
+#[derive(Clone, Debug, PartialEq, Eq, Hash)]
+pub struct Table {
+    /// How many controllers the run has.
+    pub n: usize,
+    /// How many messages were sent.
+    pub count: usize,
+    /// The messages, in the order sent.
+    pub messages: [Message; MESSAGES],
+    /// The controllers, controller c at c - 1.
+    pub controllers: [Controller; CONTROLLERS],
+}
+
+/// What a panel shows.
+#[repr(C)]
+#[derive(Clone, Debug, PartialEq, Eq, Hash)]
+pub struct Panel {
+    /// The sum of the amounts applied.
+    pub total: i32,
+}
+
+/// What an event answers.
+#[repr(C)]
+#[derive(Clone, Debug, PartialEq, Eq, Hash)]
+pub struct Answer {
+    /// [`Refusal::ACCEPTED`], or why the event was refused.
+    pub number: Refusal,
+    /// Whether a sync of the receiver's own is in the set applied: 1 if so, else 0.
+    pub finished: u8,
+    /// Then that sync's answer, the panel after the set; else blank.
+    pub panel: Panel,
+    /// How many messages the set has.
+    pub size: usize,
+    /// Their names, by sender and then number; blank behind them.
+    pub names: [Name; MESSAGES],
+}
+
+/// What a request for a fresh table answers.
+#[repr(C)]
+#[derive(Clone, Debug, PartialEq, Eq, Hash)]
+pub struct FreshAnswer {
+    /// [`Refusal::ACCEPTED`], or why the request was refused.
+    pub number: Refusal,
+    /// The fresh table; blank if refused.
+    pub table: Table,
+}
+
+/// What a panel look answers.
+#[repr(C)]
+#[derive(Clone, Debug, PartialEq, Eq, Hash)]
+pub struct LookAnswer {
+    /// [`Refusal::ACCEPTED`], or why the look was refused.
+    pub number: Refusal,
+    /// What the panel shows; blank if refused.
+    pub panel: Panel,
+}
+
+/// What the run of a file answers.
+#[repr(C)]
+#[derive(Clone, Debug, PartialEq, Eq, Hash)]
+pub struct RunAnswer {
+    /// [`Refusal::ACCEPTED`] if the whole file was carried out, else what refused the file or ended the run.
+    pub number: Refusal,
+    /// How many events were accepted.
+    pub events: usize,
+    /// How many bytes of the listing were written.
+    pub written: usize,
+    /// The last table; blank if the file itself was refused.
+    pub table: Table,
+}
+
+impl ForwardNumber {
+    /// No forward number.
+    pub const ABSENT: ForwardNumber = ForwardNumber(255);
+}
+
+impl MessageNumber {
+    /// No message.
+    pub const NONE: MessageNumber = MessageNumber(0);
+}
+
+impl Payload {
+    /// The kind of a report, which has an amount.
+    pub const REPORT: u8 = 1;
+
+    /// The kind of a sync, which has none.
+    pub const SYNC: u8 = 2;
+}
+
+impl Message {
+    /// Every field zero.
+    pub const BLANK: Message =
+        Message { sender: 0, number: MessageNumber::NONE, payload: Payload { kind: 0, added: 0, withdrawn: 0 } };
+}
+
+impl Name {
+    /// Every field zero.
+    pub const BLANK: Name = Name { sender: 0, number: MessageNumber::NONE };
+}
+
+impl Display for Name {
+    fn fmt(&self, f: &mut Formatter<'_>) -> std::fmt::Result {
+        write!(f, "{}.{}", self.sender, self.number.0)
+    }
+}
+
+impl Pending {
+    /// Every field zero.
+    pub const BLANK: Pending = Pending { held: 0, marks: [ForwardNumber(0); CONTROLLERS] };
+}
+
+impl Controller {
+    /// Every field zero.
+    pub const BLANK: Controller = Controller {
+        running: 0,
+        length: 0,
+        log: [0; MESSAGES],
+        read: [0; CONTROLLERS],
+        pending: [Pending::BLANK; MESSAGES],
+        applied: [0; MESSAGES],
+        highest: [MessageNumber::NONE; CONTROLLERS],
+    };
+}
+
+impl Table {
+    /// Every field zero: the table of a refused answer, which is not well formed.
+    pub const BLANK: Table =
+        Table { n: 0, count: 0, messages: [Message::BLANK; MESSAGES], controllers: [Controller::BLANK; CONTROLLERS] };
+}
+
+impl Panel {
+    /// Every field zero.
+    pub const BLANK: Panel = Panel { total: 0 };
+}
+
+impl Answer {
+    /// Every field zero: a place for an answer.
+    pub const BLANK: Answer =
+        Answer { number: Refusal::ACCEPTED, finished: 0, panel: Panel::BLANK, size: 0, names: [Name::BLANK; MESSAGES] };
+
+    /// The set applied, by sender and then number.
+    pub fn applied(&self) -> &[Name] {
+        &self.names[..self.size]
+    }
+
+    /// The answer of a sync that the event finished at its sender.
+    pub fn sync_answer(&self) -> Option<&Panel> {
+        (self.finished != 0).then_some(&self.panel)
+    }
+}
+
+impl FreshAnswer {
+    /// Every field zero: a place for an answer.
+    pub const BLANK: FreshAnswer = FreshAnswer { number: Refusal::ACCEPTED, table: Table::BLANK };
+}
+
+impl LookAnswer {
+    /// Every field zero: a place for an answer.
+    pub const BLANK: LookAnswer = LookAnswer { number: Refusal::ACCEPTED, panel: Panel::BLANK };
+}
+
+impl RunAnswer {
+    /// Every field zero: a place for an answer.
+    pub const BLANK: RunAnswer = RunAnswer { number: Refusal::ACCEPTED, events: 0, written: 0, table: Table::BLANK };
+}
+
+const fn size_of_field<T, F>(_: fn(&T) -> &F) -> usize {
+    size_of::<F>()
+}
+
+/// Asserts a struct's size, where its fields stand, and how many bytes of it are no field's.
+macro_rules! layout {
+    ($type:ident, $size:literal bytes, $padding:literal of padding: $($field:tt at $place:literal),+) => {
+        const _: () = {
+            assert!(size_of::<$type>() == $size);
+            $(assert!(offset_of!($type, $field) == $place);)+
+            assert!($size == $padding $(+ size_of_field(|x: &$type| &x.$field))+);
+        };
+    };
+}
+
+// The layouts that the library was compiled with.
+layout!(ForwardNumber, 1 bytes, 0 of padding: 0 at 0);
+layout!(MessageNumber, 1 bytes, 0 of padding: 0 at 0);
+layout!(Payload, 6 bytes, 1 of padding: kind at 0, added at 2, withdrawn at 4);
+layout!(Message, 8 bytes, 0 of padding: sender at 0, number at 1, payload at 2);
+layout!(Name, 2 bytes, 0 of padding: sender at 0, number at 1);
+layout!(Pending, 8 bytes, 0 of padding: held at 0, marks at 1);
+layout!(Controller, 720 bytes, 8 of padding: running at 0, length at 8, log at 16, read at 80, pending at 136,
+    applied at 648, highest at 712);
+layout!(Table, 5568 bytes, 0 of padding: n at 0, count at 8, messages at 16, controllers at 528);
+layout!(Panel, 4 bytes, 0 of padding: total at 0);
+layout!(Answer, 144 bytes, 2 of padding: number at 0, finished at 1, panel at 4, size at 8, names at 16);
+layout!(FreshAnswer, 5576 bytes, 7 of padding: number at 0, table at 8);
+layout!(LookAnswer, 8 bytes, 3 of padding: number at 0, panel at 4);
+layout!(RunAnswer, 5592 bytes, 7 of padding: number at 0, events at 8, written at 16, table at 24);

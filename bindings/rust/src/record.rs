@@ -1,0 +1,71 @@
+//! The records of a run file, as types that write their own bytes.
+
+/// The version of run files, their first byte.
+const VERSION: u8 = 1;
+
+/// One event. Its fields may hold anything: the engine answers a record that it cannot carry out with a refusal.
+#[derive(Clone, Copy, Debug, PartialEq, Eq, Hash)]
+pub enum Record {
+    /// A sender reports an amount of eggs, -360 to 360 and not 0.
+    Report {
+        /// The controller that sends it.
+        sender: u8,
+        /// What it adds, or withdraws if negative.
+        amount: i16,
+    },
+    /// A sender asks for the total after everything that is under way before this message.
+    Sync {
+        /// The controller that sends it.
+        sender: u8,
+    },
+    /// A receiver reads the next entry of a log, its own or another's, and applies the largest set that it may.
+    Handover {
+        /// The controller that reads.
+        receiver: u8,
+        /// The controller whose log is read.
+        owner: u8,
+    },
+    /// A controller stops, and its log is cut.
+    Stop {
+        /// The controller that stops.
+        controller: u8,
+        /// How many entries of its log are kept.
+        kept: u16,
+    },
+}
+
+impl Record {
+    /// The bytes of the record: how many bytes follow, the kind, the fields.
+    ///
+    /// ```
+    /// use furnacejade::Record;
+    /// assert_eq!(Record::Report { sender: 3, amount: -2 }.bytes(), [4, 1, 3, 0xFF, 0xFE]);
+    /// assert_eq!(Record::Handover { receiver: 2, owner: 1 }.bytes(), [3, 3, 2, 1]);
+    /// ```
+    pub fn bytes(&self) -> Vec<u8> {
+        match *self {
+            Record::Report { sender, amount } => {
+                let [high, low] = amount.to_be_bytes();
+                vec![4, 1, sender, high, low]
+            }
+            Record::Sync { sender } => vec![2, 2, sender],
+            Record::Handover { receiver, owner } => vec![3, 3, receiver, owner],
+            Record::Stop { controller, kept } => {
+                let [high, low] = kept.to_be_bytes();
+                vec![4, 4, controller, high, low]
+            }
+        }
+    }
+}
+
+/// A run file of n controllers with these records.
+///
+/// ```
+/// use furnacejade::{file_of, Record};
+/// assert_eq!(file_of(2, &[Record::Sync { sender: 1 }]), [1, 2, 2, 2, 1]);
+/// ```
+pub fn file_of(n: u8, records: &[Record]) -> Vec<u8> {
+    let mut file = vec![VERSION, n];
+    file.extend(records.iter().flat_map(Record::bytes));
+    file
+}
