@@ -1,9 +1,11 @@
 //! A case: a head that gives a table, and calls on it; and its text, for failures and for the folder `cases`.
 //!
-//! The text is one line for the head and one for each call. Bytes are hexadecimal, and `(00*512)` stands for
-//! 512 bytes 00. Lent memory is given by its length; what it holds at first is the same dirt in every case.
+//! The text is one line for the head and one for each call; below the head `table` stands a line for each field that is
+//! not as in a fresh table. Bytes are hexadecimal, and `(00*512)` stands for 512 bytes 00. Lent memory is given by its
+//! length; what it holds at first is the same dirt in every case.
 
-use crate::tables::{Controller, Message, Payload, Pending, Table};
+use crate::fields::{plain_table, set_field, table_text};
+use furnacejade::Table;
 
 #[derive(Clone)]
 pub enum Head {
@@ -64,7 +66,7 @@ impl Case {
             Head::File { bytes, listing, scratch } => {
                 format!("file {} listing {listing} scratch {scratch}\n", hexadecimal(bytes))
             }
-            Head::Table(t) => format!("table {}\n", hexadecimal(&table_bytes(t))),
+            Head::Table(t) => format!("table\n{}", table_text(t)),
         };
         for call in &self.calls {
             text += &match call {
@@ -79,82 +81,35 @@ impl Case {
     pub fn all_of(text: &str) -> Vec<Case> {
         let mut cases: Vec<Case> = vec![];
         for line in text.lines().filter(|line| !line.trim().is_empty() && !line.starts_with('#')) {
-            let words: Vec<&str> = line.split_whitespace().collect();
-            let number = |place: usize| words[place].parse::<usize>().expect("a number");
-            let head = match words[0] {
-                "fresh" => Head::Fresh(number(1)),
-                "file" => Head::File { bytes: from_hexadecimal(words[1]), listing: number(3), scratch: number(5) },
-                "table" => Head::Table(Box::new(table_from(&from_hexadecimal(words[1])))),
-                "event" => {
-                    let call = Call::Event { bytes: from_hexadecimal(words[1]), scratch: number(3) };
-                    cases.last_mut().expect("a head").calls.push(call);
-                    continue;
-                }
-                "look" => {
-                    cases.last_mut().expect("a head").calls.push(Call::Look(number(1)));
-                    continue;
-                }
-                other => panic!("no head or call: {other}"),
-            };
-            cases.push(Case { head, calls: vec![] });
+            match head_of(line) {
+                Some(head) => cases.push(Case { head, calls: vec![] }),
+                None => cases.last_mut().expect("a head").add(line),
+            }
         }
         cases
     }
-}
 
-/// The fields of a table in order, 8 bytes for each usize and 2 for each u16, high byte first.
-pub fn table_bytes(t: &Table) -> Vec<u8> {
-    let mut bytes = vec![];
-    let long = |bytes: &mut Vec<u8>, x: usize| bytes.extend((x as u64).to_be_bytes());
-    long(&mut bytes, t.n);
-    long(&mut bytes, t.count);
-    for m in &t.messages {
-        bytes.extend([m.sender, m.number, m.payload.kind]);
-        bytes.extend(m.payload.added.to_be_bytes());
-        bytes.extend(m.payload.withdrawn.to_be_bytes());
-    }
-    for c in &t.controllers {
-        bytes.push(c.running);
-        long(&mut bytes, c.length);
-        bytes.extend(c.log);
-        c.read.iter().for_each(|r| long(&mut bytes, *r));
-        for p in &c.pending {
-            bytes.push(p.held);
-            bytes.extend(p.marks);
+    /// Adds a call, or a field of the table, from its line.
+    fn add(&mut self, line: &str) {
+        let words: Vec<&str> = line.split_whitespace().collect();
+        let number = |place: usize| words[place].parse().expect("a number");
+        match (words[0], &mut self.head) {
+            ("event", _) => self.calls.push(Call::Event { bytes: from_hexadecimal(words[1]), scratch: number(3) }),
+            ("look", _) => self.calls.push(Call::Look(number(1))),
+            (_, Head::Table(t)) => set_field(t, line),
+            (other, _) => panic!("no head or call: {other}"),
         }
-        bytes.extend(c.applied);
-        bytes.extend(c.highest);
     }
-    bytes
 }
 
-/// The table of such bytes; missing ones are zero.
-pub fn table_from(bytes: &[u8]) -> Table {
-    let mut left = bytes.iter().copied();
-    let mut byte = || left.next().unwrap_or(0);
-    fn number(byte: &mut impl FnMut() -> u8, bytes: usize) -> usize {
-        (0..bytes).fold(0, |x, _| x << 8 | byte() as usize)
-    }
-    fn array<T: Copy, const N: usize>(mut item: impl FnMut() -> T) -> [T; N] {
-        std::array::from_fn(|_| item())
-    }
-    let byte = &mut byte;
-    Table {
-        n: number(byte, 8),
-        count: number(byte, 8),
-        messages: array(|| Message {
-            sender: byte(),
-            number: byte(),
-            payload: Payload { kind: byte(), added: number(byte, 2) as u16, withdrawn: number(byte, 2) as u16 },
-        }),
-        controllers: array(|| Controller {
-            running: byte(),
-            length: number(byte, 8),
-            log: array(&mut *byte),
-            read: array(|| number(byte, 8)),
-            pending: array(|| Pending { held: byte(), marks: array(&mut *byte) }),
-            applied: array(&mut *byte),
-            highest: array(&mut *byte),
-        }),
-    }
+/// The head that a line gives, if it is one.
+fn head_of(line: &str) -> Option<Head> {
+    let words: Vec<&str> = line.split_whitespace().collect();
+    let number = |place: usize| words[place].parse().expect("a number");
+    Some(match words[0] {
+        "fresh" => Head::Fresh(number(1)),
+        "file" => Head::File { bytes: from_hexadecimal(words[1]), listing: number(3), scratch: number(5) },
+        "table" => Head::Table(Box::new(plain_table())),
+        _ => return None,
+    })
 }

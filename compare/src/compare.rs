@@ -1,9 +1,10 @@
 //! Runs one case through two engines, and finds the first difference; checks demand 3 over one engine's answers.
 
 use crate::case::{Call, Case, Head};
-use crate::demand3::Ledger;
-use crate::library::Engine;
-use crate::tables::{meaning, well_formed, Answer, RunAnswer, Table};
+use crate::demand3::{self, Ledger};
+use crate::engine::Engine;
+use crate::tables::{meaning, well_formed};
+use furnacejade::{Answer, MessageNumber, Name, Panel, Refusal, RunAnswer, Table};
 
 const GUARD: usize = 64;
 
@@ -24,10 +25,43 @@ impl Lent {
 }
 
 fn dirty_answer() -> Answer {
-    let mut answer = Answer::ZERO;
-    (answer.number, answer.finished, answer.total, answer.size) = (0xA5, 0xA5, -1, 77);
-    answer.names.fill(crate::tables::Name { sender: 0xA5, number: 0xA5 });
-    answer
+    let name = Name { sender: 0xA5, number: MessageNumber(0xA5) };
+    let panel = Panel { total: -1 };
+    Answer { number: Refusal::from(0xA5), finished: 0xA5, panel, size: 77, names: [name; 64] }
+}
+
+/// An engine, and the table that it goes on with.
+struct Side<'a> {
+    engine: &'a dyn Engine,
+    table: Table,
+}
+
+/// What an event call leaves but for the table.
+struct EventLeft {
+    answer: Answer,
+    bytes: usize,
+    scratch: Vec<u8>,
+}
+
+/// What a file run leaves.
+struct RunLeft {
+    answer: RunAnswer,
+    listing: Vec<u8>,
+    scratch: Vec<u8>,
+}
+
+impl Side<'_> {
+    fn event(&mut self, bytes: &[u8], scratch: usize) -> EventLeft {
+        let (mut scratch, mut answer) = (Lent::new(scratch), dirty_answer());
+        let bytes = self.engine.event(&mut self.table, bytes, scratch.lent(), &mut answer);
+        EventLeft { answer, bytes, scratch: scratch.memory }
+    }
+}
+
+fn run(engine: &dyn Engine, bytes: &[u8], listing: usize, scratch: usize) -> RunLeft {
+    let (mut listing, mut scratch) = (Lent::new(listing), Lent::new(scratch));
+    let answer = engine.run(bytes, listing.lent(), scratch.lent());
+    RunLeft { answer, listing: listing.memory, scratch: scratch.memory }
 }
 
 /// What must be equal when a call was accepted. A table that is not well formed stands for itself.
@@ -36,11 +70,6 @@ fn same_table(a: &Table, b: &Table) -> bool {
         (true, true) => meaning(a) == meaning(b),
         _ => a == b,
     }
-}
-
-fn flag(mut answer: Answer) -> Answer {
-    answer.finished = (answer.finished != 0) as u8;
-    answer
 }
 
 /// A label and what was expected and found, if they differ.
@@ -63,122 +92,109 @@ fn differ_plain(what: &str, same: bool) -> Result<(), String> {
     }
 }
 
-/// One event through both engines, each with its own table.
-fn event(
-    a: &dyn Engine,
-    b: &dyn Engine,
-    ta: &mut Table,
-    tb: &mut Table,
-    bytes: &[u8],
-    scratch: usize,
-) -> Result<(), String> {
-    let (mut sa, mut sb) = (Lent::new(scratch), Lent::new(scratch));
-    let (mut aa, mut ab) = (dirty_answer(), dirty_answer());
-    let before = *tb;
-    let ra = a.event(ta, bytes, sa.lent(), &mut aa);
-    let rb = b.event(tb, bytes, sb.lent(), &mut ab);
-    differ("event: number", aa.number, ab.number)?;
-    let names = |x: &Answer| x.names[..x.size.min(64)].iter().map(|x| (x.sender, x.number)).collect::<Vec<_>>();
-    differ("event: set", names(&aa), names(&ab))?;
-    differ("event: finished", (aa.finished != 0, aa.total), (ab.finished != 0, ab.total))?;
-    differ_plain("event: answer", flag(aa) == flag(ab))?;
-    differ("event: bytes left", ra, rb)?;
-    differ_plain("event: scratch", sa.memory == sb.memory)?;
-    differ_plain("event: a table that is no longer well formed", ab.number != 0 || well_formed(tb))?;
-    match ab.number {
-        0 => differ_plain("event: table", same_table(ta, tb)),
-        _ => differ_plain("event: table of a refused event", before == *tb),
+/// The names of the set, however wrong its size is.
+fn set(answer: &Answer) -> Vec<demand3::Name> {
+    answer.names[..answer.size.min(64)].iter().map(|x| (x.sender as usize, x.number.0 as usize)).collect()
+}
+
+/// One event on both sides.
+fn event(a: &mut Side, b: &mut Side, bytes: &[u8], scratch: usize) -> Result<(), String> {
+    let before = b.table.clone();
+    let (right, found) = (a.event(bytes, scratch), b.event(bytes, scratch));
+    differ("event: number", right.answer.number, found.answer.number)?;
+    differ("event: set", set(&right.answer), set(&found.answer))?;
+    differ("event: finished", right.answer.sync_answer(), found.answer.sync_answer())?;
+    differ_plain("event: answer", right.answer == found.answer)?;
+    differ("event: bytes left", right.bytes, found.bytes)?;
+    differ_plain("event: scratch", right.scratch == found.scratch)?;
+    if found.answer.number != Refusal::ACCEPTED {
+        return differ_plain("event: table of a refused event", before == b.table);
     }
+    differ_plain("event: a table that is no longer well formed", well_formed(&b.table))?;
+    differ_plain("event: table", same_table(&a.table, &b.table))
 }
 
-fn look(a: &dyn Engine, b: &dyn Engine, ta: &Table, tb: &Table, c: usize) -> Result<(), String> {
-    let before = *tb;
-    differ("look", a.look(ta, c), b.look(tb, c))?;
-    differ_plain("look: table", before == *tb)
+fn look(a: &Side, b: &Side, c: usize) -> Result<(), String> {
+    let before = b.table.clone();
+    differ("look", a.engine.look(&a.table, c), b.engine.look(&b.table, c))?;
+    differ_plain("look: table", before == b.table)
 }
 
-/// A file run through both engines; the answers.
-fn file(
-    a: &dyn Engine,
-    b: &dyn Engine,
-    bytes: &[u8],
-    listing: usize,
-    scratch: usize,
-) -> Result<(RunAnswer, RunAnswer), String> {
-    let (mut la, mut lb) = (Lent::new(listing), Lent::new(listing));
-    let (mut sa, mut sb) = (Lent::new(scratch), Lent::new(scratch));
-    let aa = a.run(bytes, la.lent(), sa.lent());
-    let ab = b.run(bytes, lb.lent(), sb.lent());
-    differ("file: number", aa.number, ab.number)?;
-    differ("file: events", aa.events, ab.events)?;
-    differ("file: written", aa.written, ab.written)?;
-    differ_plain("file: listing", la.memory == lb.memory)?;
-    differ_plain("file: scratch", sa.memory == sb.memory)?;
-    differ_plain("file: table", same_table(&aa.table, &ab.table))?;
-    Ok((aa, ab))
+/// A file run through both engines; the last tables.
+fn file(a: &dyn Engine, b: &dyn Engine, bytes: &[u8], lent: [usize; 2]) -> Result<(Table, Table), String> {
+    let [listing, scratch] = lent;
+    let (right, found) = (run(a, bytes, listing, scratch), run(b, bytes, listing, scratch));
+    differ("file: number", right.answer.number, found.answer.number)?;
+    differ("file: events", right.answer.events, found.answer.events)?;
+    differ("file: written", right.answer.written, found.answer.written)?;
+    differ_plain("file: listing", right.listing == found.listing)?;
+    differ_plain("file: scratch", right.scratch == found.scratch)?;
+    differ_plain("file: table", same_table(&right.answer.table, &found.answer.table))?;
+    Ok((right.answer.table, found.answer.table))
+}
+
+fn fresh(a: &dyn Engine, b: &dyn Engine, n: usize) -> Result<(Table, Table), String> {
+    let (right, found) = (a.fresh(n), b.fresh(n));
+    differ("fresh: number", right.number, found.number)?;
+    differ_plain("fresh: table", same_table(&right.table, &found.table))?;
+    Ok((right.table, found.table))
 }
 
 /// The first difference between two engines on a case. Each engine goes on with the table that it left itself.
 pub fn difference(case: &Case, a: &dyn Engine, b: &dyn Engine) -> Result<(), String> {
-    let (mut ta, mut tb) = match &case.head {
-        Head::Table(t) => (**t, **t),
-        Head::Fresh(n) => {
-            let (fa, fb) = (a.fresh(*n), b.fresh(*n));
-            differ("fresh: number", fa.number, fb.number)?;
-            differ_plain("fresh: table", same_table(&fa.table, &fb.table))?;
-            (fa.table, fb.table)
-        }
-        Head::File { bytes, listing, scratch } => {
-            let (aa, ab) = file(a, b, bytes, *listing, *scratch)?;
-            (aa.table, ab.table)
-        }
+    let (right, found) = match &case.head {
+        Head::Table(t) => ((**t).clone(), (**t).clone()),
+        Head::Fresh(n) => fresh(a, b, *n)?,
+        Head::File { bytes, listing, scratch } => file(a, b, bytes, [*listing, *scratch])?,
     };
+    let (mut a, mut b) = (Side { engine: a, table: right }, Side { engine: b, table: found });
     for call in &case.calls {
         match call {
-            Call::Event { bytes, scratch } => event(a, b, &mut ta, &mut tb, bytes, *scratch)?,
-            Call::Look(c) => look(a, b, &ta, &tb, *c)?,
+            Call::Event { bytes, scratch } => event(&mut a, &mut b, bytes, *scratch)?,
+            Call::Look(c) => look(&a, &b, *c)?,
         }
     }
     Ok(())
 }
 
-/// What breaks demand 3 in the answers of one engine. Wherever the ending speaks, looks are added to the list.
-pub fn demand3(case: &Case, engine: &dyn Engine) -> Result<(), String> {
-    let (mut ledger, mut t) = match &case.head {
-        Head::Table(_) => return Ok(()),
-        Head::Fresh(n) => match engine.fresh(*n) {
-            fresh if fresh.number == 0 => (Ledger::new(*n), fresh.table),
-            _ => return Ok(()),
-        },
+/// The ledger and the table with which a list begins, if the head gives one.
+fn list_head(case: &Case, engine: &dyn Engine) -> Option<(Ledger, Table)> {
+    match &case.head {
+        Head::Table(_) => None,
+        Head::Fresh(n) => {
+            let fresh = engine.fresh(*n);
+            (fresh.number == Refusal::ACCEPTED).then(|| (Ledger::new(*n), fresh.table))
+        }
         Head::File { bytes, listing, scratch } => {
             let (mut listing, mut scratch) = (Lent::new(*listing), Lent::new(*scratch));
             let run = engine.run(bytes, listing.lent(), scratch.lent());
-            if (1..=3).contains(&run.number) {
-                return Ok(());
-            }
-            (Ledger::file(bytes, run.events, &listing.lent()[..run.written]), run.table)
+            let ledger = || Ledger::file(bytes, run.events, &listing.lent()[..run.written]);
+            (!(1..=3).contains(&run.number.number())).then(ledger).map(|ledger| (ledger, run.table))
         }
-    };
-    let name = |x: &crate::tables::Name| (x.sender as usize, x.number as usize);
+    }
+}
+
+/// What breaks demand 3 in the answers of one engine. Wherever the ending speaks, looks are added to the list.
+pub fn demand3(case: &Case, engine: &dyn Engine) -> Result<(), String> {
+    let Some((mut ledger, table)) = list_head(case, engine) else { return Ok(()) };
+    let mut side = Side { engine, table };
     let look = |ledger: &mut Ledger, t: &Table, c: usize| {
         let answer = engine.look(t, c);
-        ledger.look(c, answer.number, answer.total as i64);
+        ledger.look(c, answer.number.number(), answer.panel.total as i64);
     };
     for step in 0..=case.calls.len() {
         for c in ledger.ended() {
-            look(&mut ledger, &t, c);
+            look(&mut ledger, &side.table, c);
         }
         if let Some(text) = ledger.broken() {
             return Err(format!("demand 3: {text}"));
         }
         match case.calls.get(step) {
             Some(Call::Event { bytes, scratch }) => {
-                let (mut scratch, mut answer) = (Lent::new(*scratch), dirty_answer());
-                engine.event(&mut t, bytes, scratch.lent(), &mut answer);
-                let set: Vec<_> = answer.names[..answer.size.min(64)].iter().map(name).collect();
-                ledger.event(bytes, answer.number, &set);
+                let answer = side.event(bytes, *scratch).answer;
+                ledger.event(bytes, answer.number.number(), &set(&answer));
             }
-            Some(Call::Look(c)) => look(&mut ledger, &t, *c),
+            Some(Call::Look(c)) => look(&mut ledger, &side.table, *c),
             None => {}
         }
     }

@@ -1,5 +1,5 @@
-//! Demand 3, checked over one list of calls. It reads arguments and answers only, as document 01's section
-//! "The list of demand 3" says, and shares nothing with the reference.
+//! Demand 3, checked over one list of calls. It reads arguments and answers only, as docs/RULES.md says of the list,
+//! and shares nothing with the reference.
 
 use std::collections::{BTreeMap, BTreeSet};
 

@@ -1,9 +1,9 @@
-//! The run that document 01 prints whole and its list of edges, with the answers it gives, put to any engine.
+//! The run that docs/RULES.md prints whole and its list of edges, with the answers it gives, put to any engine.
 
-use crate::generate::{file_of, handover, report, stop};
-use crate::library::{Engine, Reference};
+use crate::engine::{Engine, Reference};
+use crate::records::{file_of, handover, report, stop};
 use crate::reference::{LISTING, SCRATCH};
-use crate::tables::{Answer, Controller, Table, ABSENT};
+use furnacejade::{Answer, Controller, ForwardNumber, Table};
 
 const WHOLE_RUN: &str =
     "0103040101001E030301010303020103030102040103FFFE030302030303020203030202030303020303030203030301";
@@ -35,9 +35,9 @@ impl Script<'_> {
 
     /// The number, and the names of the set.
     fn event(&mut self, bytes: Vec<u8>) -> (u8, Vec<(u8, u8)>) {
-        let (mut scratch, mut answer) = (vec![1; SCRATCH], Answer::ZERO);
+        let (mut scratch, mut answer) = (vec![1; SCRATCH], Answer::BLANK);
         self.engine.event(&mut self.table, &bytes, &mut scratch, &mut answer);
-        (answer.number, answer.names[..answer.size].iter().map(|x| (x.sender, x.number)).collect())
+        (answer.number.number(), answer.applied().iter().map(|x| (x.sender, x.number.0)).collect())
     }
 
     fn number(&mut self, bytes: Vec<u8>) -> u8 {
@@ -57,7 +57,7 @@ fn whole_run(engine: &dyn Engine) -> Result<(), String> {
     let (mut listing, mut scratch) = (vec![7; LISTING], vec![7; SCRATCH]);
     let file = bytes_of(WHOLE_RUN);
     let run = engine.run(&file, &mut listing, &mut scratch);
-    expect((run.number, run.events) == (0, 11), "the whole run's answer")?;
+    expect((run.number.number(), run.events) == (0, 11), "the whole run's answer")?;
     expect(listing[..run.written] == *WHOLE_LISTING.as_bytes(), "the whole run's listing")?;
     let sets: [&[(u8, u8)]; 11] =
         [&[], &[], &[], &[(1, 1)], &[], &[], &[(1, 1)], &[(3, 1)], &[], &[], &[(1, 1), (3, 1)]];
@@ -68,7 +68,7 @@ fn whole_run(engine: &dyn Engine) -> Result<(), String> {
         rest = &rest[1 + rest[0] as usize..];
     }
     for (c, total) in [(1, 30), (2, 28), (3, 28)] {
-        expect(engine.look(&script.table, c).total == total, "the looks after the whole run")?;
+        expect(engine.look(&script.table, c).panel.total == total, "the looks after the whole run")?;
     }
     Ok(())
 }
@@ -76,7 +76,7 @@ fn whole_run(engine: &dyn Engine) -> Result<(), String> {
 fn fresh_tables(engine: &dyn Engine) -> Result<(), String> {
     for n in 1..=7 {
         let t = engine.fresh(n).table;
-        let absent = |c: &Controller| c.pending.iter().all(|p| p.marks == [ABSENT; 7]);
+        let absent = |c: &Controller| c.pending.iter().all(|p| p.marks == [ForwardNumber::ABSENT; 7]);
         expect(t.controllers[..n].iter().all(absent), "a fresh table has every mark absent")?;
         expect(engine.run(&file_of(n, &[]), &mut [], &mut []).table == t, "a file run begins with a fresh table")?;
     }
@@ -85,7 +85,7 @@ fn fresh_tables(engine: &dyn Engine) -> Result<(), String> {
 
 /// Seven controllers, 64 messages and every handover, and then a stop of each: 3,207 events.
 pub fn dense_run() -> Vec<u8> {
-    let mut script = Script::fresh(&Reference::RIGHT, 7);
+    let mut script = Script::fresh(&Reference, 7);
     let mut records = Vec::new();
     let mut accepted = |record: Vec<u8>| {
         let yes = script.number(record.clone()) == 0;
@@ -115,14 +115,20 @@ pub fn dense_run() -> Vec<u8> {
 }
 
 /// A file run with these lengths lent, both dirty, is the reference's.
-fn same_run(engine: &dyn Engine, file: &[u8], listing: usize, scratch: usize, edge: &str) -> Result<(usize, u8), String> {
+fn same_run(
+    engine: &dyn Engine,
+    file: &[u8],
+    listing: usize,
+    scratch: usize,
+    edge: &str,
+) -> Result<(usize, u8), String> {
     let lend = |engine: &dyn Engine| {
         let (mut lines, mut area) = (vec![7; listing], vec![7; scratch]);
         let run = engine.run(file, &mut lines, &mut area);
-        ((run.number, run.events, run.written), lines, area)
+        ((run.number.number(), run.events, run.written), lines, area)
     };
     let found = lend(engine);
-    expect(found == lend(&Reference::RIGHT), edge)?;
+    expect(found == lend(&Reference), edge)?;
     Ok((found.0 .1, found.0 .0))
 }
 
@@ -160,7 +166,7 @@ pub fn check(engine: &dyn Engine) -> Result<(), String> {
         expect(s.event(handover(1, 1)) == (0, vec![(1, message)]), "n = 1: report and handover")?;
     }
     expect(s.number(report(1, 1)) == 12, "the 65th message")?;
-    expect(engine.look(&s.table, 1).total == 23_040, "the greatest total")?;
+    expect(engine.look(&s.table, 1).panel.total == 23_040, "the greatest total")?;
 
     let amounts = [(360, 0), (-360, 0), (361, 9), (-361, 9), (0, 9)];
     for (amount, number) in amounts {
@@ -182,7 +188,7 @@ pub fn check(engine: &dyn Engine) -> Result<(), String> {
     let header = file_of(3, &[]);
     for (file, number) in [(&header[..1], 1), (&header, 0), (&[1, 8], 3)] {
         let run = engine.run(file, &mut [], &mut []);
-        expect((run.number, run.events, run.written) == (number, 0, 0), "short files")?;
+        expect((run.number.number(), run.events, run.written) == (number, 0, 0), "short files")?;
     }
     Ok(())
 }

@@ -1,6 +1,7 @@
-//! Makes a failing case small: fewer controllers, calls, records, bytes, and fields of the table that are not zero.
+//! Makes a failing case small: fewer controllers, calls, records, bytes, and fields that are not as in a fresh table.
 
-use crate::case::{table_bytes, table_from, Call, Case, Head};
+use crate::case::{Call, Case, Head};
+use crate::fields::{plain_table, table_bytes, table_from};
 
 /// A case that fails, and what it means to fail.
 struct Search<'a> {
@@ -73,6 +74,7 @@ impl Search<'_> {
     }
 
     fn plainer_table(&mut self) {
+        let plain = table_bytes(&plain_table());
         for stretch in [1024, 256, 64, 16, 4, 1] {
             let mut at = 0;
             while let Head::Table(t) = &self.case.head {
@@ -81,8 +83,8 @@ impl Search<'_> {
                     break;
                 }
                 let end = (at + stretch).min(bytes.len());
-                if bytes[at..end].iter().any(|b| *b != 0) {
-                    bytes[at..end].fill(0);
+                if bytes[at..end] != plain[at..end] {
+                    bytes[at..end].copy_from_slice(&plain[at..end]);
                     let head = Head::Table(Box::new(table_from(&bytes)));
                     self.keep(Case { head, calls: self.case.calls.clone() });
                 }

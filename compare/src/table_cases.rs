@@ -1,14 +1,19 @@
 //! Random tables as cases: well-formed ones, most of which no run reaches, with junk wherever nothing is read;
 //! tables broken in each way that question 4 names; well-formed ones with a few bytes changed; and random bytes.
 
-use crate::case::{table_bytes, table_from, Call, Case, Head};
-use crate::generate::{any_calls, any_event, any_number, any_scratch, Policy};
+use crate::case::{Call, Case, Head};
+use crate::fields::{table_bytes, table_from};
+use crate::odd::{any_calls, any_event, any_number, any_scratch};
 use crate::random::Random;
 use crate::reference::State;
-use crate::tables::{to_state, well_formed, Controller, Message, Payload, Pending, Table, ABSENT};
+use crate::runs::Policy;
+use crate::tables::{to_state, well_formed};
+use furnacejade::{Controller, ForwardNumber, Message, MessageNumber, Payload, Pending, Table};
+
+const ABSENT: ForwardNumber = ForwardNumber::ABSENT;
 
 fn junk_table(random: &mut Random) -> Table {
-    let length = table_bytes(&Table::ZERO).len();
+    let length = table_bytes(&Table::BLANK).len();
     let low = random.one_in(2);
     let bytes: Vec<u8> = (0..length).map(|_| if low { random.byte() % 3 } else { random.byte() }).collect();
     table_from(&bytes)
@@ -28,7 +33,7 @@ fn set_highest(t: &mut Table) {
         for sender in 1..=t.n.min(7) {
             let of_sender =
                 (0..t.count.min(64)).filter(|s| c.applied[*s] != 0 && t.messages[*s].sender as usize == sender);
-            c.highest[sender - 1] = of_sender.map(|s| t.messages[s].number).max().unwrap_or(0);
+            c.highest[sender - 1] = of_sender.map(|s| t.messages[s].number).max().unwrap_or(MessageNumber::NONE);
         }
     }
 }
@@ -50,7 +55,7 @@ fn set_marks(random: &mut Random, c: &mut Controller, count: usize) {
     for slot in &order {
         c.pending[*slot].marks = std::array::from_fn(|_| match random.below(3) {
             0 => ABSENT,
-            _ => random.between(1, range) as u8,
+            _ => ForwardNumber(random.between(1, range) as u8),
         });
     }
     if style == 0 || order.is_empty() {
@@ -59,7 +64,8 @@ fn set_marks(random: &mut Random, c: &mut Controller, count: usize) {
     if style == 3 {
         let majority = random.between(1, 4);
         for (place, slot) in order.iter().enumerate() {
-            let mark = |f| if f < majority { chain_place(f, place, order.len()) as u8 } else { ABSENT };
+            let known = |f| ForwardNumber(chain_place(f, place, order.len()) as u8);
+            let mark = |f| if f < majority { known(f) } else { ABSENT };
             c.pending[*slot].marks = std::array::from_fn(mark);
         }
         c.pending[order[0]].marks[random.below(2)] = ABSENT;
@@ -77,7 +83,7 @@ fn set_marks(random: &mut Random, c: &mut Controller, count: usize) {
         }
         let known = if random.one_in(3) { own.len() } else { random.below(own.len() + 1) };
         for (place, slot) in own.into_iter().enumerate() {
-            c.pending[slot].marks[f] = if place < known { place as u8 + 1 } else { ABSENT };
+            c.pending[slot].marks[f] = if place < known { ForwardNumber(place as u8 + 1) } else { ABSENT };
         }
     }
 }
@@ -99,7 +105,7 @@ fn set_messages(random: &mut Random, t: &mut Table) -> Option<()> {
             1 => Payload { kind: 1, added: magnitude, withdrawn: 0 },
             _ => Payload { kind: 1, added: 0, withdrawn: magnitude },
         };
-        t.messages[slot] = Message { sender, number, payload };
+        t.messages[slot] = Message { sender, number: MessageNumber(number), payload };
     }
     Some(())
 }
@@ -179,93 +185,192 @@ pub fn table_random(random: &mut Random) -> Case {
     Case { calls: blind_calls(random, &t), head: Head::Table(Box::new(t)) }
 }
 
-const WAYS_TO_BREAK: usize = 34;
+/// A table that is to be broken, and where: at a controller, at a slot, at a message that is pending there, or at one of
+/// which that controller knows nothing.
+struct Break<'a> {
+    random: &'a mut Random,
+    t: &'a mut Table,
+    c: usize,
+    slot: usize,
+    held: Option<usize>,
+    unknown: Option<usize>,
+}
 
-/// Breaks a table in one way that question 4 names and in no other, as far as the table has a place for it.
-fn break_table(random: &mut Random, t: &mut Table, way: usize) {
-    let (n, count) = (t.n, t.count);
-    let c = random.below(n);
-    let slot = random.below(count.max(1));
-    let length = t.controllers[c].length;
-    let held: Vec<usize> = (0..count).filter(|s| t.controllers[c].pending[*s].held != 0).collect();
-    let held = if held.is_empty() { None } else { Some(random.pick(&held)) };
-    // A stopped controller is asked fewer clauses, so that the one that is broken stands alone.
-    if [15, 16, 17, 19, 20, 31, 32].contains(&way) && random.one_in(2) {
-        t.controllers[c].running = 0;
+impl<'a> Break<'a> {
+    fn new(random: &'a mut Random, t: &'a mut Table) -> Break<'a> {
+        let c = random.below(t.n);
+        let slot = random.below(t.count.max(1));
+        let own = &t.controllers[c];
+        let held: Vec<usize> = (0..t.count).filter(|s| own.pending[*s].held != 0).collect();
+        let held = if held.is_empty() { None } else { Some(random.pick(&held)) };
+        let unknown = (0..t.count).find(|s| own.pending[*s].held == 0 && own.applied[*s] == 0);
+        Break { random, t, c, slot, held, unknown }
     }
-    if way == 9 && count > 0 {
-        t.controllers[t.messages[slot].sender as usize - 1].running = 0;
+
+    fn own(&mut self) -> &mut Controller {
+        &mut self.t.controllers[self.c]
     }
-    let owner = &mut t.controllers[c];
-    let m = &mut t.messages[slot];
-    let unknown = (0..count).find(|s| owner.pending[*s].held == 0 && owner.applied[*s] == 0);
-    match way {
-        0 => t.n = 0,
-        1 => t.n = 8,
-        2 => t.n += random.pick(&[256, 1 << 32, 1 << 63]),
-        3 => t.count = 65,
-        4 => t.count += random.pick(&[256, 1 << 32, 1 << 63]),
-        5 if count > 1 => {
-            let other = t.messages[(slot + 1) % count];
-            t.messages[slot] = Message { payload: t.messages[slot].payload, ..other };
-        }
-        6 => m.sender = 0,
-        7 => m.sender = n as u8 + 1,
-        8 => m.number = 0,
-        9 => m.number = random.pick(&[65, 66, 255]),
-        10 => m.payload.kind = random.pick(&[0, 3, 255]),
-        11 => m.payload = Payload { kind: 1, added: 0, withdrawn: 0 },
-        12 => m.payload = Payload { kind: 1, added: random.pick(&[361, 616, 65_535]), withdrawn: 0 },
-        13 => m.payload = Payload { kind: 1, added: random.pick(&[1, 360]), withdrawn: random.pick(&[1, 360]) },
-        14 => m.payload = Payload { kind: 2, added: random.pick(&[0, 1]), withdrawn: 1 },
-        15 if length > 0 && count < 64 => owner.log[random.below(length)] = random.between(count, 63) as u8,
-        16 if length > 0 => owner.log[random.below(length)] = random.pick(&[64, 65, 128, 255]),
-        17 if length > 0 && length < 64 => {
-            owner.log[length] = owner.log[random.below(length)];
-            owner.length += 1;
-        }
-        18 => owner.length = random.pick(&[65, 256 + length, (1 << 32) + length, usize::MAX]),
-        19 | 20 => {
-            let o = random.below(n);
-            let end = t.controllers[o].length;
-            t.controllers[c].read[o] = end + if way == 19 { 1 } else { random.pick(&[2, 256, 1 << 32]) };
-        }
-        21..=24 if held.is_some() => {
-            let f = if way == 24 { random.between(n, 6.max(n)) } else { random.below(n) };
-            let wrong = [0, 65, random.pick(&[66, 128, 254]), random.pick(&[0, 65, 254])][way - 21];
-            owner.pending[held.unwrap()].marks[f.min(6)] = wrong;
-        }
-        25 if held.is_some() => owner.applied[held.unwrap()] = 1,
-        26 => owner.highest[random.below(n)] += 1,
-        27 => {
-            let sender = random.below(n);
-            owner.highest[sender] = owner.highest[sender].wrapping_sub(1);
-        }
-        28 if unknown.is_some() => {
-            owner.pending[unknown.unwrap()] = Pending { held: 1, marks: [ABSENT; 7] };
-        }
-        29 if held.is_some() => owner.pending[held.unwrap()].held = 0,
-        30 if length < 64 => {
-            let own = t.messages[..count].iter_mut().find(|m| m.sender as usize == c + 1);
-            if let Some(m) = own {
-                m.number = length as u8 + 1;
-            }
-        }
-        31 if count < 64 => owner.pending[random.between(count, 63)] = Pending { held: 1, marks: [ABSENT; 7] },
-        32 if count < 64 => owner.applied[random.between(count, 63)] = 1,
-        33 if unknown.is_some() => owner.applied[unknown.unwrap()] = 1,
-        _ => {}
+
+    fn message(&mut self) -> &mut Message {
+        &mut self.t.messages[self.slot]
     }
-    if [5, 6, 7, 8, 9, 25, 30, 33].contains(&way) {
-        set_highest(t);
+
+    /// One message more than the table has room for.
+    fn count_65(&mut self) {
+        *self.t = good_table(self.random, self.t.n, 64);
+        self.t.count = 65;
+    }
+
+    fn payload(&mut self, kind: u8, added: &[u16], withdrawn: &[u16]) {
+        let (added, withdrawn) = (self.random.pick(added), self.random.pick(withdrawn));
+        self.message().payload = Payload { kind, added, withdrawn };
+    }
+
+    /// A stopped controller is asked fewer clauses, so that the one that is broken stands alone.
+    fn stop_sometimes(&mut self) {
+        if self.random.one_in(2) {
+            self.own().running = 0;
+        }
+    }
+
+    fn number(&mut self, wrong: &[u8]) {
+        let sender = self.message().sender as usize;
+        if self.t.count > 0 {
+            self.t.controllers[sender - 1].running = 0;
+        }
+        self.message().number.0 = self.random.pick(wrong);
+    }
+
+    /// One message gets the name of another.
+    fn name(&mut self) {
+        if self.t.count > 1 {
+            let other = self.t.messages[(self.slot + 1) % self.t.count];
+            *self.message() = Message { payload: self.message().payload, ..other };
+        }
+    }
+
+    fn entry(&mut self, wrong: &[usize]) {
+        self.stop_sometimes();
+        let length = self.own().length;
+        if length > 0 && !wrong.is_empty() {
+            let place = self.random.below(length);
+            self.own().log[place] = self.random.pick(wrong) as u8;
+        }
+    }
+
+    fn entry_twice(&mut self) {
+        self.stop_sometimes();
+        let length = self.own().length;
+        if length > 0 && length < 64 {
+            let place = self.random.below(length);
+            self.own().log[length] = self.own().log[place];
+            self.own().length += 1;
+        }
+    }
+
+    fn log_length(&mut self) {
+        let length = self.own().length;
+        self.own().length = self.random.pick(&[65, 256 + length, (1 << 32) + length, usize::MAX]);
+    }
+
+    fn read(&mut self, beyond: &[usize]) {
+        self.stop_sometimes();
+        let o = self.random.below(self.t.n);
+        let end = self.t.controllers[o].length;
+        self.own().read[o] = end + self.random.pick(beyond);
+    }
+
+    fn mark(&mut self, from: usize, to: usize, wrong: &[u8]) {
+        let f = self.random.between(from, to);
+        let mark = ForwardNumber(self.random.pick(wrong));
+        self.held.into_iter().for_each(|slot| self.own().pending[slot].marks[f] = mark);
+    }
+
+    fn hold(&mut self, slot: Option<usize>) {
+        slot.into_iter().for_each(|slot| self.own().pending[slot] = Pending { held: 1, marks: [ABSENT; 7] });
+    }
+
+    fn apply(&mut self, slot: Option<usize>) {
+        slot.into_iter().for_each(|slot| self.own().applied[slot] = 1);
+    }
+
+    /// A slot behind the messages, if there is one.
+    fn behind(&mut self) -> Option<usize> {
+        self.stop_sometimes();
+        let count = self.t.count;
+        (count < 64).then(|| self.random.between(count, 63))
+    }
+
+    fn one_higher(&mut self) {
+        let sender = self.random.below(self.t.n);
+        self.own().highest[sender].0 += 1;
+    }
+
+    fn one_lower(&mut self) {
+        let sender = self.random.below(self.t.n);
+        let highest = &mut self.own().highest[sender].0;
+        *highest = highest.wrapping_sub(1);
+    }
+
+    /// A number that a running controller's log is too short for.
+    fn long_number(&mut self) {
+        let (c, length) = (self.c, self.own().length);
+        let own = self.t.messages[..self.t.count].iter_mut().find(|m| m.sender as usize == c + 1);
+        own.filter(|_| length < 64).into_iter().for_each(|m| m.number.0 = length as u8 + 1);
     }
 }
 
+/// A way to break a table, and whether the highest numbers are made to agree with what was applied afterwards.
+type Way = (fn(&mut Break), bool);
+
+/// Each breaks one clause of question 4 and no other, as far as the table has a place for it.
+const WAYS: &[Way] = &[
+    (|b| b.t.n = 0, false),
+    (|b| b.t.n = 8, false),
+    (|b| b.t.n += b.random.pick(&[256, 1 << 32, 1 << 63]), false),
+    (|b| b.count_65(), false),
+    (|b| b.t.count += b.random.pick(&[256, 1 << 32, 1 << 63]), false),
+    (|b| b.name(), true),
+    (|b| b.message().sender = 0, true),
+    (|b| b.message().sender = b.t.n as u8 + 1, true),
+    (|b| b.message().number.0 = 0, true),
+    (|b| b.number(&[65, 66, 255]), true),
+    (|b| b.message().payload.kind = b.random.pick(&[0, 3, 255]), false),
+    (|b| b.payload(1, &[0], &[0]), false),
+    (|b| b.payload(1, &[361, 616, 65_535], &[0]), false),
+    (|b| b.payload(1, &[0], &[361, 616, 65_535]), false),
+    (|b| b.payload(1, &[1, 360], &[1, 360]), false),
+    (|b| b.payload(2, &[0, 1], &[1]), false),
+    (|b| b.payload(2, &[1], &[0]), false),
+    (|b| b.entry(&(b.t.count..64).collect::<Vec<_>>()), false),
+    (|b| b.entry(&[64, 65, 128, 255]), false),
+    (|b| b.entry_twice(), false),
+    (|b| b.log_length(), false),
+    (|b| b.read(&[1]), false),
+    (|b| b.read(&[2, 256, 1 << 32]), false),
+    (|b| b.mark(0, b.t.n - 1, &[0]), false),
+    (|b| b.mark(0, b.t.n - 1, &[65]), false),
+    (|b| b.mark(0, b.t.n - 1, &[66, 128, 254]), false),
+    (|b| b.mark(b.t.n.min(6), 6, &[0, 65, 254]), false),
+    (|b| b.apply(b.held), true),
+    (|b| b.one_higher(), false),
+    (|b| b.one_lower(), false),
+    (|b| b.hold(b.unknown), false),
+    (|b| b.held.into_iter().for_each(|slot| b.own().pending[slot].held = 0), false),
+    (|b| b.long_number(), true),
+    (|b| b.behind().into_iter().for_each(|slot| b.hold(Some(slot))), false),
+    (|b| b.behind().into_iter().for_each(|slot| b.apply(Some(slot))), false),
+    (|b| b.apply(b.unknown), true),
+];
+
 pub fn table_broken(random: &mut Random) -> Case {
-    let way = random.below(WAYS_TO_BREAK);
+    let (change, agree) = random.pick(WAYS);
     let n = random.between(1, 7);
-    let count = if way == 3 { 64 } else { any_count(random) };
+    let count = any_count(random);
     let mut t = good_table(random, n, count);
-    break_table(random, &mut t, way);
+    change(&mut Break::new(random, &mut t));
+    if agree {
+        set_highest(&mut t);
+    }
     Case { calls: blind_calls(random, &t), head: Head::Table(Box::new(t)) }
 }

@@ -1,0 +1,161 @@
+//! The fields of a table by name: for cases as text, for tables of random bytes, and for making a table plain.
+
+use crate::reference::State;
+use crate::tables::to_table;
+use furnacejade::{Controller, Message, Payload, Pending, Table};
+
+/// One number of a table.
+pub enum Place<'a> {
+    Byte(&'a mut u8),
+    Short(&'a mut u16),
+    Long(&'a mut usize),
+}
+
+impl Place<'_> {
+    fn get(&self) -> usize {
+        match self {
+            Place::Byte(x) => **x as usize,
+            Place::Short(x) => **x as usize,
+            Place::Long(x) => **x,
+        }
+    }
+
+    fn set(&mut self, value: usize) {
+        match self {
+            Place::Byte(x) => **x = value as u8,
+            Place::Short(x) => **x = value as u16,
+            Place::Long(x) => **x = value,
+        }
+    }
+
+    /// How many bytes the number has.
+    fn width(&self) -> usize {
+        match self {
+            Place::Byte(_) => 1,
+            Place::Short(_) => 2,
+            Place::Long(_) => 8,
+        }
+    }
+}
+
+/// A field: its controller, or 0 if it is no controller's, and its name.
+pub type Field = (usize, &'static str);
+
+/// Every number of a table with its field, those of one field in order. A struct is taken apart whole, so that a field
+/// that is new in it cannot be forgotten here.
+pub fn visit(t: &mut Table, mut see: impl FnMut(Field, Place)) {
+    let Table { n, count, messages, controllers } = t;
+    see((0, "n"), Place::Long(n));
+    see((0, "count"), Place::Long(count));
+    for Message { sender, number, payload: Payload { kind, added, withdrawn } } in messages {
+        see((0, "messages.sender"), Place::Byte(sender));
+        see((0, "messages.number"), Place::Byte(&mut number.0));
+        see((0, "messages.kind"), Place::Byte(kind));
+        see((0, "messages.added"), Place::Short(added));
+        see((0, "messages.withdrawn"), Place::Short(withdrawn));
+    }
+    for (c, controller) in (1..).zip(controllers) {
+        let Controller { running, length, log, read, pending, applied, highest } = controller;
+        see((c, "running"), Place::Byte(running));
+        see((c, "length"), Place::Long(length));
+        log.iter_mut().for_each(|x| see((c, "log"), Place::Byte(x)));
+        read.iter_mut().for_each(|x| see((c, "read"), Place::Long(x)));
+        for Pending { held, marks } in pending {
+            see((c, "pending.held"), Place::Byte(held));
+            marks.iter_mut().for_each(|x| see((c, "pending.marks"), Place::Byte(&mut x.0)));
+        }
+        applied.iter_mut().for_each(|x| see((c, "applied"), Place::Byte(x)));
+        highest.iter_mut().for_each(|x| see((c, "highest"), Place::Byte(&mut x.0)));
+    }
+}
+
+// ---------- as bytes ----------
+
+/// The numbers of a table in order, each with its high byte first.
+pub fn table_bytes(t: &Table) -> Vec<u8> {
+    let mut bytes = vec![];
+    visit(&mut t.clone(), |_, place| bytes.extend(&place.get().to_be_bytes()[8 - place.width()..]));
+    bytes
+}
+
+/// The table of such bytes.
+pub fn table_from(bytes: &[u8]) -> Table {
+    let (mut t, mut left) = (Table::BLANK, bytes.iter());
+    visit(&mut t, |_, mut place| {
+        let digits = left.by_ref().take(place.width());
+        place.set(digits.fold(0, |x, byte| x << 8 | *byte as usize));
+    });
+    t
+}
+
+// ---------- as text ----------
+
+/// A field and its numbers.
+type Column = (Field, Vec<usize>);
+
+fn columns(t: &Table) -> Vec<Column> {
+    let mut columns: Vec<Column> = vec![];
+    visit(&mut t.clone(), |field, place| match columns.iter_mut().find(|column| column.0 == field) {
+        Some(column) => column.1.push(place.get()),
+        None => columns.push((field, vec![place.get()])),
+    });
+    columns
+}
+
+/// The table from which a text gives the differences: what a field that it does not name holds is harmless, one that
+/// did not exist when the text was written included.
+pub fn plain_table() -> Table {
+    Table { n: 0, ..to_table(&State::fresh(7)) }
+}
+
+fn field_name((c, name): Field) -> String {
+    match c {
+        0 => name.into(),
+        c => format!("controller{c}.{name}"),
+    }
+}
+
+/// Numbers as text; `7*5` stands for five times 7.
+fn numbers_text(numbers: &[usize]) -> String {
+    let run = |run: &[usize]| match run.len() {
+        1..=3 => run.iter().map(|x| format!(" {x}")).collect(),
+        long => format!(" {}*{long}", run[0]),
+    };
+    numbers.chunk_by(|a, b| a == b).map(run).collect()
+}
+
+/// A line for each field that differs from the plain table's, up to its last number that differs.
+pub fn table_text(t: &Table) -> String {
+    let plain = columns(&plain_table());
+    let mut text = String::new();
+    for ((field, numbers), (_, plain)) in columns(t).iter().zip(&plain) {
+        let same = numbers.iter().rev().zip(plain.iter().rev()).take_while(|(a, b)| a == b).count();
+        if same < numbers.len() {
+            text += &format!("  {}{}\n", field_name(*field), numbers_text(&numbers[..numbers.len() - same]));
+        }
+    }
+    text
+}
+
+fn named(name: &str) -> (usize, &str) {
+    let of_controller = name.strip_prefix("controller").and_then(|rest| rest.split_once('.'));
+    of_controller.map_or((0, name), |(c, name)| (c.parse().expect("a controller"), name))
+}
+
+/// Sets the field of such a line.
+pub fn set_field(t: &mut Table, line: &str) {
+    let mut words = line.split_whitespace();
+    let name = named(words.next().expect("the name of a field"));
+    let mut numbers = words.flat_map(|word| {
+        let (number, times) = word.split_once('*').unwrap_or((word, "1"));
+        vec![number.parse().expect("a number"); times.parse().expect("a number")]
+    });
+    let mut known = false;
+    visit(t, |field, mut place| {
+        if field == name {
+            known = true;
+            numbers.next().into_iter().for_each(|number| place.set(number));
+        }
+    });
+    assert!(known && numbers.next().is_none(), "no such field, or not so many numbers: {line}");
+}

@@ -1,0 +1,78 @@
+//! Random run files, whole and mangled, with a listing and scratch of every size, and calls on the last table.
+
+use crate::case::{Call, Case, Head};
+use crate::odd::{any_calls, any_scratch, as_calls, mangle};
+use crate::random::Random;
+use crate::records::file_of;
+use crate::reference::{run_file, State, LISTING, SCRATCH};
+use crate::runs::{drain, legal_run, Policy};
+
+pub fn random_file(random: &mut Random, events: usize) -> Vec<u8> {
+    let n = random.between(1, 7);
+    let mut state = State::fresh(n);
+    let policy = Policy::random(random);
+    let run = legal_run(random, &mut state, &policy, events);
+    file_of(n, &run)
+}
+
+/// A listing that ends around a line's end.
+fn any_listing(random: &mut Random, bytes: &[u8]) -> usize {
+    let (mut listing, mut scratch) = (vec![0; LISTING], vec![0; SCRATCH]);
+    let written = run_file(bytes, &mut listing, &mut scratch).written;
+    let mut ends: Vec<usize> = (0..written).filter(|i| listing[*i] == b'\n').map(|i| i + 1).collect();
+    ends.extend([0, 0]);
+    match random.below(4) {
+        0 => LISTING,
+        1 => random.below(written + 1),
+        _ => (random.pick(&ends) + random.below(3)).saturating_sub(1),
+    }
+}
+
+/// A legal file with every kind of lent memory, and calls on its last table.
+pub fn file_limits(random: &mut Random) -> Case {
+    let events = random.pick(&[0, 3, 20, 100, 300]);
+    let bytes = random_file(random, events);
+    let listing = any_listing(random, &bytes);
+    let scratch = any_scratch(random);
+    let run = run_file(&bytes, &mut vec![0; listing], &mut vec![0; scratch]);
+    let mut calls = vec![];
+    if let (true, Some(mut state)) = (random.one_in(2), run.state) {
+        calls = any_calls(random, &mut state, 20, 5);
+        calls.extend(as_calls(drain(random, &mut state)));
+    }
+    Case { head: Head::File { bytes, listing, scratch }, calls }
+}
+
+pub fn file_mangled(random: &mut Random) -> Case {
+    let events = random.pick(&[3, 20, 100]);
+    let mut bytes = random_file(random, events);
+    for _ in 0..random.between(1, 2) {
+        // One record is mangled, or any byte of the file.
+        let at = random.below(bytes.len() + 1);
+        let mut tail = bytes.split_off(at);
+        if tail.is_empty() {
+            tail.extend((0..random.below(6)).map(|_| 0));
+        }
+        mangle(random, &mut tail);
+        bytes.extend(tail);
+    }
+    let listing = if random.one_in(3) { any_listing(random, &bytes) } else { LISTING };
+    Case { head: Head::File { bytes, listing, scratch: any_scratch(random) }, calls: vec![Call::Look(1)] }
+}
+
+/// Questions 1 to 3: sizes, versions and n around their limits.
+pub fn file_questions(random: &mut Random) -> Case {
+    let events = random.below(5);
+    let mut bytes = random_file(random, events);
+    bytes[0] = random.pick(&[0, 1, 1, 1, 1, 2, 255]);
+    if random.one_in(2) {
+        bytes[1] = random.pick(&[0, 1, 7, 8, 9, 128, 255]);
+    }
+    match random.below(4) {
+        0 => bytes.truncate(random.below(4)),
+        1 => bytes.resize(random.pick(&[65_534, 65_535, 65_536, 65_537, 131_072 + 40]), random.pick(&[0, 3])),
+        2 => bytes.truncate(2),
+        _ => {}
+    }
+    Case { head: Head::File { bytes, listing: LISTING, scratch: any_scratch(random) }, calls: vec![Call::Look(1)] }
+}

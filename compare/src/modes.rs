@@ -1,0 +1,247 @@
+//! The modes of the program but for the benchmark; `main.rs` lists them.
+
+use crate::case::{hexadecimal, Call, Case, Head};
+use crate::check::{demand3_failure, failure, kept_cases, report_and_exit, smallest};
+use crate::engine::{Engine, Faulty, Library, Reference};
+use crate::reference::{self, State, LISTING, SCRATCH};
+use crate::{edges, faults, generate, minimise, subsets, tables};
+use furnacejade::{Answer, Controller, Table};
+use std::io::Write;
+use std::process::{exit, Command, Stdio};
+use std::time::Duration;
+
+fn check_printed(print: impl Fn(&[u8]) -> Vec<u8>) {
+    for (file, output) in edges::PRINTED {
+        let found = print(&edges::bytes_of(file));
+        if found != output.as_bytes() {
+            println!("FAILED {file}: printed {}", String::from_utf8_lossy(&found));
+            exit(1);
+        }
+    }
+}
+
+/// The edges, the kept cases and random ones through an engine. Answers how many were kept.
+fn check_all(engine: &dyn Engine, cases: usize, seed: u64) -> usize {
+    println!("seed {seed}, {cases} cases");
+    check_printed(reference::program);
+    if let Err(text) = edges::check(engine) {
+        println!("FAILED {text}");
+        exit(1);
+    }
+    let kept = kept_cases();
+    for (name, case) in &kept {
+        if let Some(text) = failure(case, engine) {
+            report_and_exit(name, case, engine, &text);
+        }
+    }
+    for index in 0..cases {
+        let (kind, case) = generate::case(seed, index);
+        if let Some(text) = failure(&case, engine) {
+            report_and_exit(&format!("seed {seed} case {index} ({kind})"), &case, engine, &text);
+        }
+    }
+    kept.len()
+}
+
+/// The library against the reference.
+pub fn compare(cases: usize, seed: u64) {
+    let kept = check_all(&Library, cases, seed);
+    println!("{kept} kept cases and {cases} random ones: library and reference agree");
+}
+
+/// The reference against its edges, demand 3 and the definition of the set that is applied.
+pub fn reference(cases: usize, seed: u64) {
+    let kept = check_all(&Reference, cases, seed);
+    let sets: usize = (0..cases).map(|index| check_subsets(&generate::case(seed, index).1)).sum();
+    println!("{kept} kept cases, {cases} random ones, {sets} sets: the reference agrees with all subsets");
+}
+
+/// The applied set against all subsets, after every event of a case at which few messages are pending. Answers how many
+/// sets were not empty.
+fn check_subsets(case: &Case) -> usize {
+    let Some(mut state) = first_state(case) else { return 0 };
+    let mut checked = 0;
+    for call in &case.calls {
+        let Call::Event { bytes, scratch } = call else { continue };
+        state.event(bytes, &mut vec![0; *scratch]);
+        for c in state.controllers.iter().filter(|c| c.pending.len() <= subsets::MOST) {
+            let right = subsets::largest(state.n, &c.pending);
+            if right != reference::largest(state.n, &c.pending) {
+                println!("FAILED over all subsets: {:?}\n{}", c.pending, case.text());
+                exit(1);
+            }
+            checked += !right.is_empty() as usize;
+        }
+    }
+    checked
+}
+
+/// The state that a case begins with, unless a file or nothing gives it.
+fn first_state(case: &Case) -> Option<State> {
+    let table = match &case.head {
+        Head::Table(t) => (**t).clone(),
+        Head::Fresh(n) => tables::fresh(*n).table,
+        Head::File { .. } => return None,
+    };
+    tables::well_formed(&table).then(|| tables::to_state(&table))
+}
+
+/// Each fault must be found: by the kept cases first and then by random ones; or by random ones alone; or by demand 3
+/// alone, which cannot see them all. With a folder, each case found is made small and written there.
+pub fn faults(by: &str, folder: Option<&String>, only: Option<&String>) {
+    std::panic::set_hook(Box::new(|_| {}));
+    let random = (0..3200).map(|index| {
+        let (kind, case) = generate::case(2021, index);
+        (format!("case {index} ({kind})"), case)
+    });
+    let kept = if by.is_empty() { kept_cases() } else { vec![] };
+    let most = if by == "demand3" { 400 } else { 3200 };
+    let cases: Vec<(String, Case)> = kept.into_iter().chain(random).take(most).collect();
+    let mut missed = 0;
+    for (fault, (name, meaning)) in faults::ALL.iter().enumerate() {
+        if only.is_some_and(|only| only != name) {
+            continue;
+        }
+        match find_fault(fault, by, &cases) {
+            Some((finder, case, text)) => {
+                println!("{name} ({meaning})\n    found by {finder}: {text}");
+                folder.iter().for_each(|folder| keep_small(folder, fault, case, &text));
+            }
+            None => {
+                missed += 1;
+                println!("{name} ({meaning})\n    NOT FOUND");
+            }
+        }
+    }
+    println!("{} faults, {missed} not found", faults::ALL.len());
+    exit((missed > 0 && by != "demand3") as i32)
+}
+
+/// The first case that finds a fault: its name, the case, and what differs.
+fn find_fault<'a>(fault: usize, by: &str, cases: &'a [(String, Case)]) -> Option<(&'a str, &'a Case, String)> {
+    // Question 4 is seen on lent tables, and these cases are quick.
+    let lent_only = faults::ALL[fault].0.starts_with("Well");
+    let useful = |case: &&(String, Case)| !lent_only || matches!(case.1.head, Head::Table(_));
+    let fails = |case: &Case| match by {
+        "demand3" => demand3_failure(case, &Faulty(fault)),
+        _ => failure(case, &Faulty(fault)),
+    };
+    cases.iter().filter(useful).find_map(|(name, case)| Some((name.as_str(), case, fails(case)?)))
+}
+
+fn keep_small(folder: &str, fault: usize, case: &Case, text: &str) {
+    let (name, meaning) = faults::ALL[fault];
+    let small = smallest(case, &Faulty(fault), text, Duration::from_millis(400)).text();
+    std::fs::write(format!("{folder}/{name}.txt"), format!("# {meaning}\n{small}")).expect("the folder");
+}
+
+/// How often each answer came, by number and by the size of its set.
+struct Counts {
+    events: [usize; 17],
+    looks: [usize; 17],
+    files: [usize; 17],
+    sizes: [usize; 65],
+    most_pending: usize,
+    kept_pending: usize,
+}
+
+impl Counts {
+    fn head(&mut self, head: &Head) -> Table {
+        match head {
+            Head::Table(t) => (**t).clone(),
+            Head::Fresh(n) => tables::fresh(*n).table,
+            Head::File { bytes, listing, scratch } => {
+                let run = tables::run(bytes, &mut vec![0; *listing], &mut vec![0; *scratch]);
+                self.files[run.number.number() as usize] += 1;
+                run.table
+            }
+        }
+    }
+
+    fn event(&mut self, table: &mut Table, bytes: &[u8], scratch: usize) {
+        let mut answer = Answer::BLANK;
+        tables::event(table, bytes, &mut vec![0; scratch], &mut answer);
+        self.events[answer.number.number() as usize] += 1;
+        self.sizes[answer.size] += 1;
+        let pending = |c: &Controller| c.pending.iter().filter(|p| p.held != 0).count();
+        if answer.size > 0 {
+            let left = pending(&table.controllers[bytes[2] as usize - 1]);
+            self.most_pending = self.most_pending.max(left + answer.size);
+            self.kept_pending += (left > 0) as usize;
+        }
+    }
+}
+
+/// How often each answer came in N cases, to see what the cases reach.
+pub fn count(cases: usize, seed: u64) {
+    let zero = [0; 17];
+    let mut counts =
+        Counts { events: zero, looks: zero, files: zero, sizes: [0; 65], most_pending: 0, kept_pending: 0 };
+    for (_, case) in (0..cases).map(|index| generate::case(seed, index)) {
+        let mut table = counts.head(&case.head);
+        for call in &case.calls {
+            match call {
+                Call::Look(c) => counts.looks[tables::look(&table, *c).number.number() as usize] += 1,
+                Call::Event { bytes, scratch } => counts.event(&mut table, bytes, *scratch),
+            }
+        }
+    }
+    let Counts { events, looks, files, sizes, most_pending, kept_pending } = counts;
+    println!("events by number {events:?}\nlooks by number {looks:?}\nfiles by number {files:?}");
+    println!("sets by size {sizes:?}");
+    println!("most pending at a set {most_pending}; sets that left others pending {kept_pending}");
+}
+
+/// Runs the executable on one input.
+fn printed_by(path: &str, input: &[u8]) -> Vec<u8> {
+    let mut child =
+        Command::new(path).stdin(Stdio::piped()).stdout(Stdio::piped()).spawn().expect("the program starts");
+    // A program may stop reading behind 65,535 bytes, so a failed write is no failure.
+    let _ = child.stdin.take().unwrap().write_all(input);
+    child.wait_with_output().expect("the program ends").stdout
+}
+
+/// The bytes of a case that is a file alone.
+fn file_bytes(case: &Case) -> &[u8] {
+    match &case.head {
+        Head::File { bytes, .. } => bytes,
+        _ => &[],
+    }
+}
+
+/// A file alone, with what the program lends to its run.
+fn as_lent(case: Case) -> Option<Case> {
+    match case.head {
+        Head::File { bytes, .. } => {
+            Some(Case { head: Head::File { bytes, listing: LISTING, scratch: SCRATCH }, calls: vec![] })
+        }
+        _ => None,
+    }
+}
+
+/// The same files through the program, the library and the reference.
+pub fn program(path: &str, files: usize, seed: u64) {
+    println!("seed {seed}, {files} files");
+    check_printed(|input| printed_by(path, input));
+    let differs = |case: &Case| reference::program(file_bytes(case)) != printed_by(path, file_bytes(case));
+    for case in (0..).filter_map(|index| as_lent(generate::case(seed, index).1)).take(files) {
+        if let Some(text) = failure(&case, &Library) {
+            report_and_exit("a file", &case, &Library, &text);
+        }
+        if differs(&case) {
+            let small = minimise::minimise(&case, &differs);
+            let (right, found) = (reference::program(file_bytes(&small)), printed_by(path, file_bytes(&small)));
+            let (right, found) = (String::from_utf8_lossy(&right), String::from_utf8_lossy(&found));
+            println!("FAILED, made small: {}\nexpected\n{right}found\n{found}", hexadecimal(file_bytes(&small)));
+            exit(1);
+        }
+    }
+    println!("{files} files: program, library and reference say the same");
+}
+
+/// One case of a seed, printed and compared.
+pub fn one(seed: u64, index: usize) {
+    let (kind, case) = generate::case(seed, index);
+    println!("{kind}\n{}", case.text());
+    println!("{:?}", failure(&case, &Library));
+}

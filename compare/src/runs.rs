@@ -1,0 +1,114 @@
+//! Legal runs: events that are accepted, chosen at random, with the reference's state beside them.
+
+use crate::random::Random;
+use crate::records::{handover, report, stop, sync};
+use crate::reference::{State, MAX_MESSAGES, SCRATCH};
+
+/// How a run goes: one event in `send` is a send, one in `stop` a stop, and each pair of receiver and log owner
+/// has a weight. Weights of 0 let messages pile up and let logs differ in their order.
+pub struct Policy {
+    pub send: usize,
+    pub stop: usize,
+    pub links: [[usize; 7]; 7],
+}
+
+impl Policy {
+    pub fn even(send: usize) -> Policy {
+        Policy { send, stop: usize::MAX, links: [[1; 7]; 7] }
+    }
+
+    pub fn random(random: &mut Random) -> Policy {
+        let mut policy = Policy::even(random.pick(&[2, 3, 5, 10, 30]));
+        policy.stop = random.pick(&[15, 60, 300, usize::MAX]);
+        let weights: &[usize] = random.pick(&[&[1][..], &[0, 0, 1, 1, 5], &[0, 1, 1, 1, 20, 20], &[0, 0, 0, 1]]);
+        for row in &mut policy.links {
+            row.iter_mut().for_each(|link| *link = random.pick(weights));
+        }
+        policy
+    }
+}
+
+fn running(state: &State) -> Vec<usize> {
+    (1..=state.n).filter(|c| state.controllers[c - 1].running).collect()
+}
+
+pub fn highest_read(state: &State, owner: usize) -> usize {
+    state.controllers.iter().map(|c| c.read[owner - 1]).max().unwrap_or(0)
+}
+
+/// Every handover that reads an entry: receiver and owner.
+fn unread(state: &State) -> Vec<(usize, usize)> {
+    let links = running(state).into_iter().flat_map(|r| (1..=state.n).map(move |o| (r, o)));
+    links.filter(|(r, o)| state.controllers[r - 1].read[o - 1] < state.controllers[o - 1].log.len()).collect()
+}
+
+fn any_amount(random: &mut Random) -> i16 {
+    match random.pick(&[360, -360, 1, -1, 0]) {
+        0 => random.between(1, 360) as i16 * random.pick(&[1, -1]),
+        amount => amount,
+    }
+}
+
+fn legal_send(random: &mut Random, state: &State) -> Option<Vec<u8>> {
+    let may = |c: &usize| !state.controllers[c - 1].pending.keys().any(|name| name.sender == *c);
+    let senders: Vec<usize> = running(state).into_iter().filter(may).collect();
+    if senders.is_empty() || state.messages.len() >= MAX_MESSAGES {
+        return None;
+    }
+    let sender = random.pick(&senders);
+    Some(if random.one_in(4) { sync(sender) } else { report(sender, any_amount(random)) })
+}
+
+fn legal_handover(random: &mut Random, state: &State, policy: &Policy) -> Option<Vec<u8>> {
+    let links = unread(state);
+    let weighted: Vec<_> = links.iter().flat_map(|(r, o)| vec![(*r, *o); policy.links[r - 1][o - 1]]).collect();
+    let (receiver, owner) = match (weighted.is_empty(), links.is_empty()) {
+        (false, _) => random.pick(&weighted),
+        (_, false) => random.pick(&links),
+        _ => return None,
+    };
+    Some(handover(receiver, owner))
+}
+
+fn legal_stop(random: &mut Random, state: &State) -> Option<Vec<u8>> {
+    let running = running(state);
+    let controller = *running.get(random.below(running.len().max(1)))?;
+    let (low, high) = (highest_read(state, controller), state.controllers[controller - 1].log.len());
+    (low <= high).then(|| stop(controller, random.between(low, high)))
+}
+
+/// An event that is accepted, if there is one.
+pub fn legal_event(random: &mut Random, state: &State, policy: &Policy) -> Option<Vec<u8>> {
+    if random.one_in(policy.stop) {
+        return legal_stop(random, state);
+    }
+    let send_first = random.one_in(policy.send);
+    let send = if send_first { legal_send(random, state) } else { None };
+    send.or_else(|| legal_handover(random, state, policy)).or_else(|| legal_send(random, state))
+}
+
+/// Carries out an event on the generator's own state.
+pub fn follow(state: &mut State, bytes: &[u8], scratch: usize) -> u8 {
+    state.event(bytes, &mut vec![0; scratch]).0.number
+}
+
+/// Up to `events` legal events from a state, which is brought up to date.
+pub fn legal_run(random: &mut Random, state: &mut State, policy: &Policy, events: usize) -> Vec<Vec<u8>> {
+    let mut run = vec![];
+    for _ in 0..events {
+        let Some(bytes) = legal_event(random, state, policy) else { break };
+        follow(state, &bytes, SCRATCH);
+        run.push(bytes);
+    }
+    run
+}
+
+/// Handovers in random order until every running controller has read all.
+pub fn drain(random: &mut Random, state: &mut State) -> Vec<Vec<u8>> {
+    let mut run = vec![];
+    while let Some(bytes) = legal_handover(random, state, &Policy::even(1)) {
+        follow(state, &bytes, SCRATCH);
+        run.push(bytes);
+    }
+    run
+}
