@@ -1,14 +1,19 @@
 //! Times of the calls: library and reference on the same inputs, the table of each call restored outside the clock.
+//! And how much stack each call of the library needs.
 
 use crate::edges::dense_run;
 use crate::engine::{Engine, Library, Reference};
+use crate::file_cases::random_file;
 use crate::random::Random;
-use crate::records::{file_of, handover, report, stop};
-use crate::reference::{State, LISTING, SCRATCH};
+use crate::records::{file_of, handover, report, stop, sync};
+use crate::reference::{run_file, State, LISTING, SCRATCH};
 use crate::runs::{legal_run, Policy};
+use crate::stack::needed;
 use crate::table_cases::chain_place;
 use crate::tables::{to_state, to_table};
-use furnacejade::{Answer, ForwardNumber, Message, MessageNumber, Payload, Table};
+use furnacejade::{
+    calls, Answer, ForwardNumber, FreshAnswer, LookAnswer, Message, MessageNumber, Payload, RunAnswer, Table,
+};
 use std::hint::black_box;
 use std::time::{Duration, Instant};
 
@@ -72,47 +77,133 @@ fn run_table(n: usize) -> (Table, Vec<u8>) {
     (to_table(&state), file_of(n, &run))
 }
 
-/// The nanoseconds for each event of one run of a file.
-fn run(engine: &dyn Engine, file: &[u8]) -> f64 {
+/// The table that a file leaves.
+fn last_table(file: &[u8]) -> Table {
+    to_table(&run_file(file, &mut vec![0; LISTING], &mut vec![0; SCRATCH]).state.expect("a run"))
+}
+
+/// The nanoseconds for each event of one run of each file.
+fn runs(engine: &dyn Engine, files: &[Vec<u8>]) -> f64 {
     let (mut listing, mut scratch) = (vec![0xA5; LISTING], vec![0xA5; SCRATCH]);
-    let events = engine.run(file, &mut listing, &mut scratch).events as f64;
-    timed(|| engine.run(file, &mut listing, &mut scratch)).as_nanos() as f64 / events
+    let mut run = |file: &Vec<u8>| engine.run(file, &mut listing, &mut scratch);
+    let events: usize = files.iter().map(|file| run(file).events).sum();
+    let time: Duration = files.iter().map(|file| timed(|| run(file))).sum();
+    time.as_nanos() as f64 / events as f64
+}
+
+/// The nanoseconds for each event of a file whose records are carried out one by one.
+fn single_events(engine: &dyn Engine, file: &[u8]) -> f64 {
+    let (mut scratch, mut answer) = (vec![0xA5; SCRATCH], Answer::BLANK);
+    let (mut t, mut rest, mut events) = (engine.fresh(file[1] as usize).table, &file[2..], 0);
+    let time = timed(|| {
+        while !rest.is_empty() {
+            let left = engine.event(&mut t, rest, &mut scratch, &mut answer);
+            rest = &rest[rest.len() - left..];
+            events += 1;
+        }
+    });
+    time.as_nanos() as f64 / events as f64
 }
 
 fn row(name: &str, time: impl Fn(&dyn Engine) -> f64) {
     let (mut library, mut reference) = (f64::MAX, f64::MAX);
     for _ in 0..ROUNDS {
         reference = reference.min(time(&Reference));
-        library = library.min(time(&Library));
+        library = library.min(time(&Library { twice: false }));
     }
-    println!("{name:<48} {library:>12.0} {reference:>12.0} {:>8.1}", reference / library);
+    println!("{name:<56} {library:>12.0} {reference:>12.0} {:>8.1}", reference / library);
 }
 
-pub fn all() {
-    println!(
-        "nanoseconds for each call, the least of {ROUNDS} means of {CALLS}; scratch is dirty before each single call,
-and a file run gets scratch and listing as the run before left them"
-    );
-    println!("{:<48} {:>12} {:>12} {:>8}", "", "library", "reference", "ratio");
-    for n in [3, 7] {
-        let fresh = to_table(&State::fresh(n));
-        let (after_run, file) = run_table(n);
-        let state = to_state(&after_run);
-        let length = state.controllers[0].log.len();
-        row(&format!("n = {n}: fresh table"), |e| mean(|| timed(|| e.fresh(n))));
-        row(&format!("n = {n}: report, nothing pending"), |e| event(e, &fresh, &report(1, 5)));
-        row(&format!("n = {n}: stop after 200 events"), |e| event(e, &after_run, &stop(1, length)));
-        row(&format!("n = {n}: refused by question 8"), |e| event(e, &after_run, &stop(0, 0)));
-        row(&format!("n = {n}: look after 200 events"), |e| mean(|| timed(|| e.look(&after_run, 1))));
-        for (held, chain) in
-            [(2, false), (16, false), (32, false), (63, false), (2, true), (16, true), (32, true), (63, true)]
-        {
+fn rows_of(n: usize) {
+    let fresh = to_table(&State::fresh(n));
+    let (after_run, file) = run_table(n);
+    let length = to_state(&after_run).controllers[0].log.len();
+    row(&format!("n = {n}: fresh table"), |e| mean(|| timed(|| e.fresh(n))));
+    row(&format!("n = {n}: report, nothing pending"), |e| event(e, &fresh, &report(1, 5)));
+    row(&format!("n = {n}: stop after 200 events"), |e| event(e, &after_run, &stop(1, length)));
+    row(&format!("n = {n}: refused by question 8"), |e| event(e, &after_run, &stop(0, 0)));
+    row(&format!("n = {n}: look after 200 events"), |e| mean(|| timed(|| e.look(&after_run, 1))));
+    for chain in [false, true] {
+        for held in [2, 16, 32, 63] {
             let t = pending_table(n, held, chain);
             let what = if chain { "none applied (chain)" } else { "all applied" };
             row(&format!("n = {n}: handover, {held} pending, {what}"), |e| event(e, &t, &handover(1, 2)));
         }
-        row(&format!("n = {n}: file of 200 events, for each event"), |e| run(e, &file));
     }
+    row(&format!("n = {n}: file of 200 events, for each event"), |e| runs(e, std::slice::from_ref(&file)));
+}
+
+/// A file of seven controllers with 64 messages and every handover; with a stop of each at its end, and without.
+fn dense_files() -> (Vec<u8>, Vec<u8>) {
     let dense = dense_run();
-    row("n = 7: densest run of 3,207 events, for each", |e| run(e, &dense));
+    let stops = 7 * stop(1, 64).len();
+    (dense.clone(), dense[..dense.len() - stops].to_vec())
+}
+
+fn times() {
+    println!(
+        "nanoseconds for each call, the least of {ROUNDS} means of {CALLS}; scratch is dirty before each single call,
+and a file run gets scratch and listing as the run before left them"
+    );
+    println!("{:<56} {:>12} {:>12} {:>8}", "", "library", "reference", "ratio");
+    rows_of(3);
+    rows_of(7);
+    let (dense, running) = dense_files();
+    let full = last_table(&running);
+    row("n = 7: look at a full table of 64 messages", |e| mean(|| timed(|| e.look(&full, 1))));
+    row("n = 7: full table, a report refused by question 12", |e| event(e, &full, &report(1, 5)));
+    row("n = 7: full table, a handover refused by question 13", |e| event(e, &full, &handover(1, 2)));
+    row("n = 7: densest run of 3,207 events, for each", |e| runs(e, std::slice::from_ref(&dense)));
+    row("n = 7: densest run as single events, for each", |e| single_events(e, &dense));
+    let mut random = Random(100);
+    let files: Vec<Vec<u8>> = (0..100).map(|_| random_file(&mut random, 300)).collect();
+    row("a hundred random files of up to 300 events, for each", |e| runs(e, &files));
+}
+
+// ---------- stack ----------
+
+fn event_stack(table: &Table, bytes: &[u8]) -> usize {
+    let (mut t, mut scratch, mut answer) = (table.clone(), vec![0xA5; SCRATCH], Answer::BLANK);
+    needed(|| {
+        calls::event(&mut t, bytes, &mut scratch, &mut answer);
+    })
+}
+
+fn look_stack(table: &Table) -> usize {
+    let mut answer = LookAnswer::BLANK;
+    (0..=8).map(|c| needed(|| calls::look(table, c, &mut answer))).max().unwrap_or(0)
+}
+
+fn run_stack(file: &[u8]) -> usize {
+    let (mut listing, mut scratch, mut answer) = (vec![0; LISTING], vec![0; SCRATCH], Box::new(RunAnswer::BLANK));
+    needed(|| calls::run(file, &mut listing, &mut scratch, &mut answer))
+}
+
+fn fresh_stack() -> usize {
+    let mut answer = Box::new(FreshAnswer::BLANK);
+    (0..=8).map(|n| needed(|| calls::fresh(n, &mut answer))).max().unwrap_or(0)
+}
+
+/// The most that a call needed, over events of every kind, accepted and refused, on fresh, dense and broken tables.
+fn stacks() {
+    let (dense, running) = dense_files();
+    let mut tables = vec![Table::BLANK, last_table(&dense), last_table(&running)];
+    for n in [1, 3, 7] {
+        tables.extend([to_table(&State::fresh(n)), run_table(n).0]);
+    }
+    tables.extend([2, 63].into_iter().flat_map(|held| [false, true].map(|chain| pending_table(7, held, chain))));
+    let records =
+        [vec![], report(1, 5), report(1, 0), sync(1), handover(1, 2), handover(2, 1), stop(1, 64), stop(9, 0)];
+    let events = tables.iter().flat_map(|t| records.iter().map(|record| event_stack(t, record))).max();
+    let looks = tables.iter().map(look_stack).max();
+    let runs = [dense, running, run_table(3).1, vec![1], vec![1, 9]].iter().map(|file| run_stack(file)).max();
+    println!("\nbytes of stack that a call of the library needs, the most of what was tried");
+    for (name, most) in [("event", events), ("look", looks), ("fresh", Some(fresh_stack())), ("run", runs)] {
+        println!("{name:<56} {:>12}", most.unwrap_or(0));
+    }
+}
+
+pub fn all() {
+    stacks();
+    times();
 }

@@ -3,6 +3,7 @@
 use crate::case::Case;
 use crate::engine::{Engine, Reference};
 use crate::{compare, minimise};
+use std::any::Any;
 use std::panic::{catch_unwind, AssertUnwindSafe};
 use std::process::exit;
 use std::time::{Duration, Instant};
@@ -13,7 +14,12 @@ pub fn failure(case: &Case, engine: &dyn Engine) -> Option<String> {
         compare::difference(case, &Reference, engine)?;
         compare::demand3(case, engine)
     };
-    catch_unwind(AssertUnwindSafe(all)).unwrap_or(Err("panicked".into())).err()
+    catch_unwind(AssertUnwindSafe(all)).unwrap_or_else(|panic| Err(panic_text(&*panic))).err()
+}
+
+fn panic_text(panic: &(dyn Any + Send)) -> String {
+    let text = panic.downcast_ref::<&str>().copied().or(panic.downcast_ref::<String>().map(String::as_str));
+    format!("panicked: {}", text.unwrap_or_default())
 }
 
 /// What breaks demand 3 alone.

@@ -2,6 +2,7 @@
 //! reference with a fault.
 
 use crate::fields::table_from;
+use crate::stack::on_painted;
 use crate::{faults, tables};
 use furnacejade::{calls, Answer, FreshAnswer, LookAnswer, Panel, Refusal, RunAnswer, Table};
 use std::sync::LazyLock;
@@ -56,26 +57,74 @@ impl Engine for Faulty {
 /// A table in which every byte is dirt.
 static DIRTY: LazyLock<Table> = LazyLock::new(|| table_from(&[0xA5; size_of::<Table>()]));
 
-/// The library. Its places for answers are dirty, so that a field that it leaves unwritten is seen.
-pub struct Library;
+/// The library. Its places for answers are dirty, so that a field that it leaves unwritten is seen. If `twice`, each
+/// call is made again as users make it, on a stack that held something else, and must answer and leave the same.
+pub struct Library {
+    pub twice: bool,
+}
+
+/// What the stack holds before the first and the second of two equal calls.
+const PAINTS: [u8; 2] = [0xA5, 0x5A];
+
+impl Library {
+    fn event_again(&self, t: &mut Table, bytes: &[u8], scratch: &mut [u8], answer: &mut Answer) -> usize {
+        let (mut table, mut area, mut left) = (t.clone(), scratch.to_vec(), 0);
+        on_painted(PAINTS[0], || left = calls::event(t, bytes, scratch, answer));
+        let mut again = Err(Refusal::ACCEPTED);
+        on_painted(PAINTS[1], || again = furnacejade::event(&mut table, bytes, &mut area));
+        let first = answer.number.check().map(|()| (answer.clone(), &bytes[bytes.len() - left..]));
+        assert!(first == again, "two equal events answer differently");
+        assert!(*t == table && scratch == area, "two equal events leave something else");
+        left
+    }
+
+    fn run_again(&self, bytes: &[u8], listing: &mut [u8], scratch: &mut [u8], answer: &mut RunAnswer) {
+        let (mut lines, mut area) = (listing.to_vec(), scratch.to_vec());
+        on_painted(PAINTS[0], || calls::run(bytes, listing, scratch, answer));
+        let mut again = RunAnswer::BLANK;
+        on_painted(PAINTS[1], || again = furnacejade::run(bytes, &mut lines, &mut area));
+        assert!(*answer == again, "two equal runs answer differently");
+        assert!(listing == lines && scratch == area, "two equal runs leave something else");
+    }
+}
 
 impl Engine for Library {
     fn event(&self, t: &mut Table, bytes: &[u8], scratch: &mut [u8], answer: &mut Answer) -> usize {
-        calls::event(t, bytes, scratch, answer)
+        match self.twice {
+            true => self.event_again(t, bytes, scratch, answer),
+            false => calls::event(t, bytes, scratch, answer),
+        }
     }
     fn look(&self, t: &Table, c: usize) -> LookAnswer {
         let mut answer = LookAnswer { number: Refusal::from(0xA5), panel: Panel { total: -1 } };
         calls::look(t, c, &mut answer);
+        if self.twice {
+            let mut again = Err(Refusal::ACCEPTED);
+            on_painted(PAINTS[1], || again = furnacejade::look(t, c));
+            assert!(
+                again == answer.number.check().map(|()| answer.panel.clone()),
+                "two equal looks answer differently"
+            );
+        }
         answer
     }
     fn fresh(&self, n: usize) -> FreshAnswer {
         let mut answer = FreshAnswer { number: Refusal::from(0xA5), table: DIRTY.clone() };
         calls::fresh(n, &mut answer);
+        if self.twice {
+            let mut again = Err(Refusal::ACCEPTED);
+            on_painted(PAINTS[1], || again = furnacejade::fresh(n));
+            let first = answer.number.check().map(|()| answer.table.clone());
+            assert!(first == again, "two equal requests for a fresh table answer differently");
+        }
         answer
     }
     fn run(&self, bytes: &[u8], listing: &mut [u8], scratch: &mut [u8]) -> RunAnswer {
         let mut answer = RunAnswer { number: Refusal::from(0xA5), events: 77, written: 77, table: DIRTY.clone() };
-        calls::run(bytes, listing, scratch, &mut answer);
+        match self.twice {
+            true => self.run_again(bytes, listing, scratch, &mut answer),
+            false => calls::run(bytes, listing, scratch, &mut answer),
+        }
         answer
     }
 }

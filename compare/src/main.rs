@@ -11,7 +11,7 @@
 //!     reference N SEED      the reference alone: the folder, the edges, and its applied sets over all subsets
 //!     program PATH N SEED   an executable's output for N run files, and the library's
 //!     print                 what the program prints for the file on standard input
-//!     bench                 times
+//!     bench                 times, and the stack that each call needs
 
 mod bench;
 mod case;
@@ -32,6 +32,7 @@ mod random;
 mod records;
 mod reference;
 mod runs;
+mod stack;
 mod subsets;
 mod table_cases;
 mod tables;

@@ -10,6 +10,8 @@ use std::io::Write;
 use std::process::{exit, Command, Stdio};
 use std::time::Duration;
 
+const ONCE: Library = Library { twice: false };
+
 fn check_printed(print: impl Fn(&[u8]) -> Vec<u8>) {
     for (file, output) in edges::PRINTED {
         let found = print(&edges::bytes_of(file));
@@ -20,38 +22,49 @@ fn check_printed(print: impl Fn(&[u8]) -> Vec<u8>) {
     }
 }
 
-/// The edges, the kept cases and random ones through an engine. Answers how many were kept.
-fn check_all(engine: &dyn Engine, cases: usize, seed: u64) -> usize {
+/// A case that fails is made small and ends the program.
+fn check(name: &str, case: &Case, engine: &dyn Engine) {
+    if let Some(text) = failure(case, engine) {
+        report_and_exit(name, case, engine, &text);
+    }
+}
+
+/// The edges and the kept cases through an engine, and random ones through the engine that their index gives. Answers
+/// how many were kept.
+fn check_all(cases: usize, seed: u64, engine: impl Fn(usize) -> &'static dyn Engine) -> usize {
     println!("seed {seed}, {cases} cases");
     check_printed(reference::program);
-    if let Err(text) = edges::check(engine) {
+    if let Err(text) = edges::check(engine(0)) {
         println!("FAILED {text}");
         exit(1);
     }
     let kept = kept_cases();
-    for (name, case) in &kept {
-        if let Some(text) = failure(case, engine) {
-            report_and_exit(name, case, engine, &text);
-        }
-    }
+    kept.iter().for_each(|(name, case)| check(name, case, engine(0)));
     for index in 0..cases {
         let (kind, case) = generate::case(seed, index);
-        if let Some(text) = failure(&case, engine) {
-            report_and_exit(&format!("seed {seed} case {index} ({kind})"), &case, engine, &text);
-        }
+        check(&format!("seed {seed} case {index} ({kind})"), &case, engine(index));
     }
     kept.len()
 }
 
+/// One random case in so many is run twice. It has no factor in common with the number of kinds of cases.
+const TWICE_IN: usize = 9;
+
 /// The library against the reference.
 pub fn compare(cases: usize, seed: u64) {
-    let kept = check_all(&Library, cases, seed);
+    let library = |index: usize| -> &'static dyn Engine {
+        match index % TWICE_IN {
+            0 => &Library { twice: true },
+            _ => &ONCE,
+        }
+    };
+    let kept = check_all(cases, seed, library);
     println!("{kept} kept cases and {cases} random ones: library and reference agree");
 }
 
 /// The reference against its edges, demand 3 and the definition of the set that is applied.
 pub fn reference(cases: usize, seed: u64) {
-    let kept = check_all(&Reference, cases, seed);
+    let kept = check_all(cases, seed, |_| &Reference);
     let sets: usize = (0..cases).map(|index| check_subsets(&generate::case(seed, index).1)).sum();
     println!("{kept} kept cases, {cases} random ones, {sets} sets: the reference agrees with all subsets");
 }
@@ -225,9 +238,7 @@ pub fn program(path: &str, files: usize, seed: u64) {
     check_printed(|input| printed_by(path, input));
     let differs = |case: &Case| reference::program(file_bytes(case)) != printed_by(path, file_bytes(case));
     for case in (0..).filter_map(|index| as_lent(generate::case(seed, index).1)).take(files) {
-        if let Some(text) = failure(&case, &Library) {
-            report_and_exit("a file", &case, &Library, &text);
-        }
+        check("a file", &case, &ONCE);
         if differs(&case) {
             let small = minimise::minimise(&case, &differs);
             let (right, found) = (reference::program(file_bytes(&small)), printed_by(path, file_bytes(&small)));
@@ -243,5 +254,5 @@ pub fn program(path: &str, files: usize, seed: u64) {
 pub fn one(seed: u64, index: usize) {
     let (kind, case) = generate::case(seed, index);
     println!("{kind}\n{}", case.text());
-    println!("{:?}", failure(&case, &Library));
+    println!("{:?}", failure(&case, &Library { twice: true }));
 }
