@@ -17,7 +17,7 @@ use furnacejade::{
 use std::hint::black_box;
 use std::time::{Duration, Instant};
 
-/// How many calls a figure is the mean of, and how often it is taken, library and reference in turn; the least is printed.
+/// How many calls a figure is the mean of, and how often it is taken, library and reference in turn, for the least.
 const CALLS: usize = 100;
 const ROUNDS: usize = 20;
 

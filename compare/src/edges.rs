@@ -148,17 +148,16 @@ fn runs(engine: &dyn Engine) -> Result<(), String> {
     Ok(())
 }
 
-pub fn check(engine: &dyn Engine) -> Result<(), String> {
-    whole_run(engine)?;
-    fresh_tables(engine)?;
-    runs(engine)?;
+fn majority_of_four(engine: &dyn Engine) -> Result<(), String> {
     let mut s = Script::fresh(engine, 4);
     s.number(report(1, 5));
     s.number(handover(2, 1));
     s.number(handover(3, 1));
     expect(s.event(handover(1, 2)) == (0, vec![]), "n = 4, two marks")?;
-    expect(s.event(handover(1, 3)) == (0, vec![(1, 1)]), "n = 4, three marks")?;
+    expect(s.event(handover(1, 3)) == (0, vec![(1, 1)]), "n = 4, three marks")
+}
 
+fn sixty_four_messages(engine: &dyn Engine) -> Result<(), String> {
     let mut s = Script::fresh(engine, 1);
     for message in 1..=64 {
         expect(s.number(report(1, 360)) == 0, "a report up to the 64th")?;
@@ -166,29 +165,45 @@ pub fn check(engine: &dyn Engine) -> Result<(), String> {
         expect(s.event(handover(1, 1)) == (0, vec![(1, message)]), "n = 1: report and handover")?;
     }
     expect(s.number(report(1, 1)) == 12, "the 65th message")?;
-    expect(engine.look(&s.table, 1).panel.total == 23_040, "the greatest total")?;
+    expect(engine.look(&s.table, 1).panel.total == 23_040, "the greatest total")
+}
 
-    let amounts = [(360, 0), (-360, 0), (361, 9), (-361, 9), (0, 9)];
-    for (amount, number) in amounts {
+fn amounts(engine: &dyn Engine) -> Result<(), String> {
+    for (amount, number) in [(360, 0), (-360, 0), (361, 9), (-361, 9), (0, 9)] {
         expect(Script::fresh(engine, 2).number(report(1, amount)) == number, "amounts")?;
     }
+    Ok(())
+}
+
+fn lengths_kept(engine: &dyn Engine) -> Result<(), String> {
+    let play =
+        [report(1, 1), report(2, 1), report(3, 1), handover(1, 2), handover(1, 3), handover(2, 1), handover(2, 1)];
     for (kept, number) in [(1, 14), (2, 0), (3, 0), (4, 14)] {
         let mut s = Script::fresh(engine, 3);
-        for c in 1..=3 {
-            s.number(report(c, 1));
-        }
-        for owner in [2, 3] {
-            s.number(handover(1, owner));
-        }
-        for _ in 0..2 {
-            s.number(handover(2, 1));
+        for record in play.clone() {
+            s.number(record);
         }
         expect(s.number(stop(1, kept)) == number, "log length 3, highest read position 2")?;
     }
+    Ok(())
+}
+
+fn short_files(engine: &dyn Engine) -> Result<(), String> {
     let header = file_of(3, &[]);
     for (file, number) in [(&header[..1], 1), (&header, 0), (&[1, 8], 3)] {
         let run = engine.run(file, &mut [], &mut []);
         expect((run.number.number(), run.events, run.written) == (number, 0, 0), "short files")?;
     }
     Ok(())
+}
+
+pub fn check(engine: &dyn Engine) -> Result<(), String> {
+    whole_run(engine)?;
+    fresh_tables(engine)?;
+    runs(engine)?;
+    majority_of_four(engine)?;
+    sixty_four_messages(engine)?;
+    amounts(engine)?;
+    lengths_kept(engine)?;
+    short_files(engine)
 }

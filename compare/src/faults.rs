@@ -6,7 +6,10 @@ use std::sync::atomic::{AtomicUsize, Ordering};
 /// Every fault: its name, and what it does.
 pub const ALL: &[(&str, &str)] = include!(concat!(env!("OUT_DIR"), "/faults.rs"));
 
-static AWAKE: AtomicUsize = AtomicUsize::new(usize::MAX);
+/// No fault.
+pub const ASLEEP: usize = usize::MAX;
+
+static AWAKE: AtomicUsize = AtomicUsize::new(ASLEEP);
 
 /// Wakes a fault by its place in the list, and puts any other to sleep.
 pub fn wake(fault: usize) {

@@ -154,7 +154,9 @@ pub fn set_field(t: &mut Table, line: &str) {
     visit(t, |field, mut place| {
         if field == name {
             known = true;
-            numbers.next().into_iter().for_each(|number| place.set(number));
+            if let Some(number) = numbers.next() {
+                place.set(number);
+            }
         }
     });
     assert!(known && numbers.next().is_none(), "no such field, or not so many numbers: {line}");

@@ -1,10 +1,11 @@
 //! All kinds of random cases in turn, each case from a seed and its index alone.
 
+use crate::broken_tables::table_broken;
 use crate::case::Case;
 use crate::file_cases::{file_limits, file_mangled, file_questions};
 use crate::list_cases::{boundaries, drained, fresh_any, full, list};
 use crate::random::Random;
-use crate::table_cases::{table_broken, table_flipped, table_good, table_random};
+use crate::table_cases::{table_flipped, table_good, table_random};
 
 /// A kind of case: its name, and how to make one.
 pub type CaseKind = (&'static str, fn(&mut Random) -> Case);

@@ -14,6 +14,7 @@
 //!     bench                 times, and the stack that each call needs
 
 mod bench;
+mod broken_tables;
 mod case;
 mod check;
 mod compare;

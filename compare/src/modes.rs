@@ -34,9 +34,11 @@ fn check(name: &str, case: &Case, engine: &dyn Engine) {
 fn check_all(cases: usize, seed: u64, engine: impl Fn(usize) -> &'static dyn Engine) -> usize {
     println!("seed {seed}, {cases} cases");
     check_printed(reference::program);
-    if let Err(text) = edges::check(engine(0)) {
-        println!("FAILED {text}");
-        exit(1);
+    for (name, engine) in [("reference", &Reference as &dyn Engine), ("under test", engine(0))] {
+        if let Err(text) = edges::check(engine) {
+            println!("FAILED ({name}) {text}");
+            exit(1);
+        }
     }
     let kept = kept_cases();
     kept.iter().for_each(|(name, case)| check(name, case, engine(0)));
@@ -110,6 +112,8 @@ pub fn faults(by: &str, folder: Option<&String>, only: Option<&String>) {
     let kept = if by.is_empty() { kept_cases() } else { vec![] };
     let most = if by == "demand3" { 400 } else { 3200 };
     let cases: Vec<(String, Case)> = kept.into_iter().chain(random).take(most).collect();
+    // What is found must be the fault's doing: while all sleep, the copy is the reference.
+    cases.iter().take(160).for_each(|(name, case)| check(name, case, &Faulty(faults::ASLEEP)));
     let mut missed = 0;
     for (fault, (name, meaning)) in faults::ALL.iter().enumerate() {
         if only.is_some_and(|only| only != name) {
@@ -118,7 +122,9 @@ pub fn faults(by: &str, folder: Option<&String>, only: Option<&String>) {
         match find_fault(fault, by, &cases) {
             Some((finder, case, text)) => {
                 println!("{name} ({meaning})\n    found by {finder}: {text}");
-                folder.iter().for_each(|folder| keep_small(folder, fault, case, &text));
+                if let Some(folder) = folder {
+                    keep_small(folder, fault, case, &text);
+                }
             }
             None => {
                 missed += 1;

@@ -1,4 +1,4 @@
-//! Odd values and calls: numbers and records at the boundaries of their questions, mangled bytes, scratch of every size.
+//! Odd values and calls: numbers and records at the boundaries of their questions, mangled bytes, scratch of any size.
 
 use crate::case::Call;
 use crate::random::Random;

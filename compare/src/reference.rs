@@ -1,5 +1,5 @@
 //! docs/RULES.md written down as directly as possible: sets and maps, the source's lines, the questions in order.
-//! Slow and plain on purpose, and made from the rules alone. The faults of the folder `faults` edit a copy of this text.
+//! Slow and plain on purpose, and made from the rules alone. The faults of the folder `faults` edit a copy of it.
 
 use std::collections::{BTreeMap, BTreeSet};
 
