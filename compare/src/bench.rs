@@ -48,7 +48,7 @@ fn pending_table(n: usize, held: usize, chain: bool) -> Table {
     t.count = held + 1;
     for slot in 0..=held {
         let (sender, number) = if slot == held { (2, held + 1) } else { (1 + slot % n, slot / n + 1) };
-        let payload = Payload { kind: 1, added: 1, withdrawn: 0 };
+        let payload = Payload { kind: 1, added: 1, ..Payload::BLANK };
         t.messages[slot] = Message { sender: sender as u8, number: MessageNumber(number as u8), payload };
     }
     for c in &mut t.controllers[..n] {

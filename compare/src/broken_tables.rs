@@ -43,7 +43,7 @@ impl<'a> Break<'a> {
 
     fn payload(&mut self, kind: u8, added: &[u16], withdrawn: &[u16]) {
         let (added, withdrawn) = (self.random.pick(added), self.random.pick(withdrawn));
-        self.message().payload = Payload { kind, added, withdrawn };
+        self.message().payload = Payload { kind, added, withdrawn, ..Payload::BLANK };
     }
 
     /// A stopped controller is asked fewer clauses, so that the one that is broken stands alone.
@@ -195,7 +195,7 @@ const WAYS: &[Way] = &[
     (|b| b.mark(0, b.t.n - 1, &[0]), false),
     (|b| b.mark(0, b.t.n - 1, &[65]), false),
     (|b| b.mark(0, b.t.n - 1, &[66, 128, 254]), false),
-    (|b| b.mark(b.t.n.min(6), 6, &[0, 65, 254]), false),
+    (|b| b.mark(b.t.n - 1, b.t.n - 1, &[0, 65, 254]), false),
     (|b| b.apply(b.held), true),
     (|b| b.one_higher(), false),
     (|b| b.one_lower(), false),

@@ -83,6 +83,21 @@ fn fresh_tables(engine: &dyn Engine) -> Result<(), String> {
     Ok(())
 }
 
+/// A mark that is neither absent nor from 1 to 64 is refused at controller n, and not tested above.
+fn marks_above_n(engine: &dyn Engine) -> Result<(), String> {
+    for n in 1..=7 {
+        let mut s = Script::fresh(engine, n);
+        s.number(report(1, 5));
+        for (f, wrong) in (0..7).flat_map(|f| [0, 65, 254].map(|wrong| (f, wrong))) {
+            let mut t = s.table.clone();
+            t.controllers[0].pending[0].marks[f] = ForwardNumber(wrong);
+            let number = if f < n { 4 } else { 0 };
+            expect(engine.look(&t, 1).number.number() == number, "marks up to n and above")?;
+        }
+    }
+    Ok(())
+}
+
 /// Seven controllers, 64 messages and every handover, and then a stop of each: 3,207 events.
 pub fn dense_run() -> Vec<u8> {
     let mut script = Script::fresh(&Reference, 7);
@@ -200,6 +215,7 @@ fn short_files(engine: &dyn Engine) -> Result<(), String> {
 pub fn check(engine: &dyn Engine) -> Result<(), String> {
     whole_run(engine)?;
     fresh_tables(engine)?;
+    marks_above_n(engine)?;
     runs(engine)?;
     majority_of_four(engine)?;
     sixty_four_messages(engine)?;

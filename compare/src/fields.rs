@@ -1,11 +1,11 @@
-//! The fields of a table by name: for cases as text, for tables of random bytes, and for making a table plain.
+//! The fields of a table by name, for cases as text.
 
 use crate::reference::State;
 use crate::tables::to_table;
 use furnacejade::{Controller, Message, Payload, Pending, Table};
 
 /// One number of a table.
-pub enum Place<'a> {
+enum Place<'a> {
     Byte(&'a mut u8),
     Short(&'a mut u16),
     Long(&'a mut usize),
@@ -22,41 +22,32 @@ impl Place<'_> {
 
     fn set(&mut self, value: usize) {
         match self {
-            Place::Byte(x) => **x = value as u8,
-            Place::Short(x) => **x = value as u16,
+            Place::Byte(x) => **x = value.try_into().expect("a number below 256"),
+            Place::Short(x) => **x = value.try_into().expect("a number below 65,536"),
             Place::Long(x) => **x = value,
-        }
-    }
-
-    /// How many bytes the number has.
-    fn width(&self) -> usize {
-        match self {
-            Place::Byte(_) => 1,
-            Place::Short(_) => 2,
-            Place::Long(_) => 8,
         }
     }
 }
 
 /// A field: its controller, or 0 if it is no controller's, and its name.
-pub type Field = (usize, &'static str);
+type Field = (usize, &'static str);
 
 /// Every number of a table with its field, those of one field in order. A struct is taken apart whole, so that a field
 /// that is new in it cannot be forgotten here.
-pub fn visit(t: &mut Table, mut see: impl FnMut(Field, Place)) {
+fn visit(t: &mut Table, mut see: impl FnMut(Field, Place)) {
     let Table { n, count, messages, controllers } = t;
     see((0, "n"), Place::Long(n));
     see((0, "count"), Place::Long(count));
-    for Message { sender, number, payload: Payload { kind, added, withdrawn } } in messages {
+    for Message { sender, number, payload: Payload { kind, spare, added, withdrawn } } in messages {
         see((0, "messages.sender"), Place::Byte(sender));
         see((0, "messages.number"), Place::Byte(&mut number.0));
         see((0, "messages.kind"), Place::Byte(kind));
+        see((0, "messages.spare"), Place::Byte(spare));
         see((0, "messages.added"), Place::Short(added));
         see((0, "messages.withdrawn"), Place::Short(withdrawn));
     }
     for (c, controller) in (1..).zip(controllers) {
-        let Controller { running, length, log, read, pending, applied, highest } = controller;
-        see((c, "running"), Place::Byte(running));
+        let Controller { length, log, read, pending, applied, highest, running } = controller;
         see((c, "length"), Place::Long(length));
         log.iter_mut().for_each(|x| see((c, "log"), Place::Byte(x)));
         read.iter_mut().for_each(|x| see((c, "read"), Place::Long(x)));
@@ -66,29 +57,9 @@ pub fn visit(t: &mut Table, mut see: impl FnMut(Field, Place)) {
         }
         applied.iter_mut().for_each(|x| see((c, "applied"), Place::Byte(x)));
         highest.iter_mut().for_each(|x| see((c, "highest"), Place::Byte(&mut x.0)));
+        see((c, "running"), Place::Byte(running));
     }
 }
-
-// ---------- as bytes ----------
-
-/// The numbers of a table in order, each with its high byte first.
-pub fn table_bytes(t: &Table) -> Vec<u8> {
-    let mut bytes = vec![];
-    visit(&mut t.clone(), |_, place| bytes.extend(&place.get().to_be_bytes()[8 - place.width()..]));
-    bytes
-}
-
-/// The table of such bytes.
-pub fn table_from(bytes: &[u8]) -> Table {
-    let (mut t, mut left) = (Table::BLANK, bytes.iter());
-    visit(&mut t, |_, mut place| {
-        let digits = left.by_ref().take(place.width());
-        place.set(digits.fold(0, |x, byte| x << 8 | *byte as usize));
-    });
-    t
-}
-
-// ---------- as text ----------
 
 /// A field and its numbers.
 type Column = (Field, Vec<usize>);

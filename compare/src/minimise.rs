@@ -1,7 +1,8 @@
 //! Makes a failing case small: fewer controllers, calls, records, bytes, and fields that are not as in a fresh table.
 
 use crate::case::{Call, Case, Head};
-use crate::fields::{plain_table, table_bytes, table_from};
+use crate::fields::plain_table;
+use furnacejade::Table;
 
 /// A case that fails, and what it means to fail.
 struct Search<'a> {
@@ -74,18 +75,18 @@ impl Search<'_> {
     }
 
     fn plainer_table(&mut self) {
-        let plain = table_bytes(&plain_table());
+        let plain = *plain_table().as_bytes();
         for stretch in [1024, 256, 64, 16, 4, 1] {
             let mut at = 0;
             while let Head::Table(t) = &self.case.head {
-                let mut bytes = table_bytes(t);
+                let mut bytes = *t.as_bytes();
                 if at >= bytes.len() {
                     break;
                 }
                 let end = (at + stretch).min(bytes.len());
                 if bytes[at..end] != plain[at..end] {
                     bytes[at..end].copy_from_slice(&plain[at..end]);
-                    let head = Head::Table(Box::new(table_from(&bytes)));
+                    let head = Head::Table(Box::new(Table::from_bytes(&bytes)));
                     self.keep(Case { head, calls: self.case.calls.clone() });
                 }
                 at = end;

@@ -2,7 +2,6 @@
 //! with a few bytes changed; and random bytes.
 
 use crate::case::{Call, Case, Head};
-use crate::fields::{table_bytes, table_from};
 use crate::odd::{any_calls, any_event, any_number, any_scratch};
 use crate::random::Random;
 use crate::reference::State;
@@ -13,10 +12,8 @@ use furnacejade::{Controller, ForwardNumber, Message, MessageNumber, Payload, Ta
 const ABSENT: ForwardNumber = ForwardNumber::ABSENT;
 
 fn junk_table(random: &mut Random) -> Table {
-    let length = table_bytes(&Table::BLANK).len();
     let low = random.one_in(2);
-    let bytes: Vec<u8> = (0..length).map(|_| if low { random.byte() % 3 } else { random.byte() }).collect();
-    table_from(&bytes)
+    Table::from_bytes(&std::array::from_fn(|_| if low { random.byte() % 3 } else { random.byte() }))
 }
 
 fn yes(random: &mut Random) -> u8 {
@@ -100,10 +97,11 @@ fn set_messages(random: &mut Random, t: &mut Table) -> Option<()> {
     for slot in 0..t.count {
         let (sender, number) = *names.get(slot)?;
         let magnitude = random.pick(&[1, 360, 359, 7]);
+        let junk = Payload { spare: random.byte(), ..Payload::BLANK };
         let payload = match random.below(3) {
-            0 => Payload { kind: 2, added: 0, withdrawn: 0 },
-            1 => Payload { kind: 1, added: magnitude, withdrawn: 0 },
-            _ => Payload { kind: 1, added: 0, withdrawn: magnitude },
+            0 => Payload { kind: 2, ..junk },
+            1 => Payload { kind: 1, added: magnitude, ..junk },
+            _ => Payload { kind: 1, withdrawn: magnitude, ..junk },
         };
         t.messages[slot] = Message { sender, number: MessageNumber(number), payload };
     }
@@ -130,6 +128,9 @@ pub fn good_table(random: &mut Random, n: usize, count: usize) -> Table {
                 c.applied[slot] = if known && !pending { yes(random) } else { 0 };
             }
             set_marks(random, c, count);
+            if random.one_in(2) {
+                c.pending.iter_mut().for_each(|p| p.marks[n..].fill_with(|| ForwardNumber(random.byte())));
+            }
         }
         let lengths: Vec<usize> = t.controllers[..n].iter().map(|c| c.length).collect();
         for c in &mut t.controllers[..n] {
@@ -168,12 +169,12 @@ pub fn blind_calls(random: &mut Random, t: &Table) -> Vec<Call> {
 
 pub fn table_flipped(random: &mut Random) -> Case {
     let (n, count) = (random.between(1, 7), any_count(random));
-    let mut bytes = table_bytes(&good_table(random, n, count));
+    let mut bytes = *good_table(random, n, count).as_bytes();
     for _ in 0..random.between(1, 3) {
         let at = random.below(bytes.len());
         bytes[at] = if random.one_in(2) { bytes[at] ^ 1 << random.below(8) } else { random.byte() };
     }
-    let t = table_from(&bytes);
+    let t = Table::from_bytes(&bytes);
     Case { calls: blind_calls(random, &t), head: Head::Table(Box::new(t)) }
 }
 

@@ -60,7 +60,7 @@ fn well_formed_controller(t: &Table, c: usize) -> bool {
     let read_within = (0..t.n).all(|o| own.read[o] <= t.controllers[o].length);
     let pending_of_run = pending & behind == 0;
     let applied_of_run = applied & behind == 0;
-    let marks_in_range = own.pending.iter().all(|p| p.held == 0 || p.marks.iter().all(mark_in_range));
+    let marks_in_range = own.pending.iter().all(|p| p.held == 0 || p.marks[..t.n].iter().all(mark_in_range));
     let not_both = pending & applied == 0;
     let highest_agree = (1..=t.n).all(|sender| own.highest[sender - 1].0 == highest_applied(t, own, sender));
     let exact = !running || log == known;
@@ -125,9 +125,10 @@ pub fn to_state(t: &Table) -> State {
 fn store_message(m: &reference::Message) -> Message {
     let payload = match m.payload {
         Kind::Report(amount) => {
-            Payload { kind: REPORT, added: amount.max(0) as u16, withdrawn: (-amount).max(0) as u16 }
+            let (added, withdrawn) = (amount.max(0) as u16, (-amount).max(0) as u16);
+            Payload { kind: REPORT, added, withdrawn, ..Payload::BLANK }
         }
-        Kind::Sync => Payload { kind: SYNC, added: 0, withdrawn: 0 },
+        Kind::Sync => Payload { kind: SYNC, ..Payload::BLANK },
     };
     Message { sender: m.name.sender as u8, number: MessageNumber(m.name.number as u8), payload }
 }
@@ -187,7 +188,8 @@ pub fn meaning(t: &Table) -> Table {
         to.highest[..t.n].copy_from_slice(&from.highest[..t.n]);
         to.applied = from.applied.map(|applied| (applied != 0) as u8);
         for (to, from) in to.pending.iter_mut().zip(&from.pending).filter(|(_, from)| from.held != 0) {
-            *to = Pending { held: 1, marks: from.marks };
+            to.held = 1;
+            to.marks[..t.n].copy_from_slice(&from.marks[..t.n]);
         }
     }
     plain

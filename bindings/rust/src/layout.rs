@@ -29,6 +29,8 @@ pub struct MessageNumber(pub u8);
 pub struct Payload {
     /// [`Payload::REPORT`] or [`Payload::SYNC`].
     pub kind: u8,
+    /// Written 0, neither tested nor used.
+    pub spare: u8,
     /// The amount if it is positive, else 0.
     pub added: u16,
     /// The magnitude of the amount if it is negative, else 0.
@@ -71,8 +73,6 @@ pub struct Pending {
 #[repr(C)]
 #[derive(Clone, Debug, PartialEq, Eq, Hash)]
 pub struct Controller {
-    /// Whether it runs: 0 is no, anything else yes.
-    pub running: u8,
     /// How many entries its log has.
     pub length: usize,
     /// The slots that it forwarded, in order.
@@ -85,6 +85,8 @@ pub struct Controller {
     pub applied: [u8; MESSAGES],
     /// The highest number applied of each sender, or [`MessageNumber::NONE`].
     pub highest: [MessageNumber; CONTROLLERS],
+    /// Whether it runs: 0 is no, anything else yes.
+    pub running: u8,
 }
 
 /// The table of a run, which its owner keeps and lends to each call. Any values may be lent: a table that is not well
@@ -176,12 +178,14 @@ impl Payload {
 
     /// The kind of a sync, which has none.
     pub const SYNC: u8 = 2;
+
+    /// Every field zero.
+    pub const BLANK: Payload = Payload { kind: 0, spare: 0, added: 0, withdrawn: 0 };
 }
 
 impl Message {
     /// Every field zero.
-    pub const BLANK: Message =
-        Message { sender: 0, number: MessageNumber::NONE, payload: Payload { kind: 0, added: 0, withdrawn: 0 } };
+    pub const BLANK: Message = Message { sender: 0, number: MessageNumber::NONE, payload: Payload::BLANK };
 }
 
 impl Name {
@@ -203,13 +207,13 @@ impl Pending {
 impl Controller {
     /// Every field zero.
     pub const BLANK: Controller = Controller {
-        running: 0,
         length: 0,
         log: [0; MESSAGES],
         read: [0; CONTROLLERS],
         pending: [Pending::BLANK; MESSAGES],
         applied: [0; MESSAGES],
         highest: [MessageNumber::NONE; CONTROLLERS],
+        running: 0,
     };
 }
 
@@ -217,6 +221,24 @@ impl Table {
     /// Every field zero: the table of a refused answer, which is not well formed.
     pub const BLANK: Table =
         Table { n: 0, count: 0, messages: [Message::BLANK; MESSAGES], controllers: [Controller::BLANK; CONTROLLERS] };
+
+    /// The table as it lies in memory, to be saved, sent to a machine of the same kind, or compared.
+    ///
+    /// ```
+    /// use furnacejade::{fresh, Table};
+    /// let table = fresh(3).unwrap();
+    /// assert_eq!(Table::from_bytes(table.as_bytes()), table);
+    /// ```
+    pub fn as_bytes(&self) -> &[u8; size_of::<Table>()] {
+        // No byte of a table is padding, as is asserted below, so that all have been set.
+        unsafe { &*std::ptr::from_ref(self).cast() }
+    }
+
+    /// The table that lies in these bytes. Every pattern is a table, though few are well formed.
+    pub fn from_bytes(bytes: &[u8; size_of::<Table>()]) -> Table {
+        // Every field is a number, of which every pattern of bytes is a value.
+        unsafe { std::mem::transmute(*bytes) }
+    }
 }
 
 impl Panel {
@@ -270,18 +292,18 @@ macro_rules! layout {
     };
 }
 
-// The layouts that the library was compiled with.
+// The layouts that the library was compiled with. A table, and every struct inside one, is its fields and nothing more.
 layout!(ForwardNumber, 1 bytes, 0 of padding: 0 at 0);
 layout!(MessageNumber, 1 bytes, 0 of padding: 0 at 0);
-layout!(Payload, 6 bytes, 1 of padding: kind at 0, added at 2, withdrawn at 4);
+layout!(Payload, 6 bytes, 0 of padding: kind at 0, spare at 1, added at 2, withdrawn at 4);
 layout!(Message, 8 bytes, 0 of padding: sender at 0, number at 1, payload at 2);
 layout!(Name, 2 bytes, 0 of padding: sender at 0, number at 1);
 layout!(Pending, 8 bytes, 0 of padding: held at 0, marks at 1);
-layout!(Controller, 720 bytes, 8 of padding: running at 0, length at 8, log at 16, read at 80, pending at 136,
-    applied at 648, highest at 712);
-layout!(Table, 5568 bytes, 0 of padding: n at 0, count at 8, messages at 16, controllers at 528);
+layout!(Controller, 712 bytes, 0 of padding: length at 0, log at 8, read at 72, pending at 128, applied at 640,
+    highest at 704, running at 711);
+layout!(Table, 5512 bytes, 0 of padding: n at 0, count at 8, messages at 16, controllers at 528);
 layout!(Panel, 4 bytes, 0 of padding: total at 0);
 layout!(Answer, 144 bytes, 2 of padding: number at 0, finished at 1, panel at 4, size at 8, names at 16);
-layout!(FreshAnswer, 5576 bytes, 7 of padding: number at 0, table at 8);
+layout!(FreshAnswer, 5520 bytes, 7 of padding: number at 0, table at 8);
 layout!(LookAnswer, 8 bytes, 3 of padding: number at 0, panel at 4);
-layout!(RunAnswer, 5592 bytes, 7 of padding: number at 0, events at 8, written at 16, table at 24);
+layout!(RunAnswer, 5536 bytes, 7 of padding: number at 0, events at 8, written at 16, table at 24);

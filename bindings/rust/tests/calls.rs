@@ -81,6 +81,15 @@ fn a_refused_answer_is_blank_but_for_its_number() {
 }
 
 #[test]
+fn any_bytes_are_a_table() {
+    let mut table = Table::from_bytes(&[0xA5; size_of::<Table>()]);
+    let before = *table.as_bytes();
+    assert_eq!(look(&table, 1), Err(Refusal::TABLE));
+    assert_eq!(event(&mut table, &[], &mut []), Err(Refusal::TABLE));
+    assert_eq!(*table.as_bytes(), before);
+}
+
+#[test]
 fn numbers_have_names_and_texts() {
     for (number, (refusal, _, question)) in Refusal::ALL.iter().enumerate() {
         assert_eq!((refusal.number() as usize, refusal.to_string()), (number, question.to_string()));
