@@ -39,7 +39,7 @@ fn faults_of(text: &str) -> Vec<Fault> {
         };
         let edits = &mut faults.last_mut().expect("a fault above its edits").edits;
         let added = line.starts_with('+');
-        if edits.last().is_none_or(|edit| !added && !edit.new.is_empty()) {
+        if edits.last().map_or(true, |edit| !added && !edit.new.is_empty()) {
             edits.push(Edit::default());
         }
         let edit = edits.last_mut().unwrap();

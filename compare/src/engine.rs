@@ -4,7 +4,7 @@
 use crate::stack::on_painted;
 use crate::{faults, tables};
 use furnacejade::{calls, Answer, FreshAnswer, LookAnswer, Panel, Refusal, RunAnswer, Table};
-use std::sync::LazyLock;
+use std::mem::size_of;
 
 pub trait Engine {
     /// Answers how many bytes are left.
@@ -54,7 +54,9 @@ impl Engine for Faulty {
 }
 
 /// A table in which every byte is dirt.
-static DIRTY: LazyLock<Table> = LazyLock::new(|| Table::from_bytes(&[0xA5; size_of::<Table>()]));
+fn dirty_table() -> Table {
+    Table::from_bytes(&[0xA5; size_of::<Table>()])
+}
 
 /// The library. Its places for answers are dirty, so that a field that it leaves unwritten is seen. If `twice`, each
 /// call is made again as users make it, on a stack that held something else: it must answer the same and leave the same
@@ -108,7 +110,7 @@ impl Engine for Library {
         answer
     }
     fn fresh(&self, n: usize) -> FreshAnswer {
-        let mut answer = FreshAnswer { number: Refusal::from(0xA5), table: DIRTY.clone() };
+        let mut answer = FreshAnswer { number: Refusal::from(0xA5), table: dirty_table() };
         calls::fresh(n, &mut answer);
         if self.twice {
             let mut again = Err(Refusal::ACCEPTED);
@@ -119,7 +121,7 @@ impl Engine for Library {
         answer
     }
     fn run(&self, bytes: &[u8], listing: &mut [u8], scratch: &mut [u8]) -> RunAnswer {
-        let mut answer = RunAnswer { number: Refusal::from(0xA5), events: 77, written: 77, table: DIRTY.clone() };
+        let mut answer = RunAnswer { number: Refusal::from(0xA5), events: 77, written: 77, table: dirty_table() };
         match self.twice {
             true => self.run_again(bytes, listing, scratch, &mut answer),
             false => calls::run(bytes, listing, scratch, &mut answer),

@@ -5,6 +5,7 @@ use std::any::Any;
 use std::arch::asm;
 use std::cell::RefCell;
 use std::panic::{catch_unwind, resume_unwind, AssertUnwindSafe};
+use std::ptr::addr_of_mut;
 
 /// Far more than any call needs.
 const SIZE: usize = 256 * 1024;
@@ -42,7 +43,7 @@ pub fn on_painted(paint: u8, mut call: impl FnMut()) {
                 "mov rsp, r12",
                 top = in(reg) top,
                 carry_out = sym carry_out,
-                in("rdi") &raw mut job,
+                in("rdi") addr_of_mut!(job),
                 out("r12") _,
                 clobber_abi("C"),
             );

@@ -2,6 +2,7 @@
 
 use furnacejade::{calls, event, file_of, fresh, look, run};
 use furnacejade::{Answer, LookAnswer, MessageNumber, Name, Panel, Record, Refusal, RunAnswer, Table, SCRATCH};
+use std::mem::size_of;
 
 const WORKED: &[u8] = include_bytes!("../../worked.run");
 
