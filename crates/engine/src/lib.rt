@@ -1,9 +1,9 @@
 // The calls that others make, from Rattle, C and Rust. Each hands what it is lent to the by-value function that
 // answers it and stores what comes back. Its contract is an equation for its result and for all that it may write.
 ghost use mathlib.Core.Path.{_≡_};
-ghost use lib.ListN.{length, drop};
 ghost use Rattle.model.specs.Calls.{look, freshTable};
-ghost use Rattle.events.specs.Stepped.{stepped, scratchLeft, runOf, runListing, runScratch};
+ghost use Rattle.events.specs.Stepped.{Runs};
+ghost use Rattle.engine.specs.Called.{Called, Counted};
 
 // One event, of the record with which the bytes begin. The result is the part of the caller's bytes that is unread.
 pub fn event<'t, 'a, 's, 'o>(
@@ -12,15 +12,12 @@ pub fn event<'t, 'a, 's, 'o>(
     scratch: &'s mut [u8],
     answer: &'o mut model::Answer,
 ) -> &'a [u8]
-    ensures { λ r. ⌜ (now (t .exit) ≡ stepped (now (t .entry)) (now (bytes .entry)) (length (now (scratch .entry))) .table)
-        × (now (answer .exit) ≡ stepped (now (t .entry)) (now (bytes .entry)) (length (now (scratch .entry))) .answer)
-        × (now r ≡ drop (stepped (now (t .entry)) (now (bytes .entry)) (length (now (scratch .entry))) .used) (now (bytes .entry)))
-        × (now (scratch .exit) ≡ scratchLeft (now (t .entry)) (now (bytes .entry)) (now (scratch .entry))) ⌝ }
+    ensures { λ r. ⌜ Called (now (t .entry)) (now (bytes .entry)) (now (scratch .entry)) (now (t .exit)) (now (answer .exit)) (now r) (now (scratch .exit)) ⌝ }
 {
     let s = events::event(*t, bytes, scratch);
     *t = s.table;
     *answer = s.answer;
-    records::rest(bytes, s.used)
+    records::behind(bytes, s.used)
 }
 
 // The same for callers that no reference can be handed back to: the result is how many bytes are unread.
@@ -31,10 +28,7 @@ pub extern "C" fn furnacejade_event(
     scratch: &mut [u8],
     answer: &mut model::Answer,
 ) -> usize
-    ensures { λ r. ⌜ (r ≡ length (drop (stepped (now (t .entry)) (now (bytes .entry)) (length (now (scratch .entry))) .used) (now (bytes .entry))))
-        × (now (t .exit) ≡ stepped (now (t .entry)) (now (bytes .entry)) (length (now (scratch .entry))) .table)
-        × (now (answer .exit) ≡ stepped (now (t .entry)) (now (bytes .entry)) (length (now (scratch .entry))) .answer)
-        × (now (scratch .exit) ≡ scratchLeft (now (t .entry)) (now (bytes .entry)) (now (scratch .entry))) ⌝ }
+    ensures { λ r. ⌜ Counted (now (t .entry)) (now (bytes .entry)) (now (scratch .entry)) (now (t .exit)) (now (answer .exit)) r (now (scratch .exit)) ⌝ }
 {
     let left = event(t, bytes, scratch, answer);
     left.len()
@@ -64,9 +58,7 @@ pub extern "C" fn furnacejade_run(
     scratch: &mut [u8],
     answer: &mut model::RunAnswer,
 )
-    ensures { λ _. ⌜ (now (answer .exit) ≡ runOf (now (bytes .entry)) (now (listing .entry)) (now (scratch .entry)))
-        × (now (listing .exit) ≡ runListing (now (bytes .entry)) (now (listing .entry)) (now (scratch .entry)))
-        × (now (scratch .exit) ≡ runScratch (now (bytes .entry)) (now (listing .entry)) (now (scratch .entry))) ⌝ }
+    ensures { λ _. ⌜ Runs (now (bytes .entry)) (now (listing .entry)) (now (scratch .entry)) (now (answer .exit)) (now (listing .exit)) (now (scratch .exit)) ⌝ }
 {
-    *answer = events::run_file(bytes, listing, scratch);
+    *answer = events::files::run(bytes, listing, scratch);
 }

@@ -1,7 +1,8 @@
 -- `furnacejade_event` meets its contract: a walk of its MIR, by hand. All that it is lent is lent on to `event` for good, at its own lifetimes, shares and names, so what it has at entry is what `event` asks, by computation.
 -- Assumes nothing.
 use Rattle.engine.proofs.Walk.{_≡_, refl, ap, ℕ, _<_, _^_, [], _∷_, List, length, dropped, URA, named, erased, w64, Val, vint, SProp, ent, Lft, Share, ftrue, flft, fres, Memory, Routine, Heap, Calls, Loops, WpFn, Atoms, Fun, givenOf, tables, Given, Item, ‵, raw, _⊛_, ⋆, _$_, _∵_, !, qed, by, move, keep, drop, use1, fsplit, fjoin, suffices, frame, done, look, init, stop, hop, fld, from, load, addr, of-opd, and-then, no-more, assigns, land, returns, enter, alloc1, alloc0, params1, pass1, pass0, free0, agg, whole, sub, look-in, FmC, Is, uint-makes, u8, usize, RefT, ptr-vals, mut-tells, sliceVal, slice-vals, MutSlice, ShrSlice, finally, mut-slice-tells, shr-slice-tells, mut-slice-lawful, shr-slice-lawful, owned, heard, nothing, onEntry, tripleOf, Contract, Triple, calls-at, cited, says, Stays, stay-dropped, gave-ref, gave-slice, walkOf, goes-dropped, goes-gave-ref, goes-gave-slice, ends-at, yes, Slot, plain, shrSliceOf, ptrOf, sliceOf, as-long, answered, told, freed, asks, proves}
-use Rattle.events.specs.Stepped.{stepped, scratchLeft}
+use Rattle.engine.specs.Called.{Called}
+use Rattle.engine.proofs.Outcomes.{counted}
 use Rattle.model.specs.declared.Table.{Table}
 use Rattle.model.specs.declared.Answer.{Answer}
 use Rattle.model.proofs.Table as T
@@ -49,8 +50,7 @@ module _ {M : Type 1} (𝓤 : URA M) (H : Heap 𝓤) (A : Atoms 𝓤) (W : Given
   Post = walkOf 𝓤 H A f.ended stayed (f.clauses 𝓤 H A at-mem run) .post to
 
   abbrev Says : Table → Answer → List ℕ → List ℕ → Type 0
-  Says h g p zs = (h ≡ stepped (t .now) (s .now) (length (z .now)) .table) × (g ≡ stepped (t .now) (s .now) (length (z .now)) .answer)
-      × (p ≡ dropped (stepped (t .now) (s .now) (length (z .now)) .used) (s .now)) × (zs ≡ scratchLeft (t .now) (s .now) (z .now))
+  Says = Called (t .now) (s .now) (z .now)
 
   -- what is held when the function returns
   abbrev Left : Table → Answer → List ℕ → List (Item 𝓤)
@@ -61,7 +61,7 @@ module _ {M : Type 1} (𝓤 : URA M) (H : Heap 𝓤) (A : Atoms 𝓤) (W : Given
   exits h g p zs e el fits =
       qed W (Left h g zs) ∵
       suffices ! _ (ends-at 𝓤 H A f.ended stayed (f.clauses 𝓤 H A at-mem run) W to (vint w64 (length p)) (length p) (h, (tt, (zs, (g, tt)))) (tt, (tt, (el, (tt, tt))))) $
-      says ! (ap length (e .2), e .0, e .1, e .3) $ frame ! $
+      says ! (counted (t .now) (s .now) (z .now) h g p zs e) $ frame ! $
       nothing ! $ move ! (3 ∷ 0 ∷ []) $ fjoin ! $ move ! (2 ∷ 0 ∷ []) $ fjoin ! $ nothing ! $ fjoin ! $ move ! (1 ∷ 0 ∷ []) $ fjoin ! $
       owned ! usize (Is usize) (uint-makes 𝓤 H A W w64) (length p) _ (refl, fits) $ move ! (1 ∷ 0 ∷ []) $ done !
 
