@@ -24,14 +24,14 @@ fn report(file: &[u8], text: &mut [u8], scratch: &mut [u8]) -> usize
     requires { ⌜ (length (now text) ≡ 16448) × (length (now scratch) ≡ 4096) ⌝ }
     ensures { λ r. ⌜ take r (now (text .exit)) ≡ printed (now (file .entry)) ⌝ }
 {
-    let refusal = events::file_refusal(file);
+    let refusal = events::files::refusal_of(file);
     if refusal != 0 {
         let only = listing::put_footer(text, 0, refusal);
         return only.written;
     }
     let head = listing::put_header(text, records::byte_at(file, 1));
     let start = head.written;
-    let run = events::run_file(file, &mut text[start..start + LISTING], scratch);
+    let run = events::files::run(file, &mut text[start..start + LISTING], scratch);
     let end = start + run.written;
     let tail = listing::put_footer(&mut text[end..], run.events, run.number);
     end + tail.written
