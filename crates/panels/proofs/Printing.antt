@@ -20,7 +20,6 @@ use Rattle.model.proofs.Lengths.{header-bound, footer-bound}
 use Rattle.model.proofs.Steps.{file-run-ran}
 use Rattle.listing.specs.declared.Put.{Put}
 use Rattle.listing.specs.Writing.{putAnswer, tailAfter, Wrote}
-use Rattle.events.specs.Stepped.{runOf, runListing}
 use Rattle.panels.specs.Printed.{printed}
 
 -- TEXTS LAID ONE BEHIND THE OTHER
@@ -99,9 +98,9 @@ pub record HasLines (s l t : List ℕ) (k : ℕ) (r : RunAnswer) : Type 0 where
   pub number : r .number ≡ lent s .number
 
 pub has-lines : (s l w t m : List ℕ) (k j : ℕ) (r : RunAnswer) → firstNo (fileQuestions s) ≡ 0 → length w ≡ 4096 → j ≡ 16384 → HasHeader s l t k
-    → r ≡ runOf s (midOf k j t) w → m ≡ runListing s (midOf k j t) w → length m ≡ length (midOf k j t)
+    → r ≡ fileRun s (midOf k j t) w .answer → m ≡ fileRun s (midOf k j t) w .listing → length m ≡ length (midOf k j t)
     → HasLines s l (putMid k j t m) (k + r .written) r
-unfolding runOf runListing ran overlay
+unfolding ran overlay
 has-lines s l w t m k j r z lw ej h er em same =
     let part : length (midOf k j t) ≡ 16384 = omega (arith, length-take j (drop k t), length-drop k t, h .short, h .size) in
     let run : fileRun s (midOf k j t) w ≡ ran (lent s) (midOf k j t) w =
