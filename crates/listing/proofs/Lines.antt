@@ -8,14 +8,15 @@ use lib.ListN.{length, take, length-take}
 use lib.Seq.{take-all}
 use lib.IntN.{ℤ}
 use mir.Syntax.{w32}
-use mir.Val.{SFits}
-use Rattle.lists.proofs.Every.{Every}
+use mir.Val.{SFits, toZ, ofZ}
+use Rattle.lists.proofs.Every.{every-take}
 use Rattle.model.specs.Runs.{decimal, signed, nameFields, line, lineOf, header, footer}
 use Rattle.model.specs.declared.Name.{Name}
 use Rattle.listing.specs.Writing.{showing}
 use Rattle.model.proofs.Decimals.{decimal-bound}
 use Rattle.model.proofs.Lengths.{SmallName, signed-bound, names-bound, length-line}
-use Rattle.listing.proofs.Signs.{magnitude-bound}
+use Rattle.listing.proofs.Signs.{read-back, magnitude-bound}
+use Rattle.listing.proofs.Names.{NameArray}
 
 regroup : (a b k s l z : List ℕ) → ((((a ++ b) ++ k) ++ s) ++ l) ++ z ≡ a ++ (b ++ ((k ++ s) ++ (l ++ z)))
 regroup a b k s l z = simp append-assoc
@@ -25,21 +26,12 @@ pub line-parts : (e c : ℕ) (x : ℤ) (ms : List Name) → ((((decimal e ++ (32
 unfolding line
 line-parts e c x ms = regroup (decimal e) (32 ∷ decimal c) (32 ∷ []) (signed x) (nameFields ms) (10 ∷ [])
 
+-- THE LINE OF A SET: the first of the names that an array holds, as many as there are
+
 line-of : (e c : ℕ) (x : ℤ) (ms : List Name) → 0 < length ms → line e c (showing x) ms ≡ lineOf e c (showing x) ms
 unfolding lineOf
 line-of e c x [] h = absurd (omega arith)
 line-of e c x (m ∷ ms) h = refl
-
--- the line of as many of the names as there are
-pub line-of-clipped : (e c : ℕ) (x y : ℤ) (ms : List Name) (k size : ℕ) → y ≡ x → length ms ≡ 64 → k ≡ min size 64 → (k ≡ 0 → ⊥)
-    → line e c (showing y) (take k ms) ≡ lineOf e c (showing x) (take size ms)
-line-of-clipped e c x y ms k size q l h d =
-    let same : take k ms ≡ take size ms = go (decLt size 64) in
-    rw (q, same) (line-of e c x (take size ms) (omega (arith, ap length same, length-take k ms)))
-  where
-    go : Dec (size < 64) → take k ms ≡ take size ms
-    go (yes p) = let e : k ≡ size = omega arith in ap (λ (n : ℕ). take n ms) e
-    go (no p) = take-all k ms (omega arith) ∙ sym (take-all size ms (omega arith))
 
 -- an empty set has no line
 pub no-line : (e c : ℕ) (x : ℤ) (ms : List Name) (k size : ℕ) → k ≡ min size 64 → k ≡ 0 → [] ≡ lineOf e c (showing x) (take size ms)
@@ -47,18 +39,33 @@ unfolding lineOf
 no-line e c x ms k zero h z = refl
 no-line e c x ms k (suc size) h z = absurd (omega arith)
 
--- the longest line
-pub line-room : (e c : ℕ) (x : ℤ) (ms : List Name) → e < 2 ^ 64 → c < 256 → SFits w32 x → length ms ≤ 64 → Every SmallName ms
-    → length (line e c (showing x) ms) ≤ 549
-line-room e c x ms he hc hx hl hs =
-    omega (
-      arith,
-      length-line e c (showing x) ms,
-      decimal-bound 19 e (omega arith),
-      decimal-bound 2 c (omega arith),
-      signed-bound 9 x (omega (arith, magnitude-bound x hx)),
-      names-bound ms hs,
-    )
+module _ (e c : ℕ) (x : ℤ) (ms : List Name) (k size : ℕ) (f : SFits w32 x) (a : NameArray ms) (h : k ≡ min size 64) where
+  same-names : take k ms ≡ take size ms
+  same-names = go (decLt size 64)
+    where
+      go : Dec (size < 64) → take k ms ≡ take size ms
+      go (yes p) = let q : k ≡ size = omega arith in ap (λ (n : ℕ). take n ms) q
+      go (no p) = take-all k ms (omega (arith, a .size)) ∙ sym (take-all size ms (omega (arith, a .size)))
+
+  -- the line, with the total as the machine holds it
+  pub line-of-clipped : (k ≡ 0 → ⊥) → line e c (showing (toZ w32 (ofZ w32 x))) (take k ms) ≡ lineOf e c (showing x) (take size ms)
+  line-of-clipped d =
+      rw (read-back x f, same-names)
+      (line-of e c x (take size ms) (omega (arith, a .size, ap length same-names, length-take k ms)))
+
+  -- at most the bytes of the longest line
+  pub line-room : e < 2 ^ 64 → c < 256 → length (line e c (showing (toZ w32 (ofZ w32 x))) (take k ms)) ≤ 549
+  line-room he hc =
+      rw (read-back x f)
+      (omega (
+        arith,
+        length-line e c (showing x) (take k ms),
+        decimal-bound 19 e (omega arith),
+        decimal-bound 2 c (omega arith),
+        signed-bound 9 x (omega (arith, magnitude-bound x f)),
+        names-bound (take k ms) (every-take SmallName k ms (a .small)),
+        length-take k ms,
+      ))
 
 -- THE LINES AROUND THE LISTING
 

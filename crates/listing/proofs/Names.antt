@@ -56,18 +56,18 @@ fields-fit (m ∷ ms) (suc i) (suc n) h =
 
 -- AN ARRAY OF NAMES
 
-module _ (names : List Name) (vs : List Val) (owned : Is (Array (row name.the-type) 64) names vs) where
-  pub sixty-four : length names ≡ 64
-  sixty-four = owned .1 .0 .1
-
+pub record NameArray (names : List Name) : Type 0 where
+  pub size : length names ≡ 64
   -- its numbers are bytes
-  pub small-names : Every SmallName names
-  unfolding Every
-  small-names = go names (owned .0) (owned .1 .1)
-    where
-      go : (ms : List Name) (us : List Val) → shadow (each Name (row name.the-type .own) ms us) → Every SmallName ms
-      go [] us e = tt
-      go (m ∷ ms) [] e = absurd e
-      go (m ∷ ms) (u ∷ us) e =
-          let fields = e .0 .1 .1 in
-          (record { sender = omega (arith, fields .0 .1); number = omega (arith, fields .1 .0 .1 .1 .0 .1) }, go ms us (e .1))
+  pub small : Every SmallName names
+
+each-small : (ms : List Name) (us : List Val) → shadow (each Name (row name.the-type .own) ms us) → Every SmallName ms
+unfolding Every
+each-small [] us e = tt
+each-small (m ∷ ms) [] e = absurd e
+each-small (m ∷ ms) (u ∷ us) e =
+    let fields = e .0 .1 .1 in
+    (record { sender = omega (arith, fields .0 .1); number = omega (arith, fields .1 .0 .1 .1 .0 .1) }, each-small ms us (e .1))
+
+pub name-array : (names : List Name) (vs : List Val) → Is (Array (row name.the-type) 64) names vs → NameArray names
+name-array names vs owned = record { size = owned .1 .0 .1; small = each-small names (owned .0) (owned .1 .1) }

@@ -8,7 +8,7 @@ use native.Mathlib.Omega.{arith}
 use borrow.Author.Tests.{ltb-true}
 use lib.Dec.{T}
 use lib.IntN.{ℤ, pos, negsuc, natAbs, _-ℤ_}
-use lib.Signed.{ltZ, nonNeg}
+use lib.Signed.{ltZ, nonNeg, natAbs-le}
 use mir.Syntax.{w32, w64}
 use mir.Val.{SFits, Fits, toZ, ofZ}
 use mir.Facts.{toZ-ofZ, sfits-widen, fits-natAbs}
@@ -61,11 +61,7 @@ negated-is x f e =
     go (negsuc n) e = ap pos (zero-add (suc n))
 
 pub magnitude-bound : (x : ℤ) → SFits w32 x → natAbs x ≤ 2147483648
-magnitude-bound (pos n) f = omega (arith, f .sfits)
-magnitude-bound (negsuc n) f = omega (arith, f .sfits)
-
-pub magnitude-fits : (x : ℤ) → SFits w32 x → Fits w64 (natAbs x)
-magnitude-fits x f = fits-natAbs {w = w32} {w′ = w64} {z = x} tt f
+magnitude-bound x f = natAbs-le x (f .sfits)
 
 pub negated-fits : (x : ℤ) → SFits w32 x → negative x ≡ true → SFits w64 (negated x)
 negated-fits x f e = subst (SFits w64) (sym (negated-is x f e)) (record { sfits = omega (arith, magnitude-bound x f) })
@@ -73,9 +69,19 @@ negated-fits x f e = subst (SFits w64) (sym (negated-is x f e)) (record { sfits 
 pub negated-magnitude : (x : ℤ) → SFits w32 x → negative x ≡ true → toZ w64 (ofZ w64 (negated x)) ≡ pos (natAbs x)
 negated-magnitude x f e = toZ-ofZ {w = w64} {z = negated x} (negated-fits x f e) ∙ negated-is x f e
 
-pub not-negative : (x : ℤ) → SFits w32 x → negative x ≡ false → T (nonNeg (toZ w32 (ofZ w32 x)))
-not-negative x f e = subst (λ (z : ℤ). T (nonNeg z)) (sym (read-back x f)) (go x (sign x false f e))
+-- a number that a cast to 64 bits without a sign keeps
+abbrev pub Castable : ℤ → Type 0
+Castable z = T (nonNeg z) × Fits w64 (natAbs z)
+
+magnitude-castable : (x : ℤ) → SFits w32 x → Castable (pos (natAbs x))
+magnitude-castable x f = (tt, fits-natAbs {w = w32} {w′ = w64} {z = x} tt f)
+
+pub negated-castable : (x : ℤ) → SFits w32 x → negative x ≡ true → Castable (toZ w64 (ofZ w64 (negated x)))
+negated-castable x f e = subst Castable (sym (negated-magnitude x f e)) (magnitude-castable x f)
+
+pub positive-castable : (x : ℤ) → SFits w32 x → negative x ≡ false → Castable (toZ w32 (ofZ w32 x))
+positive-castable x f e = subst Castable (sym (read-back x f)) (go x (sign x false f e) (magnitude-castable x f))
   where
-    go : (x : ℤ) → ltZ x (pos 0) ≡ false → T (nonNeg x)
-    go (pos n) e = tt
-    go (negsuc n) e = true≢false e
+    go : (x : ℤ) → ltZ x (pos 0) ≡ false → Castable (pos (natAbs x)) → Castable x
+    go (pos n) e k = k
+    go (negsuc n) e k = absurd (true≢false e)

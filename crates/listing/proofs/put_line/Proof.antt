@@ -1,26 +1,22 @@
 -- `put_line` writes the line of an event where it fits. Assumes nothing.
+use mathlib.Core.Path.{_≡_}
 use mathlib.Core.List.{List}
-use Prim.Native.Nat.{_≤_}
+use Prim.Native.Nat.{ℕ, _≤_}
 use native.Mathlib.Omega.{arith}
-use lib.ListN.{length, take, length-take}
-use lib.IntN.{ℤ}
+use lib.ListN.{length, take}
 use mir.Syntax.{w32}
 use mir.Val.{SFits, toZ, ofZ}
-use Rattle.lists.proofs.Every.{every-take}
 use Rattle.model.specs.Runs.{line, lineOf}
-use Rattle.model.specs.declared.Name.{Name}
-use Rattle.model.proofs.Lengths.{SmallName}
 use Rattle.listing.specs.Writing.{showing}
-use Rattle.listing.proofs.Signs.{read-back}
-use Rattle.listing.proofs.Names.{sixty-four, small-names}
-use Rattle.listing.proofs.Lines.{line-room, line-of-clipped, no-line}
+use Rattle.listing.proofs.Names.{NameArray, name-array}
+use Rattle.listing.proofs.Lines.{no-line, line-of-clipped, line-room}
 use Rattle.listing.proofs.Storing.{stored-none, Front, stored-front}
 use Rattle.listing.proofs.Writing.{fitting-written, wrote-same}
 use borrow.Author.Needs.{needs}
 use Rattle.listing.proofs.put_line.Statement.{statement}
 use Rattle.listing.proofs.put_line.Tie as tie
 
--- PLACES: from behind the line back to behind the buffer's making, to how many names there are, and to the start
+-- PLACES: from behind the writing back to behind the storing; from the buffer back to how many names there are; to the start
 
 abbrev stored : tie.After-put-whole → tie.After-store-line
 stored c = c .before .before .before .before
@@ -31,38 +27,36 @@ clipped c = c .before .before .before
 abbrev start : tie.After-clipped → tie.Start
 start c = c .before .before
 
--- the names that there are, and the total as the machine holds it
-names : (c : tie.After-clipped) → List Name
-names c = take (c .clipped .result) (start c .args .names)
+-- the line that is stored, and the one of the set
+abbrev text : tie.After-clipped → List ℕ
+text c = let s = start c in line (s .args .event) (s .args .controller) (showing (toZ w32 (ofZ w32 (s .args .panel .total)))) (take (c .clipped .result) (s .args .names))
 
-total : (s : tie.Start) → ℤ
-total s = toZ w32 (ofZ w32 (s .args .panel .total))
+abbrev wanted : tie.Start → List ℕ
+wanted s = lineOf (s .args .event) (s .args .controller) (s .args .panel) (take (s .args .size) (s .args .names))
 
-told : (c : tie.After-buffer) → SFits w32 (start (clipped c) .args .panel .total)
-told c = record { sfits = c .before .struct-told .given .0 .1 }
+owned : (s : tie.Start) → NameArray (s .args .names)
+owned s = name-array (s .args .names) _ (s .good .1 .1 .1 .1 .0)
 
--- the line that is stored fits the buffer
-room : (c : tie.After-buffer) → let s = start (clipped c) in length (line (s .args .event) (s .args .controller) (showing (total s)) (names (clipped c))) ≤ 549
-unfolding names total
+-- the total fits its type
+told : (c : tie.After-struct-told) → SFits w32 (start (c .before .before) .args .panel .total)
+told c = record { sfits = c .struct-told .given .0 .1 }
+
+room : (c : tie.After-struct-told) → length (text (c .before .before)) ≤ 549
 room c =
-    let s = start (clipped c) in
-    rw (read-back (s .args .panel .total) (told c))
-    (line-room (s .args .event) (s .args .controller) (s .args .panel .total) (names (clipped c)) (s .fits .event .fits) (s .fits .controller .fits) (told c)
-    (omega (arith, length-take (clipped c .clipped .result) (s .args .names)))
-    (every-take SmallName (clipped c .clipped .result) (s .args .names) (small-names (s .args .names) _ (s .good .1 .1 .1 .1 .0))))
-
--- and is the line of the set
-whole : (c : tie.After-store-line)
-    → let s = start (clipped (c .before)) in
-    Front (lineOf (s .args .event) (s .args .controller) (s .args .panel) (take (s .args .size) (s .args .names))) (c .store-line .last .0) (c .store-line .result)
-unfolding names total
-whole c =
-    let k = clipped (c .before) in
+    let k = c .before .before in
     let s = start k in
-    let same =
-    line-of-clipped (s .args .event) (s .args .controller) (s .args .panel .total) (total s) (s .args .names) (k .clipped .result) (s .args .size)
-    (read-back (s .args .panel .total) (told (c .before))) (sixty-four (s .args .names) _ (s .good .1 .1 .1 .1 .0)) (k .clipped .ensures) (c .before .before .before .if1 .left) in
-    rw (← same) (stored-front (room (c .before)) (c .store-line .ensures))
+    line-room (s .args .event) (s .args .controller) (s .args .panel .total) (s .args .names) _ (s .args .size) (told c) (owned s) (k .clipped .ensures) (s .fits .event .fits) (s .fits .controller .fits)
+
+same-line : (c : tie.After-struct-told) → text (c .before .before) ≡ wanted (start (c .before .before))
+same-line c =
+    let k = c .before .before in
+    let s = start k in
+    line-of-clipped (s .args .event) (s .args .controller) (s .args .panel .total) (s .args .names) _ (s .args .size) (told c) (owned s) (k .clipped .ensures) (c .before .if1 .left)
+
+whole : (c : tie.After-store-line) → Front (wanted (start (clipped (c .before)))) (c .store-line .last .0) (c .store-line .result)
+whole c =
+    let put = c .before in
+    rw (← same-line (put .before)) (stored-front {x = text (clipped put)} (room (put .before)) (c .store-line .ensures))
 
 clipped-requires : tie.Need-clipped-requires
 clipped-requires c κs = search needs
@@ -78,8 +72,7 @@ slice-aggregate-store-line : tie.Need-slice-aggregate-store-line
 slice-aggregate-store-line c = search needs
 
 store-line-requires : tie.Need-store-line-requires
-unfolding names total
-store-line-requires c κs = (omega arith, room c)
+store-line-requires c κs = (omega arith, room (c .before))
 
 array-share-prefix-buffer : tie.Need-array-share-prefix-buffer
 array-share-prefix-buffer c = whole (c .before .before) .within

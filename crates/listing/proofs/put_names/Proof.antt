@@ -6,7 +6,7 @@ use native.Mathlib.Omega.{arith}
 use lib.ListN.{length, take}
 use Rattle.model.specs.Runs.{nameFields}
 use Rattle.listing.specs.Writing.{Stored}
-use Rattle.listing.proofs.Names.{fields-more, length-fields-more, fields-fit}
+use Rattle.listing.proofs.Names.{fields-more, length-fields-more, fields-fit, name-array}
 use Rattle.listing.proofs.Storing.{stored-none, stored-same, stored-then, stored-length}
 use borrow.Author.Needs.{needs}
 use Rattle.listing.proofs.put_names.Statement.{statement}
@@ -36,7 +36,7 @@ start c = c .before .before
 
 -- there is a name at the place reached
 within : (c : Turn) → loop c .loop .i < length (start (loop c) .args .t3)
-within c = omega (arith, start (loop c) .good .1 .1 .0 .1 .0 .1)
+within c = let s = start (loop c) in omega (arith, name-array (s .args .t3) _ (s .good .1 .1 .0) .size)
 
 loop-holds : tie.Need-loop-holds Inv-loop μ-loop
 unfolding nameFields

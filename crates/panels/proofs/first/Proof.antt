@@ -1,7 +1,6 @@
 -- `first` gives the bytes that stand first. Assumes nothing.
 use mathlib.Core.Path.{sym}
 use native.Mathlib.Omega.{arith}
-use lib.ListN.{length}
 use lib.Seq.{length-take-le, take-all}
 use denote.Ref.{now}
 use borrow.Author.Needs.{needs}
