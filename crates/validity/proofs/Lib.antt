@@ -1,1 +1,7 @@
-pub mod Clauses
+pub mod Flags
+pub mod Messages
+pub mod Logs
+pub mod Marks
+pub mod Buffers
+pub mod Numbers
+pub mod Controllers

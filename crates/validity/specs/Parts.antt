@@ -1,7 +1,12 @@
 -- A table made of its parts, and one of which only some parts are given, for the clauses of the well-formed test that read
 -- no other.
 use Prim.Native.Nat.{ℕ}
+use mathlib.Core.Bool.{Bool, not, _&&_, _||_, Bool·beq}
 use mathlib.Core.List.{List, []}
+use lib.Dec.{leb}
+use Rattle.lists.specs.Below.{all}
+use Rattle.model.specs.Tables.{yes?, held, applied}
+use Rattle.model.specs.WellFormed.{inLog, goodLog, goodMarks, goodBuffer, goodHighest}
 use Rattle.model.specs.declared.Message.{Message}
 use Rattle.model.specs.declared.Controller.{Controller}
 use Rattle.model.specs.declared.Table.{Table}
@@ -11,3 +16,9 @@ whole n k M C = record { n = n; count = k; messages = M; controllers = C }
 
 abbrev pub part : ℕ → ℕ → List Message → Table
 part n k M = whole n k M []
+
+-- the clauses of a controller whose greatest number sent is given, but for its read positions
+unfoldable pub goodAlone : Table → ℕ → Controller → Bool
+goodAlone t sent c =
+    goodLog t c && (goodMarks t c && (goodBuffer t c && (goodHighest t c
+    && (not (yes? (c .running)) || (all (t .count) (λ s. Bool·beq (inLog c s) (held c s || applied c s)) && leb sent (c .length))))))

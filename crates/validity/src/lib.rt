@@ -1,19 +1,21 @@
-// Question 4: whether a table is well formed, clause by clause.
+// Question 4: whether a table is well formed. What a clause asks of every message, log entry or slot is read in one pass
+// into flags, so that no clause searches; a name, a log entry and a sender each have a flag or a number of their own.
 ghost use mathlib.Core.Path.{_≡_};
-ghost use mathlib.Core.Bool.{not, _&&_, _||_, cond, Bool·beq};
+ghost use mathlib.Core.Bool.{cond};
 ghost use mathlib.Core.List.{[]};
-ghost use Prim.Native.Nat.{suc, max, _≤_, _<_};
+ghost use Prim.Native.Nat.{suc, max, _+_, _≤_, _<_};
 ghost use lib.ListN.{getD};
-ghost use lib.Dec.{eqb, leb, ltb};
-ghost use Rattle.lists.specs.Below.{count, all, distinct};
+ghost use lib.Dec.{eqb, leb};
+ghost use Rattle.lists.specs.Below.{all};
 ghost use Rattle.lists.specs.Build.{tabulate};
-ghost use Rattle.model.specs.Tables.{noMessage, noController, at, entry, yes?, held, applied, mark};
-ghost use Rattle.model.specs.Events.{numberOf};
-ghost use Rattle.model.specs.WellFormed.{sameName, goodMessage, goodMark, goodLog, goodMarks, goodBuffer, greatestApplied, goodHighest, inLog, goodRunning, goodController, wellFormed};
-ghost use Rattle.validity.specs.Parts.{part, whole};
+ghost use Rattle.model.specs.Tables.{none, noController, at, yes?};
+ghost use Rattle.model.specs.WellFormed.{goodMessage, goodMessages, goodMark, goodController, wellFormed};
+ghost use Rattle.validity.specs.Parts.{part, whole, goodAlone};
+ghost use Rattle.validity.specs.Flags.{Seated, ReadsLog, goodEntry, ReadsBuffer, goodSlot, slotTest, greatestOf};
 use model::Controller;
 use model::ForwardNumber;
 use model::Message;
+use model::MessageNumber;
 use model::Payload;
 use model::Pending;
 use model::Table;
@@ -28,329 +30,235 @@ fn good_message(n: usize, m: Message) -> bool
     named & ((0 < number) & ((number <= Table::MESSAGES) & Payload::fair(m.payload)))
 }
 
-fn each_message(n: usize, count: usize, messages: [Message; 64]) -> bool
-    requires { ⌜ count ≤ 64 ⌝ }
-    ensures { λ r. ⌜ r ≡ all count (λ s. goodMessage (part n 0 []) (getD messages s noMessage)) ⌝ }
+// Senders and numbers count from 1, and 0 has a place too.
+const SENDERS: usize = Table::CONTROLLERS + 1;
+
+const NUMBERS: usize = Table::MESSAGES + 1;
+
+// A name has a code of its own, below this.
+const CODES: usize = SENDERS * NUMBERS;
+
+fn good_messages(n: usize, count: usize, messages: [Message; 64]) -> bool
+    requires { ⌜ (n ≤ 7) × (count ≤ 64) ⌝ }
+    ensures { λ r. ⌜ r ≡ goodMessages (part n count messages) ⌝ }
 {
-    let mut good = true;
+    let mut seen = [false; CODES];
     for s in 0..count {
         let m = messages[s];
-        good = good_message(n, m) & good;
+        if !good_message(n, m) {
+            return false;
+        }
+        let code = (m.sender as usize) * NUMBERS + (m.number.0 as usize);
+        if seen[code] {
+            return false;
+        }
+        seen[code] = true;
     }
-    good
-}
-
-fn same_name(a: Message, b: Message) -> bool
-    ensures { λ r. ⌜ r ≡ sameName a b ⌝ }
-{
-    (a.sender == b.sender) & (a.number.0 == b.number.0)
-}
-
-// Whether no message before i has its name.
-fn new_name(messages: [Message; 64], i: usize) -> bool
-    requires { ⌜ i < 64 ⌝ }
-    ensures { λ r. ⌜ r ≡ all i (λ j. not (sameName (getD messages i noMessage) (getD messages j noMessage))) ⌝ }
-{
-    let m = messages[i];
-    let mut good = true;
-    for j in 0..i {
-        let other = messages[j];
-        good = !same_name(m, other) & good;
-    }
-    good
-}
-
-fn distinct_names(count: usize, messages: [Message; 64]) -> bool
-    requires { ⌜ count ≤ 64 ⌝ }
-    ensures { λ r. ⌜ r ≡ distinct count (λ i j. sameName (getD messages i noMessage) (getD messages j noMessage)) ⌝ }
-{
-    let mut good = true;
-    for i in 0..count {
-        good = new_name(messages, i) & good;
-    }
-    good
+    true
 }
 
 // LOGS
 
-fn each_slot(log: [u8; 64], length: usize, count: usize) -> bool
-    requires { ⌜ length ≤ 64 ⌝ }
-    ensures { λ r. ⌜ r ≡ all length (λ k. ltb (getD log k 0) count) ⌝ }
+// Whether the entries of a log are good, and then which slots it names.
+struct LogRead {
+    good: bool,
+    named: [bool; 64],
+}
+
+fn read_log(count: usize, length: usize, log: [u8; 64]) -> LogRead
+    requires { ⌜ (count ≤ 64) × (length ≤ 64) ⌝ }
+    ensures { λ r. ⌜ ReadsLog count length log r ⌝ }
 {
-    let mut good = true;
+    let mut named = [false; Table::MESSAGES];
     for k in 0..length {
         let slot = log[k] as usize;
-        good = (slot < count) & good;
+        if count <= slot {
+            return LogRead { good: false, named };
+        }
+        if named[slot] {
+            return LogRead { good: false, named };
+        }
+        named[slot] = true;
     }
-    good
+    LogRead { good: true, named }
 }
 
-// Whether no entry before i is of its slot.
-fn new_slot(log: [u8; 64], i: usize) -> bool
-    requires { ⌜ i < 64 ⌝ }
-    ensures { λ r. ⌜ r ≡ all i (λ j. not (eqb (getD log i 0) (getD log j 0))) ⌝ }
-{
-    let slot = log[i];
-    let mut good = true;
-    for j in 0..i {
-        let other = log[j];
-        good = !(slot == other) & good;
-    }
-    good
-}
-
-fn distinct_slots(log: [u8; 64], length: usize) -> bool
-    requires { ⌜ length ≤ 64 ⌝ }
-    ensures { λ r. ⌜ r ≡ distinct length (λ i j. eqb (getD log i 0) (getD log j 0)) ⌝ }
-{
-    let mut good = true;
-    for i in 0..length {
-        good = new_slot(log, i) & good;
-    }
-    good
-}
-
-fn good_log(count: usize, c: Controller) -> bool
-    ensures { λ r. ⌜ r ≡ goodLog (part 0 count []) c ⌝ }
-{
-    let length = c.length;
-    if Table::MESSAGES < length {
-        return false;
-    }
-    let log = c.log;
-    each_slot(log, length, count) & distinct_slots(log, length)
-}
-
-fn good_places(n: usize, read: [usize; 7], lengths: [usize; 7]) -> bool
+fn good_places(n: usize, read: [usize; 7], ends: [usize; 7]) -> bool
     requires { ⌜ n ≤ 7 ⌝ }
-    ensures { λ r. ⌜ r ≡ all n (λ o. leb (getD read o 0) (getD lengths o 0)) ⌝ }
+    ensures { λ r. ⌜ r ≡ all n (λ o. leb (getD read o 0) (getD ends o 0)) ⌝ }
 {
     let mut good = true;
     for o in 0..n {
         let place = read[o];
-        let length = lengths[o];
-        good = (place <= length) & good;
+        let end = ends[o];
+        good = (place <= end) & good;
     }
     good
 }
 
 // MARKS AND BUFFERS
 
-fn good_mark(k: u8) -> bool
-    ensures { λ r. ⌜ r ≡ goodMark k ⌝ }
+const BYTES: usize = 256;
+
+// For each byte whether it is a good mark: a look is quicker than the comparisons, seven for each pending message.
+fn allowed_marks() -> [bool; 256]
+    ensures { λ r. ⌜ r ≡ tabulate 256 goodMark ⌝ }
 {
-    (k == ForwardNumber::ABSENT) | ((0 < k) & ((k as usize) <= Table::MESSAGES))
+    let mut allowed = [false; BYTES];
+    allowed[ForwardNumber::ABSENT as usize] = true;
+    for k in 1..NUMBERS {
+        allowed[k] = true;
+    }
+    allowed
 }
 
-fn each_mark(n: usize, p: Pending) -> bool
-    requires { ⌜ n ≤ 7 ⌝ }
-    ensures { λ r. ⌜ r ≡ all n (λ f. goodMark (mark p f)) ⌝ }
+fn good_mark(allowed: &[bool; 256], k: u8) -> bool
+    requires { ⌜ now allowed ≡ tabulate 256 goodMark ⌝ }
+    ensures { λ r. ⌜ r ≡ goodMark k ⌝ }
 {
-    let marks = p.marks;
-    let mut good = true;
-    for f in 0..n {
-        good = good_mark(marks[f].0) & good;
-    }
-    good
+    let index = k as usize;
+    allowed[index]
 }
 
 // The marks of a message that is not in the buffer are not read.
-fn good_entry(n: usize, p: Pending) -> bool
-    requires { ⌜ n ≤ 7 ⌝ }
-    ensures { λ r. ⌜ r ≡ (not (yes? (p .held)) || all n (λ f. goodMark (mark p f))) ⌝ }
+fn good_entry(n: usize, allowed: &[bool; 256], p: Pending) -> bool
+    requires { ⌜ (n ≤ 7) × (now allowed ≡ tabulate 256 goodMark) ⌝ }
+    ensures { λ r. ⌜ r ≡ goodEntry n p ⌝ }
 {
     let held = p.held;
-    if 0 < held {
-        return each_mark(n, p);
+    if held == 0 {
+        return true;
     }
-    true
-}
-
-fn good_marks(n: usize, count: usize, c: Controller) -> bool
-    requires { ⌜ (n ≤ 7) × (count ≤ 64) ⌝ }
-    ensures { λ r. ⌜ r ≡ goodMarks (part n count []) c ⌝ }
-{
-    let pending = c.pending;
+    let marks = p.marks;
     let mut good = true;
-    for s in 0..count {
-        let entry = pending[s];
-        good = good_entry(n, entry) & good;
+    for f in 0..n {
+        good = good_mark(allowed, marks[f].0) & good;
     }
     good
 }
 
-fn apart(count: usize, pending: [Pending; 64], applied: [u8; 64]) -> bool
-    requires { ⌜ count ≤ 64 ⌝ }
-    ensures { λ r. ⌜ r ≡ all count (λ s. not (yes? (entry pending s .held) && yes? (getD applied s 0))) ⌝ }
-{
-    let mut good = true;
-    for s in 0..count {
-        let entry = pending[s];
-        let done = applied[s];
-        good = !((0 < entry.held) & (0 < done)) & good;
-    }
-    good
+// Whether the entries of a buffer are good, and which slots are in it.
+struct BufferRead {
+    good: bool,
+    held: [bool; 64],
 }
 
-fn none_outside(count: usize, pending: [Pending; 64], applied: [u8; 64]) -> bool
-    ensures { λ r. ⌜ r ≡ all 64 (λ s. ltb s count || (not (yes? (entry pending s .held)) && not (yes? (getD applied s 0)))) ⌝ }
+fn read_buffer(n: usize, allowed: &[bool; 256], pending: [Pending; 64]) -> BufferRead
+    requires { ⌜ (n ≤ 7) × (now allowed ≡ tabulate 256 goodMark) ⌝ }
+    ensures { λ r. ⌜ ReadsBuffer n pending r ⌝ }
 {
+    let mut held = [false; Table::MESSAGES];
     let mut good = true;
     for s in 0..Table::MESSAGES {
         let entry = pending[s];
-        let done = applied[s];
-        good = ((s < count) | (!(0 < entry.held) & !(0 < done))) & good;
+        held[s] = 0 < entry.held;
+        good = good_entry(n, allowed, entry) & good;
+    }
+    BufferRead { good, held }
+}
+
+// A slot is pending or applied and not both, only if it is of the run, and of a running controller's slots exactly those
+// are that its log names.
+fn good_slot(inside: bool, running: bool, held: bool, done: bool, named: bool) -> bool
+    ensures { λ r. ⌜ r ≡ goodSlot inside running held done named ⌝ }
+{
+    let known = held | done;
+    let exact = (named & known) | (!named & !known);
+    !(held & done) & ((inside | !known) & (!running | exact))
+}
+
+fn good_slots(
+    count: usize,
+    running: bool,
+    held: [bool; 64],
+    applied: [u8; 64],
+    named: [bool; 64],
+) -> bool
+    ensures { λ r. ⌜ r ≡ all 64 (slotTest count running held applied named) ⌝ }
+{
+    let mut good = true;
+    for s in 0..Table::MESSAGES {
+        let done = 0 < applied[s];
+        good = good_slot(s < count, running, held[s], done, named[s]) & good;
     }
     good
 }
 
-fn good_buffer(count: usize, c: Controller) -> bool
-    requires { ⌜ count ≤ 64 ⌝ }
-    ensures { λ r. ⌜ r ≡ goodBuffer (part 0 count []) c ⌝ }
-{
-    let pending = c.pending;
-    let applied = c.applied;
-    apart(count, pending, applied) & none_outside(count, pending, applied)
-}
+// NUMBERS
 
-// HIGHEST NUMBERS
-
-fn number_of(x: usize, m: Message) -> u8
-    ensures { λ r. ⌜ r ≡ numberOf x m ⌝ }
-{
-    let sender = m.sender as usize;
-    if sender == x {
-        return m.number.0;
-    }
-    0
-}
-
-fn number_applied(x: usize, m: Message, done: u8) -> u8
-    ensures { λ r. ⌜ r ≡ cond (yes? done) (numberOf x m) 0 ⌝ }
-{
-    if 0 < done {
-        return number_of(x, m);
-    }
-    0
-}
-
-fn larger(a: u8, b: u8) -> u8
+fn greater(a: u8, b: u8) -> u8
     ensures { λ r. ⌜ r ≡ max a b ⌝ }
 {
     if a < b { b } else { a }
 }
 
-fn greatest_applied(count: usize, messages: [Message; 64], c: Controller, x: usize) -> u8
-    requires { ⌜ count ≤ 64 ⌝ }
-    ensures { λ r. ⌜ r ≡ greatestApplied (part 0 count messages) c x ⌝ }
+fn number_if(flag: u8, m: Message) -> u8
+    ensures { λ r. ⌜ r ≡ cond (yes? flag) (m .number .0) 0 ⌝ }
 {
-    let applied = c.applied;
-    let mut best: u8 = 0;
-    for s in 0..count {
-        let m = messages[s];
-        let number = number_applied(x, m, applied[s]);
-        best = larger(best, number);
-    }
-    best
+    if 0 < flag { m.number.0 } else { 0 }
 }
 
-fn good_highest(n: usize, count: usize, messages: [Message; 64], c: Controller) -> bool
-    requires { ⌜ (n ≤ 7) × (count ≤ 64) ⌝ }
-    ensures { λ r. ⌜ r ≡ goodHighest (part n count messages) c ⌝ }
+// For each sender the greatest number among the messages that are flagged.
+fn greatest_numbers(count: usize, messages: [Message; 64], flags: [u8; 64]) -> [u8; 8]
+    requires { ⌜ (count ≤ 64) × Seated count messages ⌝ }
+    ensures { λ r. ⌜ r ≡ tabulate 8 (greatestOf count messages flags) ⌝ }
 {
-    let highest = c.highest;
+    let mut greatest: [u8; 8] = [0; SENDERS];
+    for s in 0..count {
+        let m = messages[s];
+        let sender = m.sender as usize;
+        let number = number_if(flags[s], m);
+        greatest[sender] = greater(greatest[sender], number);
+    }
+    greatest
+}
+
+fn good_highest(n: usize, highest: [MessageNumber; 7], greatest: [u8; 8]) -> bool
+    requires { ⌜ n ≤ 7 ⌝ }
+    ensures { λ r. ⌜ r ≡ all n (λ x. eqb (getD highest x none .0) (getD greatest (x + 1) 0)) ⌝ }
+{
     let mut good = true;
     for x in 0..n {
         let stored = highest[x].0;
-        good = (stored == greatest_applied(count, messages, c, x + 1)) & good;
+        good = (stored == greatest[x + 1]) & good;
     }
     good
-}
-
-// RUNNING CONTROLLERS
-
-fn in_log(log: [u8; 64], length: usize, s: usize) -> bool
-    requires { ⌜ length ≤ 64 ⌝ }
-    ensures { λ r. ⌜ r ≡ ltb 0 (count length (λ k. eqb (getD log k 0) s)) ⌝ }
-{
-    let mut found = false;
-    for k in 0..length {
-        let slot = log[k] as usize;
-        found = (slot == s) | found;
-    }
-    found
-}
-
-fn agree(a: bool, b: bool) -> bool
-    ensures { λ r. ⌜ r ≡ Bool·beq a b ⌝ }
-{
-    (a & b) | (!a & !b)
-}
-
-fn exact(count: usize, c: Controller) -> bool
-    requires { ⌜ (count ≤ 64) × (c .length ≤ 64) ⌝ }
-    ensures { λ r. ⌜ r ≡ all count (λ s. Bool·beq (inLog c s) (held c s || applied c s)) ⌝ }
-{
-    let length = c.length;
-    let log = c.log;
-    let pending = c.pending;
-    let applied = c.applied;
-    let mut good = true;
-    for s in 0..count {
-        let entry = pending[s];
-        let done = applied[s];
-        let known = (0 < entry.held) | (0 < done);
-        good = agree(in_log(log, length, s), known) & good;
-    }
-    good
-}
-
-fn long_enough(i: usize, count: usize, messages: [Message; 64], length: usize) -> bool
-    requires { ⌜ count ≤ 64 ⌝ }
-    ensures { λ r. ⌜ r ≡ all count (λ s. not (eqb (getD messages s noMessage .sender) i) || leb (getD messages s noMessage .number .0) length) ⌝ }
-{
-    let mut good = true;
-    for s in 0..count {
-        let m = messages[s];
-        good = (!((m.sender as usize) == i) | ((m.number.0 as usize) <= length)) & good;
-    }
-    good
-}
-
-fn good_running(i: usize, count: usize, messages: [Message; 64], c: Controller) -> bool
-    requires { ⌜ (count ≤ 64) × (c .length ≤ 64) ⌝ }
-    ensures { λ r. ⌜ r ≡ goodRunning (part 0 count messages) i c ⌝ }
-{
-    let running = c.running;
-    let length = c.length;
-    if 0 < running {
-        return exact(count, c) & long_enough(i, count, messages, length);
-    }
-    true
 }
 
 // THE TEST
 
-// Controller i, whose part of the table is c; whether its read positions are right is known.
+// A controller, whose greatest number sent is known; its read positions are tested where the other logs are at hand.
 fn good_controller(
     n: usize,
     count: usize,
     messages: [Message; 64],
-    i: usize,
+    allowed: &[bool; 256],
+    sent: u8,
     c: Controller,
-    places: bool,
 ) -> bool
-    requires { ⌜ (n ≤ 7) × (count ≤ 64) ⌝ }
-    ensures { λ r. ⌜ r ≡ (goodLog (part n count messages) c && (places && (goodMarks (part n count messages) c && (goodBuffer (part n count messages) c && (goodHighest (part n count messages) c && goodRunning (part n count messages) i c))))) ⌝ }
+    requires { ⌜ (n ≤ 7) × (count ≤ 64) × Seated count messages × (now allowed ≡ tabulate 256 goodMark) ⌝ }
+    ensures { λ r. ⌜ r ≡ goodAlone (part n count messages) sent c ⌝ }
 {
-    if !good_log(count, c) {
+    let length = c.length;
+    if Table::MESSAGES < length {
         return false;
     }
-    let marks = good_marks(n, count, c);
-    let buffer = good_buffer(count, c);
-    let highest = good_highest(n, count, messages, c);
-    let running = good_running(i, count, messages, c);
-    places & (marks & (buffer & (highest & running)))
+    let log = c.log;
+    let entries = read_log(count, length, log);
+    if !entries.good {
+        return false;
+    }
+    let pending = c.pending;
+    let applied = c.applied;
+    let highest = c.highest;
+    let running = 0 < c.running;
+    let buffer = read_buffer(n, allowed, pending);
+    let greatest = greatest_numbers(count, messages, applied);
+    let held = buffer.held;
+    let named = entries.named;
+    let slots = good_slots(count, running, held, applied, named);
+    let long = !running | ((sent as usize) <= length);
+    (buffer.good & slots) & (good_highest(n, highest, greatest) & long)
 }
 
 fn lengths(controllers: [Controller; 7]) -> [usize; 7]
@@ -370,18 +278,22 @@ fn each_controller(
     messages: [Message; 64],
     controllers: [Controller; 7],
 ) -> bool
-    requires { ⌜ (n ≤ 7) × (count ≤ 64) ⌝ }
+    requires { ⌜ (n ≤ 7) × (count ≤ 64) × Seated count messages ⌝ }
     ensures { λ r. ⌜ r ≡ all n (λ i. goodController (whole n count messages controllers) (suc i) (at (whole n count messages controllers) (suc i))) ⌝ }
 {
     let ends = lengths(controllers);
-    let mut good = true;
+    let every: [u8; 64] = [1; Table::MESSAGES];
+    let sent = greatest_numbers(count, messages, every);
+    let allowed = allowed_marks();
     for i in 0..n {
         let c = controllers[i];
         let read = c.read;
         let places = good_places(n, read, ends);
-        good = good_controller(n, count, messages, i + 1, c, places) & good;
+        if !(places & good_controller(n, count, messages, &allowed, sent[i + 1], c)) {
+            return false;
+        }
     }
-    good
+    true
 }
 
 // Ranges first, so that no clause reads past an array.
@@ -394,7 +306,9 @@ pub fn well_formed(t: Table) -> bool
         return false;
     }
     let messages = t.messages;
+    if !good_messages(n, count, messages) {
+        return false;
+    }
     let controllers = t.controllers;
-    (distinct_names(count, messages) & each_message(n, count, messages))
-        & each_controller(n, count, messages, controllers)
+    each_controller(n, count, messages, controllers)
 }

@@ -1,17 +1,65 @@
 -- `good_entry` tests the marks of a message in the buffer. Assumes nothing.
+use mathlib.Core.Path.{_≡_}
+use Prim.Native.Nat.{_-_, _≤_}
+use native.Mathlib.Omega.{arith}
+use lib.ListN.{getD}
 use borrow.Author.Tests.{lt-ltb, le-ltb}
+use Rattle.lists.specs.Below.{all}
+use Rattle.lists.specs.Build.{tabulate}
+use Rattle.lists.proofs.Loops.{all-start, all-turn, all-end}
+use Rattle.model.specs.WellFormed.{goodMark}
+use Rattle.validity.specs.Flags.{goodEntry}
 use borrow.Author.Needs.{needs}
 use Rattle.validity.proofs.good_entry.Statement.{statement}
 use Rattle.validity.proofs.good_entry.Tie as tie
 
-each-mark-requires : tie.Need-each-mark-requires
-each-mark-requires c κs = search needs
+abbrev Inv-loop : tie.InvT-loop
+Inv-loop n allowed held marks good₀ f₀ good f =
+    (f ≤ n) × (n ≤ 7) × (allowed ≡ tabulate 256 goodMark) × (good ≡ all f (λ x. goodMark ((getD marks x (record { 0 = 0 })) .0)))
 
-returns : tie.Need-returns
-returns c = rw (lt-ltb _ _ (c .before .if1 .taken)) (c .each-mark .ensures)
+abbrev μ-loop : tie.MeasureT-loop
+μ-loop n allowed held marks good₀ f₀ good f = n - f
 
-returns-2 : tie.Need-returns-2
-returns-2 c = rw (le-ltb _ _ (c .if1 .left))
+abbrev begun : tie.After-loop Inv-loop μ-loop → tie.Start Inv-loop μ-loop
+begun c = c .before .before .before .before
+
+returns : tie.Need-returns Inv-loop μ-loop
+unfolding goodEntry
+returns c = rw (le-ltb 0 (c .before .args .p .held) (omega arith))
+
+loop-holds : tie.Need-loop-holds Inv-loop μ-loop
+loop-holds c = (search needs, search needs, search needs, all-start _)
+
+element-copy-out-good-mark : tie.Need-element-copy-out-good-mark Inv-loop μ-loop
+element-copy-out-good-mark c = search needs
+
+good-mark-requires : tie.Need-good-mark-requires Inv-loop μ-loop
+good-mark-requires c κs = search needs
+
+add-f : tie.Need-add-f Inv-loop μ-loop
+add-f c = search needs
+
+loop-less : tie.Need-loop-less Inv-loop μ-loop
+loop-less c = search needs
+
+loop-again : tie.Need-loop-again Inv-loop μ-loop
+loop-again c = (search needs, search needs, search needs, all-turn _ _ _ _ (c .before .before .loop .inv .3) (c .good-mark .ensures))
+
+returns-2 : tie.Need-returns-2 Inv-loop μ-loop
+unfolding goodEntry
+returns-2 c = rw (lt-ltb 0 (begun c .args .p .held) (omega arith)) (all-end _ _ _ _ (omega arith) (c .before .loop .inv .3))
 
 pub good-entry-spec : {M : Type 1} → statement M
-good-entry-spec = tie.close (tie.spec each-mark-requires returns returns-2)
+good-entry-spec =
+    tie.close
+    (tie.spec
+    Inv-loop
+    μ-loop
+    returns
+    loop-holds
+    element-copy-out-good-mark
+    good-mark-requires
+    add-f
+    loop-less
+    loop-again
+    returns-2)

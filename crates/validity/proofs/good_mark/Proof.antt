@@ -1,12 +1,14 @@
--- `good_mark` tests one mark. Assumes nothing.
-use mathlib.Core.Path.{refl}
-use Rattle.model.specs.WellFormed.{goodMark}
+-- `good_mark` looks a mark up. Assumes nothing.
+use Rattle.validity.proofs.Marks.{allowed-read}
+use borrow.Author.Needs.{needs}
 use Rattle.validity.proofs.good_mark.Statement.{statement}
 use Rattle.validity.proofs.good_mark.Tie as tie
 
+element-copy-out-result : tie.Need-element-copy-out-result
+element-copy-out-result c = search needs
+
 returns : tie.Need-returns
-unfolding goodMark
-returns c = refl
+returns c = allowed-read _ _ (search needs) (c .before .pre)
 
 pub good-mark-spec : {M : Type 1} → statement M
-good-mark-spec = tie.close (tie.spec returns)
+good-mark-spec = tie.close (tie.spec element-copy-out-result returns)

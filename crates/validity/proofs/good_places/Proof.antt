@@ -11,10 +11,10 @@ use Rattle.validity.proofs.good_places.Statement.{statement}
 use Rattle.validity.proofs.good_places.Tie as tie
 
 abbrev Inv-loop : tie.InvT-loop
-Inv-loop n read lengths good₀ o₀ good o = (o ≤ n) × (n ≤ 7) × (good ≡ all o (λ x. leb (getD read x 0) (getD lengths x 0)))
+Inv-loop n read ends good₀ o₀ good o = (o ≤ n) × (n ≤ 7) × (good ≡ all o (λ x. leb (getD read x 0) (getD ends x 0)))
 
 abbrev μ-loop : tie.MeasureT-loop
-μ-loop n read lengths good₀ o₀ good o = n - o
+μ-loop n read ends good₀ o₀ good o = n - o
 
 loop-holds : tie.Need-loop-holds Inv-loop μ-loop
 loop-holds c = (search needs, search needs, all-start _)
@@ -25,11 +25,11 @@ mul-place c = search needs
 array-read-place : tie.Need-array-read-place Inv-loop μ-loop
 array-read-place c = search needs
 
-mul-length : tie.Need-mul-length Inv-loop μ-loop
-mul-length c = search needs
+mul-end : tie.Need-mul-end Inv-loop μ-loop
+mul-end c = search needs
 
-array-read-length : tie.Need-array-read-length Inv-loop μ-loop
-array-read-length c = search needs
+array-read-end : tie.Need-array-read-end Inv-loop μ-loop
+array-read-end c = search needs
 
 add-o : tie.Need-add-o Inv-loop μ-loop
 add-o c = search needs
@@ -52,8 +52,8 @@ good-places-spec =
     loop-holds
     mul-place
     array-read-place
-    mul-length
-    array-read-length
+    mul-end
+    array-read-end
     add-o
     loop-less
     loop-again

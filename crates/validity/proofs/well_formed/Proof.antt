@@ -1,30 +1,41 @@
 -- `well_formed` is the test of question 4, on every table. Assumes nothing.
-use Rattle.validity.proofs.Clauses.{out-of-range, in-range, clauses-are}
+use mathlib.Core.Path.{_≡_, sym, _∙_}
+use mathlib.Core.Bool.{true, false, not}
+use borrow.Author.Tests.{not-true, not-false}
+use Rattle.model.specs.WellFormed.{goodMessages}
+use Rattle.model.specs.declared.Table.{Table}
+use Rattle.validity.specs.Parts.{part}
+use Rattle.validity.proofs.Messages.{seated}
+use Rattle.validity.proofs.Controllers.{inBounds, out-of-range, few, fits, bad-messages, tested}
 use Rattle.validity.proofs.well_formed.Statement.{statement}
 use Rattle.validity.proofs.well_formed.Tie as tie
 
+-- the table, its ranges, and its messages once they are tested
+abbrev table : tie.After-messages → Table
+table c = c .before .before .args .t
+
+ranged : (c : tie.After-messages) → not (inBounds (table c)) ≡ false
+ranged c = c .before .if1 .left
+
+good : (c : tie.Else2) → let t = table (c .before .before) in goodMessages (part (t .n) (t .count) (t .messages)) ≡ true
+good c = sym (c .before .good-messages .ensures) ∙ not-false _ (c .if2 .left)
+
 returns : tie.Need-returns
-returns c = out-of-range (c .before .args .t) (c .if1 .taken)
+returns c = out-of-range _ (c .if1 .taken)
 
-distinct-names-requires : tie.Need-distinct-names-requires
-distinct-names-requires c κs = in-range (c .before .before .before .args .t) (c .before .before .if1 .left) .1
-
-each-message-requires : tie.Need-each-message-requires
-each-message-requires c κs = in-range (c .before .before .before .before .args .t) (c .before .before .before .if1 .left) .1
-
-each-controller-requires : tie.Need-each-controller-requires
-each-controller-requires c κs = in-range (c .before .before .before .before .before .args .t) (c .before .before .before .before .if1 .left)
+good-messages-requires : tie.Need-good-messages-requires
+good-messages-requires c κs = (few (table c) (ranged c), fits (table c) (ranged c))
 
 returns-2 : tie.Need-returns-2
-returns-2 c =
-    clauses-are (c .before .before .before .before .before .before .args .t) (c .before .before .before .before .before .if1 .left) _ _ _ (c .before .before .distinct-names .ensures) (c .before .each-message .ensures) (c .each-controller .ensures)
+returns-2 c = bad-messages _ (ranged (c .before .before)) (sym (c .before .good-messages .ensures) ∙ not-true _ (c .if2 .taken))
+
+each-controller-requires : tie.Need-each-controller-requires
+each-controller-requires c κs =
+    let m = c .before .before .before in
+    (few (table m) (ranged m), fits (table m) (ranged m), seated _ _ _ (few (table m) (ranged m)) (good (c .before)))
+
+returns-3 : tie.Need-returns-3
+returns-3 c = tested _ (ranged (c .before .before .before .before)) (good (c .before .before)) _ (c .each-controller .ensures)
 
 pub well-formed-spec : {M : Type 1} → statement M
-well-formed-spec =
-    tie.close
-    (tie.spec
-    returns
-    distinct-names-requires
-    each-message-requires
-    each-controller-requires
-    returns-2)
+well-formed-spec = tie.close (tie.spec returns good-messages-requires returns-2 each-controller-requires returns-3)

@@ -1,0 +1,84 @@
+-- The greatest number of each sender, found in one pass over the messages; and what the greatest numbers sent and applied
+-- tell. Assumes nothing.
+use mathlib.Core.Path.{_≡_, refl, sym, _∙_}
+use mathlib.Core.Bool.{Bool, true, false, not, _||_, cond}
+use mathlib.Core.Logic.{_≢_}
+use mathlib.Core.List.{List}
+use Prim.Native.Nat.{ℕ, _+_, max, _≤_, _<_}
+use native.Mathlib.Numerals.{add-one}
+use native.Mathlib.Omega.{arith}
+use native.Mathlib.Decide.{ℕ-discrete}
+use lib.ListN.{getD, set, replicate, length-replicate, getD-replicate}
+use lib.Dec.{eqb, leb}
+use borrow.Author.Tests.{leb-true, le-leb, eqb-true, eq-eqb, ne-eqb}
+use Rattle.lists.specs.Below.{all, greatest}
+use Rattle.lists.specs.Build.{tabulate}
+use Rattle.lists.proofs.Tests.{bool-eq, implies-at, implies-of}
+use Rattle.lists.proofs.Below.{all-at, all-of, greatest-ge, greatest-le}
+use Rattle.lists.proofs.Build.{tabulate-self, getD-tabulate}
+use Rattle.lists.proofs.Stores.{set-tabulate}
+use Rattle.model.specs.Tables.{noMessage, yes?}
+use Rattle.model.specs.Events.{numberOf}
+use Rattle.model.specs.declared.Message.{Message}
+use Rattle.validity.specs.Flags.{greatestOf}
+
+-- ONE PASS
+
+own-number : (m : Message) → numberOf (m .sender) m ≡ m .number .0
+unfolding numberOf
+own-number m = rw (eq-eqb (m .sender) (m .sender) refl)
+
+other-number : (x : ℕ) (m : Message) → m .sender ≢ x → numberOf x m ≡ 0
+unfolding numberOf
+other-number x m d = rw (ne-eqb (m .sender) x d)
+
+module _ (M : List Message) (A : List ℕ) where
+  last : (s x : ℕ) → greatestOf (s + 1) M A x ≡ max (greatestOf s M A x) (cond (yes? (getD A s 0)) (numberOf x (getD M s noMessage)) 0)
+  unfolding greatestOf greatest
+  last s x = rw add-one
+
+  pub none-passed : replicate 8 0 ≡ tabulate 8 (greatestOf 0 M A)
+  unfolding greatestOf greatest
+  none-passed = sym (tabulate-self (replicate 8 0) 0 8 (greatestOf 0 M A) (length-replicate {A = ℕ} 8 0) (λ k h. sym (getD-replicate {A = ℕ} 8 k 0 0 h)))
+
+  pub next-passed : (s : ℕ) (G : List ℕ) (number best : ℕ) → getD M s noMessage .sender ≤ 7 → G ≡ tabulate 8 (greatestOf s M A)
+      → number ≡ cond (yes? (getD A s 0)) (getD M s noMessage .number .0) 0 → best ≡ max (getD G (getD M s noMessage .sender) 0) number
+      → set G (getD M s noMessage .sender) best ≡ tabulate 8 (greatestOf (s + 1) M A)
+  next-passed s G number best h e n b =
+      let m = getD M s noMessage in
+      rw e
+      (set-tabulate 8 (greatestOf s M A) (greatestOf (s + 1) M A) 0 (m .sender) best (omega arith)
+      (b ∙ rw (n, e, getD-tabulate 8 (greatestOf s M A) 0 (m .sender) (omega arith), last s (m .sender), own-number m) refl)
+      (λ x l d. sym (last s x ∙ rw (other-number x m (λ p. d (sym p))) (nothing (yes? (getD A s 0)) (greatestOf s M A x)))))
+    where
+      nothing : (b : Bool) (g : ℕ) → max g (cond b 0 0) ≡ g
+      nothing true g = omega arith
+      nothing false g = omega arith
+
+-- WHAT WAS SENT
+
+-- a log is as long as the greatest number sent exactly if it is as long as each
+pub long-enough : (k : ℕ) (M : List Message) (i length : ℕ) → k ≤ 64
+    → leb (greatestOf k M (replicate 64 1) i) length ≡ all k (λ s. not (eqb (getD M s noMessage .sender) i) || leb (getD M s noMessage .number .0) length)
+unfolding greatestOf
+long-enough k M i length fits =
+    bool-eq _ _
+    (λ e. all-of k _ (λ s h. implies-of (eqb (m s .sender) i) _ (λ p.
+    le-leb (m s .number .0) length (omega (arith, leb-true (greatest k f) length e, greatest-ge k f s h, sent s (omega arith), own s (eqb-true (m s .sender) i p))))))
+    (λ e. le-leb (greatest k f) length (greatest-le k f length (λ s h. within s (omega arith) (all-at k _ e s h) (ℕ-discrete (m s .sender) i))))
+  where
+    m : ℕ → Message
+    m s = getD M s noMessage
+
+    f : ℕ → ℕ
+    f s = cond (yes? (getD (replicate 64 1) s 0)) (numberOf i (m s)) 0
+
+    sent : (s : ℕ) → s < 64 → f s ≡ numberOf i (m s)
+    sent s h = rw (getD-replicate {A = ℕ} 64 s 1 0 h)
+
+    own : (s : ℕ) → m s .sender ≡ i → numberOf i (m s) ≡ m s .number .0
+    own s e = rw (← e) (own-number (m s))
+
+    within : (s : ℕ) → s < 64 → (not (eqb (m s .sender) i) || leb (m s .number .0) length) ≡ true → Dec (m s .sender ≡ i) → f s ≤ length
+    within s h e (yes p) = omega (arith, sent s h, own s p, leb-true (m s .number .0) length (implies-at (eqb (m s .sender) i) _ e (eq-eqb (m s .sender) i p)))
+    within s h e (no d) = omega (arith, sent s h, other-number i (m s) d)

@@ -1,0 +1,55 @@
+-- What the well-formed test reads off a table in one pass, as flags and numbers; its clauses are then tests of these.
+use Prim.Native.Nat.{ℕ, _≤_, _<_}
+use mathlib.Core.Path.{_≡_}
+use mathlib.Core.Bool.{Bool, true, false, not, _&&_, _||_, Bool·beq, cond}
+use mathlib.Core.List.{List}
+use lib.ListN.{getD}
+use lib.Dec.{eqb, ltb}
+use Rattle.lists.specs.Below.{count, all, distinct, greatest}
+use Rattle.lists.specs.Build.{tabulate}
+use Rattle.model.specs.Tables.{noMessage, yes?, entry, mark}
+use Rattle.model.specs.Events.{numberOf}
+use Rattle.model.specs.WellFormed.{goodMark}
+use Rattle.model.specs.declared.Message.{Message}
+use Rattle.model.specs.declared.Pending.{Pending}
+use Rattle.validity.specs.declared.LogRead.{LogRead}
+use Rattle.validity.specs.declared.BufferRead.{BufferRead}
+
+-- no sender of the first k messages is above 7
+abbrev pub Seated : ℕ → List Message → Type 0
+Seated k M = (s : ℕ) → s < k → getD M s noMessage .sender ≤ 7
+
+-- f takes the value j below k
+unfoldable pub taken : (ℕ → ℕ) → ℕ → ℕ → Bool
+taken f k j = ltb 0 (count k (λ i. eqb (f i) j))
+
+-- the first entries of a log name messages of a run of k, none twice
+unfoldable pub goodEntries : ℕ → ℕ → List ℕ → Bool
+goodEntries k length L =
+    all length (λ j. ltb (getD L j 0) k) && distinct length (λ i j. eqb (getD L i 0) (getD L j 0))
+
+pub record ReadsLog (k length : ℕ) (L : List ℕ) (r : LogRead) : Type 0 where
+  pub good : r .good ≡ goodEntries k length L
+  pub named : r .good ≡ true → r .named ≡ tabulate 64 (taken (λ j. getD L j 0) length)
+
+-- the marks of a slot that is in the buffer
+unfoldable pub goodEntry : ℕ → Pending → Bool
+goodEntry n p = not (yes? (p .held)) || all n (λ f. goodMark (mark p f))
+
+pub record ReadsBuffer (n : ℕ) (P : List Pending) (r : BufferRead) : Type 0 where
+  pub good : r .good ≡ all 64 (λ s. goodEntry n (entry P s))
+  pub held : r .held ≡ tabulate 64 (λ s. yes? (entry P s .held))
+
+-- A slot is pending or applied and not both, and only if it is of the run; where the controller runs, exactly if its log
+-- names it.
+unfoldable pub goodSlot : Bool → Bool → Bool → Bool → Bool → Bool
+goodSlot inside running held done named =
+    not (held && done) && ((inside || not (held || done)) && (not running || Bool·beq named (held || done)))
+
+-- slot s of a run of k messages, from the flags of all
+abbrev pub slotTest : ℕ → Bool → List Bool → List ℕ → List Bool → ℕ → Bool
+slotTest k running H A N s = goodSlot (ltb s k) running (getD H s false) (yes? (getD A s 0)) (getD N s false)
+
+-- the greatest number of sender x among the first k messages that A flags, 0 if there is none
+unfoldable pub greatestOf : ℕ → List Message → List ℕ → ℕ → ℕ
+greatestOf k M A x = greatest k (λ s. cond (yes? (getD A s 0)) (numberOf x (getD M s noMessage)) 0)
