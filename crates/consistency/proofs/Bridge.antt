@@ -8,7 +8,7 @@ use Rattle.model.specs.Delivery.{majority}
 use Rattle.model.specs.Sized.{Sized}
 use Rattle.model.specs.declared.Controller.{Controller}
 use Rattle.model.specs.declared.Table.{Table}
-use Rattle.model.specs.Facts.{Named, WellFormed}
+use Rattle.model.specs.Facts.{Among, WellFormed}
 use Rattle.model.proofs.Largest.{majority-more}
 use Rattle.broadcast.specs.State.{System, State}
 use Rattle.broadcast.proofs.Runs.{All}
@@ -38,11 +38,11 @@ pub code-sender : (c k : ℕ) → 0 < k → k ≤ capacity → senderOf (code c 
 unfolding code senderOf
 code-sender c k l h = omega arith
 
-pub code-many : (c k : ℕ) → Named seats c → k ≤ capacity → code c k < codes
+pub code-many : (c k : ℕ) → Among seats c → k ≤ capacity → code c k < codes
 unfolding code
 code-many c k h l = omega arith
 
-pub code-injective : (c k d l : ℕ) → Named seats c → Named seats d → 0 < k → k ≤ capacity → 0 < l → l ≤ capacity → code c k ≡ code d l → (c ≡ d) × (k ≡ l)
+pub code-injective : (c k d l : ℕ) → Among seats c → Among seats d → 0 < k → k ≤ capacity → 0 < l → l ≤ capacity → code c k ≡ code d l → (c ≡ d) × (k ≡ l)
 unfolding code
 code-injective c k d l hc hd k0 k1 l0 l1 e = (omega arith, omega arith)
 

@@ -14,7 +14,7 @@ use Rattle.model.specs.Tables.{seats, yes?, at, message, slotAt, place, held, a
 use Rattle.model.specs.WellFormed.{inLog}
 use Rattle.model.specs.declared.Controller.{Controller}
 use Rattle.model.specs.declared.Table.{Table}
-use Rattle.model.specs.Facts.{Named, GoodController, WellFormed}
+use Rattle.model.specs.Facts.{Among, GoodController, WellFormed}
 use Rattle.model.specs.Delivery.{majorities, majority}
 use Rattle.invariant.proofs.Stores.{seated}
 use Rattle.invariant.proofs.Logs.{in-log-at, in-log-of}
@@ -101,15 +101,15 @@ module _ {n : ℕ} {t : Table} {s : State} (g : Related n t s) where
   pub lacking : (i m : ℕ) → (s .position i m < top → ⊥) → s .position i m ≡ top
   lacking i m f = omega (arith, v .logs .position-top i m)
 
-  pub shown : (c : ℕ) → Named n c → Shows n t s (c - 1) (at t c)
+  pub shown : (c : ℕ) → Among n c → Shows n t s (c - 1) (at t c)
   shown c h =
       let q : suc (c - 1) ≡ c = omega arith in
       rw q at (g .controllers (c - 1) (omega arith))
 
-  pub sender-named : (j : ℕ) → j < t .count → Named n (message t j .sender)
+  pub sender-named : (j : ℕ) → j < t .count → Among n (message t j .sender)
   sender-named j h = let p = g .formed .senders j h in omega (arith, g .size)
 
-  pub applied-delivered : (c j : ℕ) → Named n c → j < t .count → s .delivered (c - 1) (codeAt t j) ≡ applied (at t c) j
+  pub applied-delivered : (c j : ℕ) → Among n c → j < t .count → s .delivered (c - 1) (codeAt t j) ≡ applied (at t c) j
   applied-delivered c j h = shown c h .applied-is j
 
   pub delivered-slot : (i m : ℕ) → s .delivered i m ≡ true → Slot (t .count) (codeAt t) m
@@ -136,7 +136,7 @@ module _ {n : ℕ} {t : Table} {s : State} (g : Related n t s) where
       position-logged n t (g .formed) s v (c - 1) c (at t c) k h j l
       (omega (arith, v .logs .position-length (c - 1) (codeAt t j) low, length-is n t (g .formed) s v (c - 1) c (at t c) k h on))
 
-  pub all-read : ((r o : ℕ) → Named n r → Named n o → yes? (at t r .running) ≡ true → place (at t r) o ≡ at t o .length) → AllRead (system n) s
+  pub all-read : ((r o : ℕ) → Among n r → Among n o → yes? (at t r .running) ≡ true → place (at t r) o ≡ at t o .length) → AllRead (system n) s
   all-read f = record {
     to-end = λ r o hr ho on.
         let h = g .controllers r (omega arith) in

@@ -23,7 +23,7 @@ use Rattle.model.specs.declared.Controller.{Controller}
 use Rattle.model.specs.declared.Table.{Table}
 use Rattle.model.specs.declared.Event.{Event}
 use Rattle.model.specs.declared.Event.the-variants.{Send, Handover, Stop}
-use Rattle.model.specs.Facts.{Named, GoodController, WellFormed}
+use Rattle.model.specs.Facts.{Among, GoodController, WellFormed}
 use Rattle.invariant.proofs.Stores.{message-old}
 use Rattle.invariant.proofs.Sizes.{fresh-sized}
 use Rattle.invariant.proofs.Kept.{at-fresh, fresh-well-formed}
@@ -60,17 +60,17 @@ pub record Recorded (n : ℕ) (t : Table) (l : Ledger) : Type 0 where
   pub sized : Sized t
   pub formed : WellFormed t
   pub size : t .n ≡ n
-  pub logs : (c : ℕ) → Named n c → l .log c ≡ logNames t (at t c)
-  pub places : (r o : ℕ) → Named n r → Named n o → l .place r o ≡ place (at t r) o
-  pub runs : (c : ℕ) → Named n c → l .runs c ≡ yes? (at t c .running)
+  pub logs : (c : ℕ) → Among n c → l .log c ≡ logNames t (at t c)
+  pub places : (r o : ℕ) → Among n r → Among n o → l .place r o ≡ place (at t r) o
+  pub runs : (c : ℕ) → Among n c → l .runs c ≡ yes? (at t c .running)
   pub sent : l .sent ≡ tabulate (t .count) (sentAt t)
   -- cut off is what its sender's log lacks
   pub cut : (j : ℕ) → j < t .count → has (nameAt t j) (l .cut) ≡ not (inLog (at t (senderAt t j)) j)
   pub cut-sent : (m : Name) → has m (l .cut) ≡ true → Slot t m
-  pub applies : (c : ℕ) → Named n c → (j : ℕ) → j < t .count → has (nameAt t j) (flatten (l .sets c)) ≡ applied (at t c) j
+  pub applies : (c : ℕ) → Among n c → (j : ℕ) → j < t .count → has (nameAt t j) (flatten (l .sets c)) ≡ applied (at t c) j
   pub applied-sent : (c : ℕ) (m : Name) → has m (flatten (l .sets c)) ≡ true → Slot t m
   pub once : (c : ℕ) → Distinct (flatten (l .sets c))
-  pub unnamed : (c : ℕ) → (Named n c → ⊥) → l .sets c ≡ []
+  pub unnamed : (c : ℕ) → (Among n c → ⊥) → l .sets c ≡ []
 
 -- NAMES AS SLOTS
 

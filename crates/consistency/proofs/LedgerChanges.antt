@@ -11,7 +11,7 @@ use Rattle.model.specs.Questions.{firstNo, eventQuestions}
 use Rattle.model.specs.declared.Controller.{Controller}
 use Rattle.model.specs.declared.Table.{Table}
 use Rattle.model.specs.declared.Event.{Event}
-use Rattle.model.specs.Facts.{Named}
+use Rattle.model.specs.Facts.{Among}
 use Rattle.model.proofs.Allowed.{subject-allowed}
 use Rattle.invariant.proofs.Stores.{seated}
 use Rattle.invariant.proofs.Sizes.{next-case}
@@ -22,7 +22,7 @@ pub put-case : {A : Type 0} (P : A → Type 0) (f : ℕ → A) (x : ℕ) (v : A)
 unfolding put
 put-case P f x v y g h = cond-case P (eqb y x) v (f y) (λ e. g (eqb-true y x e)) (λ e. h (eqb-false y x e))
 
-module _ {t : Table} {l : Ledger} (k : Recorded (t .n) t l) (e : Event) (q : firstNo (eventQuestions t e) ≡ 0) {d : ℕ} (h : Named (t .n) d) where
+module _ {t : Table} {l : Ledger} (k : Recorded (t .n) t l) (e : Event) (q : firstNo (eventQuestions t e) ≡ 0) {d : ℕ} (h : Among (t .n) d) where
   pub at-case : (P : Controller → Type 0) → (d ≡ subject e → P (after t e)) → (d ≢ subject e → P (at t d)) → P (at (next t e) d)
   at-case P = next-case t e (k .sized) (seated (k .formed .few) (subject-allowed t e q)) P d (seated (k .formed .few) h)
 

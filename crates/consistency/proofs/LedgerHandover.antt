@@ -18,7 +18,7 @@ use Rattle.model.specs.declared.Name.{Name}
 use Rattle.model.specs.declared.Controller.{Controller}
 use Rattle.model.specs.declared.Table.{Table}
 use Rattle.model.specs.declared.Event.the-variants.{Handover}
-use Rattle.model.specs.Facts.{Named, GoodController}
+use Rattle.model.specs.Facts.{Among, GoodController}
 use Rattle.model.proofs.Allowed.{HandoverAllowed, handover-allowed}
 use Rattle.invariant.proofs.Stores.{seated, at-sized, read-place, read-place-other, forward-case}
 use Rattle.invariant.proofs.Sizes.{read-sized, next-sized}
@@ -63,7 +63,7 @@ module _ {n : ℕ} {t : Table} {u : State} {l : Ledger} (g : Related n t u) (k :
   good : GoodController t r (at t r)
   good = k .formed .controllers r (a .receiver)
 
-  at-seat : {d : ℕ} → Named (t .n) d → Named seats d
+  at-seat : {d : ℕ} → Among (t .n) d → Among seats d
   at-seat = seated (k .formed .few)
 
   entry-run : nextSlot t r o < t .count
@@ -124,7 +124,7 @@ module _ {n : ℕ} {t : Table} {u : State} {l : Ledger} (g : Related n t u) (k :
   uncut : (j : ℕ) → j < t .count → senderAt t j ≡ r → has (nameAt t j) (l .cut) ≡ not (inLog (receiverAfter t r o) j)
   uncut j h e = k .cut j h ∙ rw (e, own-receiver j h e, log-grows j h (own-receiver j h e))
 
-  place-after : (q : ℕ) → Named (t .n) q → put (l .place r) o (l .place r o + 1) q ≡ place (receiverAfter t r o) q
+  place-after : (q : ℕ) → Among (t .n) q → put (l .place r) o (l .place r o + 1) q ≡ place (receiverAfter t r o) q
   unfolding deliver
   place-after q h =
       put-case (λ (x : ℕ). x ≡ place (withRead (at t r) o) q) (l .place r) o (l .place r o + 1) q
@@ -170,7 +170,7 @@ module _ {n : ℕ} {t : Table} {u : State} {l : Ledger} (g : Related n t u) (k :
     size = refl;
     logs = λ d h. put-at k (Handover r o) q h (λ xs y. xs ≡ logNames t y) (l .log) _ log-after (k .logs d h);
     places = λ d e h.
-        put-at k (Handover r o) q h (λ f y. Named (t .n) e → f e ≡ place y e) (l .place) _ (place-after e) (k .places d e h);
+        put-at k (Handover r o) q h (λ f y. Among (t .n) e → f e ≡ place y e) (l .place) _ (place-after e) (k .places d e h);
     runs = λ d h. k .runs d h ∙ sym (at-kept k (Handover r o) q h (λ y. yes? (y .running)) (ap (λ f. yes? f) (received-same t r o .1)));
     sent = k .sent;
     cut = λ j h. at-case k (Handover r o) q (k .formed .senders j h) (λ y. has (nameAt t j) (l .cut) ≡ not (inLog y j)) (uncut j h) (λ _. k .cut j h);

@@ -20,7 +20,7 @@ use Rattle.model.specs.declared.Payload.{Payload}
 use Rattle.model.specs.declared.Controller.{Controller}
 use Rattle.model.specs.declared.Table.{Table}
 use Rattle.model.specs.declared.Event.the-variants.{Send}
-use Rattle.model.specs.Facts.{Named, GoodController}
+use Rattle.model.specs.Facts.{Among, GoodController}
 use Rattle.model.proofs.Allowed.{SendAllowed, send-allowed}
 use Rattle.invariant.proofs.Stores.{seated, at-sized, message-new, message-old}
 use Rattle.invariant.proofs.Sizes.{next-sized}
@@ -41,7 +41,7 @@ module _ {t : Table} {l : Ledger} (k : Recorded (t .n) t l) (c : ℕ) (p : Paylo
   a : SendAllowed t c p
   a = send-allowed t c p q
 
-  good : (d : ℕ) → Named (t .n) d → GoodController t d (at t d)
+  good : (d : ℕ) → Among (t .n) d → GoodController t d (at t d)
   good = k .formed .controllers
 
   sender-sized : SizedController (at t c)
@@ -97,11 +97,11 @@ module _ {t : Table} {l : Ledger} (k : Recorded (t .n) t l) (c : ℕ) (p : Paylo
   abbrev now : ℕ → Controller
   now d = at (next t (Send c p)) d
 
-  log-old : (d : ℕ) → Named (t .n) d → (j : ℕ) → j < t .count → inLog (now d) j ≡ inLog (at t d) j
+  log-old : (d : ℕ) → Among (t .n) d → (j : ℕ) → j < t .count → inLog (now d) j ≡ inLog (at t d) j
   unfolding subject after sent inLog
   log-old d h j b = at-kept k (Send c p) q h (λ y. inLog y j) (entered-in-log-other (at t c) (t .count) sender-sized log-room j (omega arith))
 
-  applied-old : (d : ℕ) → Named (t .n) d → (j : ℕ) → applied (now d) j ≡ applied (at t d) j
+  applied-old : (d : ℕ) → Among (t .n) d → (j : ℕ) → applied (now d) j ≡ applied (at t d) j
   unfolding subject after sent
   applied-old d h j = at-kept k (Send c p) q h (λ y. applied y j) refl
 

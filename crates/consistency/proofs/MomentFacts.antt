@@ -10,7 +10,7 @@ use lib.ListN.{length}
 use Rattle.lists.specs.Below.{count}
 use Rattle.lists.proofs.Tests.{bool-eq}
 use Rattle.lists.proofs.Below.{count-ext}
-use Rattle.model.specs.Tables.{yes?, at, message, place, applied as appliedAt, Named}
+use Rattle.model.specs.Tables.{yes?, at, message, place, applied as appliedAt, Among}
 use Rattle.model.specs.Events.{panelOf}
 use Rattle.model.specs.WellFormed.{named, wellFormed, inLog}
 use Rattle.model.specs.Questions.{firstNo, lentTable}
@@ -43,7 +43,7 @@ code-name t u w v i j li lj e =
     ap₂ (λ (c k : ℕ). name c k) (q .0) (q .1)
 
 module _ {n : ℕ} {t u : Table} {l k : Ledger} {s r : State} (g : Related n t s) (p : Recorded n t l) (h : Related n u r) (q : Recorded n u k) where
-  subset-contains : (c d : ℕ) → Named n c → Named n d → Subset (s .delivered (c - 1)) (r .delivered (d - 1)) → Contains (applied k d) (applied l c)
+  subset-contains : (c d : ℕ) → Among n c → Among n d → Subset (s .delivered (c - 1)) (r .delivered (d - 1)) → Contains (applied k d) (applied l c)
   subset-contains c d hc hd w m e = slot-case (λ m. has m (applied l c) ≡ true → has m (applied k d) ≡ true) (p .applied-sent c m e) each e
     where
       each : (j : ℕ) → j < t .count → has (nameAt t j) (applied l c) ≡ true → has (nameAt t j) (applied k d) ≡ true
@@ -54,11 +54,11 @@ module _ {n : ℕ} {t u : Table} {l k : Ledger} {s r : State} (g : Related n t s
           (q .applies d hd (o .slot) (o .below) ∙ (sym (applied-delivered h d (o .slot) hd (o .below)) ∙ rw (o .is) y))
 
 -- what an unnamed controller has applied is nothing
-unnamed-none : {n : ℕ} {t : Table} {l : Ledger} → Recorded n t l → (c : ℕ) → (Named n c → ⊥) → (xs : List Name) → Contains xs (applied l c)
+unnamed-none : {n : ℕ} {t : Table} {l : Ledger} → Recorded n t l → (c : ℕ) → (Among n c → ⊥) → (xs : List Name) → Contains xs (applied l c)
 unfolding has flatten
 unnamed-none {l = l} p c f xs m e = absurd (false≢true (rw (p .unnamed c f) at e))
 
-naming : (n c : ℕ) → Dec (Named n c)
+naming : (n c : ℕ) → Dec (Among n c)
 naming n zero = no (λ h. omega (arith, h .low))
 naming n (suc c) = elim (decLt c n) [ yes h ↦ yes (record { low = omega arith; high = h }) | no h ↦ no (λ k. h (k .high)) ]
 
@@ -67,7 +67,7 @@ pub comparable : {n : ℕ} {s₀ : State} {t u : Table} {l k : Ledger} (m : Mome
     → Contains (applied l c) (applied k d) ⊎ Contains (applied k d) (applied l c)
 comparable {n} {s₀} {t} {u} {l} {k} m m′ c d = go (naming n c) (naming n d)
   where
-    go : Dec (Named n c) → Dec (Named n d) → Contains (applied l c) (applied k d) ⊎ Contains (applied k d) (applied l c)
+    go : Dec (Among n c) → Dec (Among n d) → Contains (applied l c) (applied k d) ⊎ Contains (applied k d) (applied l c)
     go (no f) y = inr (unnamed-none (m .recorded) c f (applied k d))
     go (yes x) (no f) = inl (unnamed-none (m′ .recorded) d f (applied l c))
     go (yes x) (yes y) = elim (containment (system n) (m .state) (m′ .state) (m .related .all) (m′ .run) (c - 1) (d - 1)) [
@@ -79,13 +79,13 @@ comparable {n} {s₀} {t} {u} {l} {k} m m′ c d = go (naming n c) (naming n d)
 
 module _ {n : ℕ} {s₀ : State} {t : Table} {l : Ledger} (m : Moment n s₀ t l) where
   -- a look that is not refused names a controller
-  look-named : (c : ℕ) → look t c .number ≡ 0 → Named n c
+  look-named : (c : ℕ) → look t c .number ≡ 0 → Among n c
   unfolding look lentTable
   look-named c e =
       let h = named-at t c (no-no 7 (named t c) [] (no-no 3 (wellFormed t) _ e .1) .0) in
       omega (arith, m .related .size)
 
-  look-is : (c : ℕ) → Named n c → look t c ≡ record { number = 0; panel = panelOf t c }
+  look-is : (c : ℕ) → Among n c → look t c ≡ record { number = 0; panel = panelOf t c }
   unfolding look lentTable firstNo
   look-is c h = rw (tested t (m .related .formed), named-of t c (omega (arith, m .related .size)))
 
@@ -103,10 +103,10 @@ module _ {n : ℕ} {s₀ : State} {t : Table} {l : Ledger} (m : Moment n s₀ t 
   abbrev p : Recorded n t l
   p = m .recorded
 
-  abbrev h : Named n r
+  abbrev h : Among n r
   h = on .named
 
-  read-out : (a o : ℕ) → Named n a → Named n o → yes? (at t a .running) ≡ true → place (at t a) o ≡ at t o .length
+  read-out : (a o : ℕ) → Among n a → Among n o → yes? (at t a .running) ≡ true → place (at t a) o ≡ at t o .length
   read-out a o ha ho run =
       sym (p .places a o ha ho) ∙ (e .to-end a o (record { named = ha; running = p .runs a ha ∙ run }) ho ∙ (ap length (p .logs o ho) ∙ length-log t (at t o)))
 

@@ -8,7 +8,7 @@ use borrow.Author.Tests.{leb-true}
 use Rattle.model.specs.Tables.{at, message, applied, highest}
 use Rattle.model.specs.Events.{nextSlot}
 use Rattle.model.specs.declared.Table.{Table}
-use Rattle.model.specs.Facts.{Named}
+use Rattle.model.specs.Facts.{Among}
 use Rattle.model.proofs.Allowed.{HandoverAllowed}
 use Rattle.invariant.proofs.Receiving.{next-slot-run}
 use Rattle.invariant.proofs.Highest.{highest-applied}
@@ -29,7 +29,7 @@ module _ {n : ℕ} {t : Table} {s : State} (g : Related n t s) where
       let l = leb-true (message t j .number .0) (highest (at t r) (message t j .sender)) e in
       let y = highest-applied t r (at t r) (w .controllers r (a .receiver)) (message t j .sender) (w .senders j h) (omega (arith, l, w .numbers j h .0)) in
       let i = y .slot in
-      let c : Named n r = omega (arith, a .receiver, g .size) in
+      let c : Among n r = omega (arith, a .receiver, g .size) in
       let own = code-owner t w j h in
       sym (applied-delivered g r j c h)
       ∙ passed-over (system n) s (g .all) (r - 1) (codeAt t i) (codeAt t j) (applied-delivered g r i c (y .below) ∙ y .is-applied)

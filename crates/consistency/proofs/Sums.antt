@@ -18,7 +18,7 @@ use Rattle.model.specs.WellFormed.{inLog}
 use Rattle.model.specs.declared.Name.{Name}
 use Rattle.model.specs.declared.Payload.{Payload}
 use Rattle.model.specs.declared.Table.{Table}
-use Rattle.model.specs.Facts.{Named}
+use Rattle.model.specs.Facts.{Among}
 use Rattle.consistency.specs.Demand3.{same, has, Distinct, Sent, Ledger, applied, sentNames, remaining, amountOf, amounts, Exactly}
 use Rattle.consistency.proofs.Names.{same-true, same-sym, has-tabulate-at, has-less, distinct-less}
 use Rattle.consistency.proofs.SlotNames.{nameAt, slots-differ}
@@ -125,7 +125,7 @@ module _ {n : ℕ} {t : Table} {l : Ledger} (k : Recorded n t l) where
       ∙ weights-sum v (sentAt t) (t .count) (λ i j h b. slots-differ t (k .formed) i j h (omega arith) (omega arith)) ms d
 
   -- what was applied weighs what the table says
-  pub weights-weigh : (v : Payload → ℕ) (c : ℕ) → Named n c → weights v (l .sent) (applied l c) ≡ weigh v t (at t c)
+  pub weights-weigh : (v : Payload → ℕ) (c : ℕ) → Among n c → weights v (l .sent) (applied l c) ≡ weigh v t (at t c)
   unfolding weigh
   weights-weigh v c h =
       weights-members v (applied l c) (k .once c)
@@ -150,7 +150,7 @@ module _ {n : ℕ} {t : Table} {l : Ledger} (k : Recorded n t l) where
       ∙ sym (amounts-weights ks)
 
   -- what a look shows
-  pub look-amounts : (c : ℕ) → Named n c → panelOf t c .total ≡ amounts (l .sent) (applied l c)
+  pub look-amounts : (c : ℕ) → Among n c → panelOf t c .total ≡ amounts (l .sent) (applied l c)
   unfolding panelOf shown
   look-amounts c h =
       ap₂ (λ x y. pos x -ℤ pos y) (sym (weights-weigh (λ p. p .added) c h)) (sym (weights-weigh (λ p. p .withdrawn) c h))
@@ -170,5 +170,5 @@ module _ {n : ℕ} {t : Table} {l : Ledger} (k : Recorded n t l) where
   remaining-slot m e = sent-slot k m (and-left (has m (sentNames l)) _ (sym (has-less m (sentNames l) (l .cut)) ∙ e))
 
   -- where what was applied is what remains, a look shows the sum over that
-  pub look-remaining : (c : ℕ) → Named n c → Exactly (applied l c) (remaining l) → panelOf t c .total ≡ amounts (l .sent) (remaining l)
+  pub look-remaining : (c : ℕ) → Among n c → Exactly (applied l c) (remaining l) → panelOf t c .total ≡ amounts (l .sent) (remaining l)
   look-remaining c h f = look-amounts c h ∙ same-members-same-sum (applied l c) (remaining l) (k .once c) distinct-remaining f

@@ -8,7 +8,7 @@ use native.Mathlib.Omega.{arith}
 use native.Mathlib.Decide.{decLt}
 use lib.ListN.{length, take, drop, take-append-drop}
 use lib.Seq.{take-add}
-use Rattle.model.specs.Tables.{at, fresh, Named}
+use Rattle.model.specs.Tables.{at, fresh, Among}
 use Rattle.model.specs.Events.{appliedBy, weigh}
 use Rattle.model.specs.WellFormed.{wellFormed}
 use Rattle.model.specs.Questions.{firstNo, stepQuestions}
@@ -148,7 +148,7 @@ never-4 h heads calls i s w a after q z =
 
 -- FOR ANY WEIGHT of a message, a number that its payload gives: the two figures of the demand are those of what is added and what
 -- is withdrawn. What was applied weighs what the table computes, and at the ending it weighs what remains.
-pub any-weight : (h : Head) → Heads h → (calls : List Call) (v : Payload → ℕ) (i c : ℕ) → Named (controllers h) c
+pub any-weight : (h : Head) → Heads h → (calls : List Call) (v : Payload → ℕ) (i c : ℕ) → Among (controllers h) c
     → weights v (moment h calls i .sent) (applied (moment h calls i) c) ≡ weigh v (tableAt h calls i) (at (tableAt h calls i) c)
 any-weight h heads calls v i c k = weights-weigh (moment-at h heads calls i .recorded) v c k
 

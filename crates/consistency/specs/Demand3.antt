@@ -1,4 +1,4 @@
--- Demand 3, in the words of document 01's section "The list of demand 3": one claim about a whole list of calls, read from
+-- Demand 3 (RULES.md, sections 20 and 21): one claim about a whole list of calls, read from
 -- the calls' arguments and answers. That it holds of every list is proofs/Theorem.antt.
 use Prim.Native.Nat.{ℕ, zero, suc, _+_, _-_, _*_, _<_}
 use mathlib.Core.Path.{_≡_}
@@ -9,7 +9,7 @@ use lib.ListN.{length, getD, take, drop}
 use lib.IntN.{ℤ, pos, _+ℤ_, _-ℤ_}
 use lib.Dec.{eqb, ltb}
 use Rattle.lists.specs.Below.{count}
-use Rattle.model.specs.Tables.{messageNumber, noName, Named}
+use Rattle.model.specs.Tables.{messageNumber, noName, Among}
 use Rattle.model.specs.Records.{byte, kind, word, behind, decode}
 use Rattle.model.specs.Questions.{firstNo, fileQuestions}
 use Rattle.model.specs.Calls.{EventAnswer, event, freshTable, look}
@@ -265,14 +265,14 @@ Exactly xs ys = (m : Name) → has m xs ≡ has m ys
 
 -- r is one of n controllers, and has not stopped
 pub record Runs (n : ℕ) (l : Ledger) (r : ℕ) : Type 0 where
-  pub named : Named n r
+  pub named : Among n r
   pub running : l .runs r ≡ true
 
 -- more than half of all controllers run, and each of these has read each of the n logs to its end
 pub record ReadOut (n : ℕ) (l : Ledger) : Type 0 where
   pub majority : n < 2 * count n (λ i. l .runs (suc i))
   -- "A log is read to its end when the reader's place equals its length."
-  pub to-end : (r o : ℕ) → Runs n l r → Named n o → l .place r o ≡ length (l .log o)
+  pub to-end : (r o : ℕ) → Runs n l r → Among n o → l .place r o ≡ length (l .log o)
 
 -- a look at r behind these calls, and what it is answered: it is not refused, and its panel shows this total
 pub record LookShows (h : Head) (calls : List Call) (r : ℕ) (total : ℤ) : Type 0 where

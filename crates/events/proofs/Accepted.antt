@@ -13,7 +13,7 @@ use Rattle.model.specs.Sized.{Sized}
 use Rattle.model.specs.declared.Payload.{Payload}
 use Rattle.model.specs.declared.Table.{Table}
 use Rattle.model.specs.declared.Event.the-variants.{Send, Handover, Stop}
-use Rattle.model.specs.Facts.{Named, WellFormed}
+use Rattle.model.specs.Facts.{Among, WellFormed}
 use Rattle.model.proofs.Tested.{facts}
 use Rattle.model.proofs.Largest.{applicable-largest}
 use Rattle.model.proofs.Allowed.{HandoverAllowed, send-allowed, handover-allowed, stop-allowed}
@@ -23,7 +23,7 @@ use Rattle.invariant.proofs.Receiving.{above-unapplied, next-slot-run, received
 use Rattle.events.specs.Conditions.{Accepted, Receivable, OfRun}
 
 pub record Sendable (t : Table) (c : ℕ) : Type 0 where
-  pub sender : Named seats c
+  pub sender : Among seats c
   pub slot : t .count < capacity
   pub room : at t c .length < capacity
 
@@ -37,12 +37,12 @@ sendable t c p q =
       room = omega (arith, log-within t c (at t c) (w .controllers c (a .sender)));
     }
 
-pub stoppable : (t : Table) (c k : ℕ) → Accepted t (Stop c k) → Named seats c
+pub stoppable : (t : Table) (c k : ℕ) → Accepted t (Stop c k) → Among seats c
 stoppable t c k q = seated (facts t (q .0) .few) (stop-allowed t c k (q .1) .controller)
 
 pub record Handable (t : Table) (r o : ℕ) : Type 0 where
-  pub receiver : Named seats r
-  pub owner : Named seats o
+  pub receiver : Among seats r
+  pub owner : Among seats o
   pub next : place (at t r) o < capacity
   pub slot : nextSlot t r o < capacity
   pub entry : Receivable (withRead (at t r) o) (message t (nextSlot t r o)) (nextSlot t r o) o (place (at t r) o + 1)

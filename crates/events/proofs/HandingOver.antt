@@ -15,7 +15,7 @@ use Rattle.model.specs.Tables.{seats, scratchSize, noPanel, message}
 use Rattle.model.specs.Delivery.{Slots, has, applicable}
 use Rattle.model.specs.Events.{received, handoverSet, deliver, subject, after, withSent, next, appliedBy, shown, nameOf, insert, namesBelow, namesOf, finishes}
 use Rattle.model.specs.Calls.{cleared, answerOf}
-use Rattle.model.specs.Facts.{Named}
+use Rattle.model.specs.Facts.{Among}
 use Rattle.model.specs.Parts.{part}
 use Rattle.model.specs.Sized.{Sized, SizedController}
 use Rattle.model.specs.declared.Name.{Name}
@@ -80,7 +80,7 @@ none-counted t S a e n = sym (ap length (names-are t S)) ∙ (sym (ap (λ (b : N
 
 -- THE EFFECT
 
-module _ (t : Table) (r o : ℕ) (z : Sized t) (h : Named seats r) (c : Controller) (ec : c ≡ received t r o) (S : Slots) (es : S ≡ handoverSet t r o) where
+module _ (t : Table) (r o : ℕ) (z : Sized t) (h : Among seats r) (c : Controller) (ec : c ≡ received t r o) (S : Slots) (es : S ≡ handoverSet t r o) where
   pub handed-effect : (a : Names) → a ≡ padded (namesOf (part 0 (t .count) (t .messages)) S)
       → (f : Bool) → f ≡ finishes (part 0 (t .count) (t .messages)) S r
       → (x : Controller) → x ≡ deliver t c S → (y : Panel) → y ≡ cond f (shown t x) noPanel → (g : ℕ) → g ≡ cond f 1 0

@@ -10,7 +10,7 @@ use denote.Enum.Declared.{tagOf}
 use Rattle.lists.proofs.Clipped.{any-none}
 use Rattle.model.specs.Tables.{seats, capacity, message, messageNumber, messageOf, withController, withMessage}
 use Rattle.model.specs.Events.{sentMessage, sent, subject, after, withSent, next, appliedBy, weigh, shown, panelOf, namesOf, finishes}
-use Rattle.model.specs.Facts.{Named}
+use Rattle.model.specs.Facts.{Among}
 use Rattle.model.specs.Runs.{lineOf}
 use Rattle.model.specs.Sized.{Sized}
 use Rattle.model.specs.declared.Payload.{Payload}
@@ -33,12 +33,12 @@ use Rattle.events.proofs.Accepted.{sendable, handable}
 -- THE SUBJECT
 
 -- what the panel of r shows as x, where it stands in the table
-pub shown-panel : (t : Table) (r : ℕ) (x : Controller) → Sized t → Named seats r → shown t x ≡ panelOf (withController t r x) r
+pub shown-panel : (t : Table) (r : ℕ) (x : Controller) → Sized t → Among seats r → shown t x ≡ panelOf (withController t r x) r
 unfolding shown panelOf weigh withController message
 shown-panel t r x z h = rw (at-same t r x z h) refl
 
 -- the subject of an accepted event has a seat
-pub subject-seated : (t : Table) (e : Event) → Accepted t e → Named seats (subject e)
+pub subject-seated : (t : Table) (e : Event) → Accepted t e → Among seats (subject e)
 subject-seated t e q = seated (facts t (q .0) .few) (subject-allowed t e (q .1))
 
 -- AN EVENT THAT APPLIES NOTHING

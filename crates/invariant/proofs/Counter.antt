@@ -22,7 +22,7 @@ use Rattle.model.specs.declared.Controller.{Controller}
 use Rattle.model.specs.declared.Table.{Table}
 use Rattle.model.specs.declared.Event.{Event}
 use Rattle.model.specs.declared.Event.the-variants.{Send, Handover, Stop}
-use Rattle.model.specs.Facts.{Named, WellFormed}
+use Rattle.model.specs.Facts.{Among, WellFormed}
 use Rattle.model.proofs.Allowed.{HandoverAllowed, send-allowed, handover-allowed, subject-allowed}
 use Rattle.invariant.proofs.Stores.{seated, message-old, forward-case}
 use Rattle.invariant.proofs.Sizes.{next-case}
@@ -105,7 +105,7 @@ weigh-subject t (Handover r o) z w q v = weigh-replaced v t r _ _ ∙ weigh-rece
 weigh-subject t (Stop c k) z w q v =
     omega (arith, weigh-replaced v t c (withStop (at t c) k) (withStop (at t c) k), weigh-same v t (withStop (at t c) k) (at t c) refl, none-weighs v t)
 
-weigh-other : (t : Table) (e : Event) → WellFormed t → firstNo (eventQuestions t e) ≡ 0 → (v : Payload → ℕ) (c : ℕ) → Named (t .n) c
+weigh-other : (t : Table) (e : Event) → WellFormed t → firstNo (eventQuestions t e) ≡ 0 → (v : Payload → ℕ) (c : ℕ) → Among (t .n) c
     → weigh v (next t e) (at t c) ≡ weigh v t (at t c)
 unfolding next withSent
 weigh-other t (Send d p) w q v c h =
@@ -114,7 +114,7 @@ weigh-other t (Send d p) w q v c h =
 weigh-other t (Handover r o) w q v c h = weigh-replaced v _ _ _ _
 weigh-other t (Stop d k) w q v c h = weigh-replaced v _ _ _ _
 
-pub weigh-next : (t : Table) (e : Event) → Sized t → WellFormed t → firstNo (eventQuestions t e) ≡ 0 → (v : Payload → ℕ) (c : ℕ) → Named (t .n) c
+pub weigh-next : (t : Table) (e : Event) → Sized t → WellFormed t → firstNo (eventQuestions t e) ≡ 0 → (v : Payload → ℕ) (c : ℕ) → Among (t .n) c
     → weigh v (next t e) (at (next t e) c) ≡ weigh v t (at t c) + cond (eqb c (subject e)) (weighSet v t (appliedBy t e)) 0
 weigh-next t e z w q v c h =
     next-case t e z (seated (w .few) (subject-allowed t e q))

@@ -16,7 +16,7 @@ use Rattle.model.specs.WellFormed.{inLog, greatestApplied}
 use Rattle.model.specs.declared.MessageNumber.{MessageNumber}
 use Rattle.model.specs.declared.Controller.{Controller}
 use Rattle.model.specs.declared.Table.{Table}
-use Rattle.model.specs.Facts.{Named, GoodMark, GoodController}
+use Rattle.model.specs.Facts.{Among, GoodMark, GoodController}
 
 module _ (t : Table) (c : Controller) (S : Slots) where
   pub delivered-entry : (s : ℕ) → s < capacity → entry (deliver t c S .pending) s ≡ cond (has S s) unheld (entry (c .pending) s)
@@ -38,7 +38,7 @@ module _ (t : Table) (c : Controller) (S : Slots) where
       go true = refl
       go false = refl
 
-  pub delivered-highest : (x : ℕ) → Named seats x → highest (deliver t c S) x ≡ max (highest c x) (highestIn t S x)
+  pub delivered-highest : (x : ℕ) → Among seats x → highest (deliver t c S) x ≡ max (highest c x) (highestIn t S x)
   unfolding deliver
   delivered-highest x h =
       let q : suc (x - 1) ≡ x = omega arith in

@@ -12,7 +12,7 @@ use Rattle.model.specs.Events.{numberOf}
 use Rattle.model.specs.WellFormed.{greatestApplied}
 use Rattle.model.specs.declared.Controller.{Controller}
 use Rattle.model.specs.declared.Table.{Table}
-use Rattle.model.specs.Facts.{Named, GoodController}
+use Rattle.model.specs.Facts.{Among, GoodController}
 
 -- an argument below n at which f is greatest
 record Attained (n : ℕ) (f : ℕ → ℕ) (k : ℕ) : Type 0 where
@@ -36,7 +36,7 @@ pub record HighestApplied (t : Table) (c : Controller) (x : ℕ) : Type 0 where
   pub sender : message t slot .sender ≡ x
   pub number : message t slot .number .0 ≡ highest c x
 
-pub highest-applied : (t : Table) (i : ℕ) (c : Controller) → GoodController t i c → (x : ℕ) → Named (t .n) x → 0 < highest c x → HighestApplied t c x
+pub highest-applied : (t : Table) (i : ℕ) (c : Controller) → GoodController t i c → (x : ℕ) → Among (t .n) x → 0 < highest c x → HighestApplied t c x
 unfolding greatestApplied numberOf
 highest-applied t i c g x h l =
     let e = g .highest-is x h in

@@ -20,7 +20,7 @@ use Rattle.model.specs.declared.Pending.{Pending}
 use Rattle.model.specs.declared.Table.{Table}
 use Rattle.model.specs.declared.Event.{Event}
 use Rattle.model.specs.declared.Event.the-variants.{Send, Handover, Stop}
-use Rattle.model.specs.Facts.{Named, GoodController, WellFormed}
+use Rattle.model.specs.Facts.{Among, GoodController, WellFormed}
 use Rattle.model.proofs.Tested.{facts, tested}
 use Rattle.model.proofs.Allowed.{step-asked, send-allowed, handover-allowed, stop-allowed}
 use Rattle.model.proofs.Steps.{step-case, event-number-step}
@@ -31,7 +31,7 @@ use Rattle.invariant.proofs.Stopping.{stop-well-formed}
 
 -- THE FRESH TABLE
 
-pub at-fresh : (n c : ℕ) → Named seats c → at (fresh n) c ≡ idle 1 absent
+pub at-fresh : (n c : ℕ) → Among seats c → at (fresh n) c ≡ idle 1 absent
 unfolding at fresh start
 at-fresh n c h = getD-replicate seats (c - 1) (idle 1 absent) noController (omega arith)
 

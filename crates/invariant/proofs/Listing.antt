@@ -28,7 +28,7 @@ use Rattle.model.specs.declared.Name.{Name}
 use Rattle.model.specs.declared.Panel.{Panel}
 use Rattle.model.specs.declared.Table.{Table}
 use Rattle.model.specs.declared.Event.{Event}
-use Rattle.model.specs.Facts.{Named, WellFormed}
+use Rattle.model.specs.Facts.{Among, WellFormed}
 use Rattle.model.proofs.Allowed.{step-asked, file-allowed, subject-allowed}
 use Rattle.model.proofs.Steps.{step-number, step-is-accepted, accepted-asked}
 use Rattle.model.proofs.Runs.{gone, verdict-passed, advance-case}
@@ -130,7 +130,7 @@ names-length (suc k) t S = go (has S k) (names-length k t S)
     go false e = omega (arith, e)
 
 -- the term of controller r raised by d
-sum-raised : (n : ℕ) (f g : ℕ → ℕ) (r d : ℕ) → Named n r → ((k : ℕ) → k < n → g k ≡ f k + cond (eqb (suc k) r) d 0) → sum n g ≡ sum n f + d
+sum-raised : (n : ℕ) (f g : ℕ → ℕ) (r d : ℕ) → Among n r → ((k : ℕ) → k < n → g k ≡ f k + cond (eqb (suc k) r) d 0) → sum n g ≡ sum n f + d
 unfolding sum
 sum-raised zero f g r d h e = absurd (omega (arith, h))
 sum-raised (suc n) f g r d h e =

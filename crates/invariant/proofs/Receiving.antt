@@ -16,7 +16,7 @@ use Rattle.model.specs.Sized.{Sized, SizedController}
 use Rattle.model.specs.WellFormed.{inLog, greatestApplied}
 use Rattle.model.specs.declared.Controller.{Controller}
 use Rattle.model.specs.declared.Table.{Table}
-use Rattle.model.specs.Facts.{Named, GoodController, WellFormed}
+use Rattle.model.specs.Facts.{Among, GoodController, WellFormed}
 use Rattle.model.proofs.Allowed.{HandoverAllowed}
 use Rattle.model.proofs.Largest.{applicable-held}
 use Rattle.invariant.proofs.Stores.{seated, at-sized, read-place, read-place-other, forward-case}
@@ -27,7 +27,7 @@ use Rattle.invariant.proofs.Replacing.{but-one, replaced}
 
 -- no applied number is above the highest
 applied-number : (t : Table) (i : ℕ) (c : Controller) → GoodController t i c
-    → (s : ℕ) → s < t .count → Named (t .n) (message t s .sender) → applied c s ≡ true → message t s .number .0 ≤ highest c (message t s .sender)
+    → (s : ℕ) → s < t .count → Among (t .n) (message t s .sender) → applied c s ≡ true → message t s .number .0 ≤ highest c (message t s .sender)
 unfolding greatestApplied numberOf
 applied-number t i c g s h n e =
     rw (g .highest-is (message t s .sender) n)
@@ -86,7 +86,7 @@ module _ (t : Table) (w : WellFormed t) (z : Sized t) (r o : ℕ) (a : HandoverA
         long = g .long;
       }
     where
-      places : (q : ℕ) → Named (t .n) q → Dec (q ≡ o) → place (withRead (at t r) o) q ≤ at t q .length
+      places : (q : ℕ) → Among (t .n) q → Dec (q ≡ o) → place (withRead (at t r) o) q ≤ at t q .length
       places q h (yes e) = rw (e, read-place (at t r) o receiver-sized (seated (w .few) (a .owner))) (omega (arith, a .unread))
       places q h (no e) = rw (read-place-other (at t r) o q (seated (w .few) (a .owner)) (seated (w .few) h) e) (w .controllers r (a .receiver) .places q h)
 

@@ -10,7 +10,7 @@ use Rattle.model.specs.Sized.{Sized}
 use Rattle.model.specs.WellFormed.{fairAmount, greatestApplied}
 use Rattle.model.specs.declared.Controller.{Controller}
 use Rattle.model.specs.declared.Table.{Table}
-use Rattle.model.specs.Facts.{Named, GoodController, WellFormed}
+use Rattle.model.specs.Facts.{Among, GoodController, WellFormed}
 use Rattle.invariant.proofs.Stores.{seated, at-same, at-other}
 
 -- well formed, but perhaps for controller c
@@ -20,10 +20,10 @@ pub record WellFormedBut (t : Table) (c : ℕ) : Type 0 where
   pub counted : t .count ≤ capacity
   pub names : (i j : ℕ) → i < t .count → j < t .count
       → message t i .sender ≡ message t j .sender → message t i .number .0 ≡ message t j .number .0 → i ≡ j
-  pub senders : (s : ℕ) → s < t .count → Named (t .n) (message t s .sender)
+  pub senders : (s : ℕ) → s < t .count → Among (t .n) (message t s .sender)
   pub numbers : (s : ℕ) → s < t .count → (0 < message t s .number .0) × (message t s .number .0 ≤ 64)
   pub amounts : (s : ℕ) → s < t .count → fairAmount (message t s .payload) ≡ true
-  pub controllers : (d : ℕ) → Named (t .n) d → d ≢ c → GoodController t d (at t d)
+  pub controllers : (d : ℕ) → Among (t .n) d → d ≢ c → GoodController t d (at t d)
 
 pub but-one : (t : Table) (c : ℕ) → WellFormed t → WellFormedBut t c
 but-one t c w = record {
@@ -39,7 +39,7 @@ but-one t c w = record {
 
 -- the read positions may be those of another table
 with-places : (t : Table) (c : ℕ) (x : Controller) (d : ℕ) (y : Controller) → GoodController t d y
-    → ((o : ℕ) → Named (t .n) o → place y o ≤ at (withController t c x) o .length)
+    → ((o : ℕ) → Among (t .n) o → place y o ≤ at (withController t c x) o .length)
     → GoodController (withController t c x) d y
 unfolding withController message greatestApplied
 with-places t c x d y g p = record {
@@ -55,8 +55,8 @@ with-places t c x d y g p = record {
   long = g .long;
 }
 
-pub replaced : (t : Table) (c : ℕ) (x : Controller) → Sized t → WellFormedBut t c → Named (t .n) c → GoodController t c x
-    → place x c ≤ x .length → ((r : ℕ) → Named (t .n) r → r ≢ c → place (at t r) c ≤ x .length)
+pub replaced : (t : Table) (c : ℕ) (x : Controller) → Sized t → WellFormedBut t c → Among (t .n) c → GoodController t c x
+    → place x c ≤ x .length → ((r : ℕ) → Among (t .n) r → r ≢ c → place (at t r) c ≤ x .length)
     → WellFormed (withController t c x)
 unfolding withController message
 replaced t c x z w hc g own others = record {
@@ -71,11 +71,11 @@ replaced t c x z w hc g own others = record {
 }
   where
     -- a position that does not pass an old log end nor the end of the log of x
-    within : (p o : ℕ) → Named (t .n) o → Dec (o ≡ c) → p ≤ at t o .length → (o ≡ c → p ≤ x .length) → p ≤ at (withController t c x) o .length
+    within : (p o : ℕ) → Among (t .n) o → Dec (o ≡ c) → p ≤ at t o .length → (o ≡ c → p ≤ x .length) → p ≤ at (withController t c x) o .length
     within p o h (yes e) l m = rw (e, at-same t c x z (seated (w .few) hc)) (m e)
     within p o h (no e) l m = rw (at-other t c o x (seated (w .few) hc) (seated (w .few) h) e) l
 
-    good : (d : ℕ) → Named (t .n) d → Dec (d ≡ c) → GoodController (withController t c x) d (at (withController t c x) d)
+    good : (d : ℕ) → Among (t .n) d → Dec (d ≡ c) → GoodController (withController t c x) d (at (withController t c x) d)
     good d h (yes e) =
         rw (e, at-same t c x z (seated (w .few) hc))
         (with-places t c x c x g (λ o ho. within (place x o) o ho (ℕ-discrete o c) (g .places o ho) (λ q. rw q own)))

@@ -15,7 +15,7 @@ use Rattle.model.specs.declared.Message.{Message}
 use Rattle.model.specs.declared.Payload.{Payload}
 use Rattle.model.specs.declared.Controller.{Controller}
 use Rattle.model.specs.declared.Table.{Table}
-use Rattle.model.specs.Facts.{Named, GoodController, WellFormed}
+use Rattle.model.specs.Facts.{Among, GoodController, WellFormed}
 use Rattle.model.proofs.Allowed.{SendAllowed}
 use Rattle.invariant.proofs.Stores.{seated, at-sized, message-new, message-old}
 use Rattle.invariant.proofs.Logs.{log-lacks, log-within}
@@ -131,7 +131,7 @@ module _ (t : Table) (w : WellFormed t) (z : Sized t) (c : ℕ) (p : Payload) (a
     few = w .few;
     counted = omega (arith, a .room);
     names = λ i j hi hj. names i j (added t (sentMessage t c p) z (a .room) i hi) (added t (sentMessage t c p) z (a .room) j hj);
-    senders = added-each t (sentMessage t c p) (λ m. Named (t .n) (m .sender)) z (a .room) (a .sender) (w .senders);
+    senders = added-each t (sentMessage t c p) (λ m. Among (t .n) (m .sender)) z (a .room) (a .sender) (w .senders);
     numbers = added-each t (sentMessage t c p) (λ m. (0 < m .number .0) × (m .number .0 ≤ 64)) z (a .room) (omega arith, omega (arith, a .room, log-room)) (w .numbers);
     amounts = added-each t (sentMessage t c p) (λ m. fairAmount (m .payload) ≡ true) z (a .room) (a .amount) (w .amounts);
     controllers = λ d h n. added-good t (sentMessage t c p) z (a .room) d (at t d) (w .controllers d h) n;

@@ -20,7 +20,7 @@ use Rattle.model.specs.declared.Controller.{Controller}
 use Rattle.model.specs.declared.Table.{Table}
 use Rattle.model.specs.declared.Event.{Event}
 use Rattle.model.specs.declared.Event.the-variants.{Send, Handover, Stop}
-use Rattle.model.specs.Facts.{Named}
+use Rattle.model.specs.Facts.{Among}
 use Rattle.invariant.proofs.Stores.{at-same, at-other, forward-case}
 
 -- CONTROLLERS
@@ -136,16 +136,16 @@ sent-at t (Send c p) d = refl
 sent-at t (Handover r o) d = refl
 sent-at t (Stop c k) d = refl
 
-pub next-same : (t : Table) (e : Event) → Sized t → Named seats (subject e) → at (next t e) (subject e) ≡ after t e
+pub next-same : (t : Table) (e : Event) → Sized t → Among seats (subject e) → at (next t e) (subject e) ≡ after t e
 unfolding next
 next-same t e z h = at-same (withSent t e) (subject e) (after t e) (sent-sized t e z) h
 
-pub next-other : (t : Table) (e : Event) (d : ℕ) → Named seats (subject e) → Named seats d → d ≢ subject e → at (next t e) d ≡ at t d
+pub next-other : (t : Table) (e : Event) (d : ℕ) → Among seats (subject e) → Among seats d → d ≢ subject e → at (next t e) d ≡ at t d
 unfolding next
 next-other t e d h k n = at-other (withSent t e) (subject e) d (after t e) h k n ∙ sent-at t e d
 
 -- what the subject is afterwards, and what another was
-pub next-case : (t : Table) (e : Event) → Sized t → Named seats (subject e) → (P : Controller → Type 0) (d : ℕ) → Named seats d
+pub next-case : (t : Table) (e : Event) → Sized t → Among seats (subject e) → (P : Controller → Type 0) (d : ℕ) → Among seats d
     → (d ≡ subject e → P (after t e)) → (d ≢ subject e → P (at t d)) → P (at (next t e) d)
 next-case t e z h P d k new old = go (ℕ-discrete d (subject e))
   where

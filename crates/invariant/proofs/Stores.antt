@@ -18,23 +18,23 @@ use Rattle.model.specs.declared.Message.{Message}
 use Rattle.model.specs.declared.Pending.{Pending}
 use Rattle.model.specs.declared.Controller.{Controller}
 use Rattle.model.specs.declared.Table.{Table}
-use Rattle.model.specs.Facts.{Named}
+use Rattle.model.specs.Facts.{Among}
 
 -- every named controller has a seat
-pub seated : {n c : ℕ} → n ≤ seats → Named n c → Named seats c
+pub seated : {n c : ℕ} → n ≤ seats → Among n c → Among seats c
 seated few h = record { low = h .low; high = omega (arith, h .high) }
 
 -- A CONTROLLER REPLACED
 
-pub at-same : (t : Table) (c : ℕ) (x : Controller) → Sized t → Named seats c → at (withController t c x) c ≡ x
+pub at-same : (t : Table) (c : ℕ) (x : Controller) → Sized t → Among seats c → at (withController t c x) c ≡ x
 unfolding at withController
 at-same t c x z h = getD-set-same (t .controllers) (c - 1) x noController (omega (arith, z .controllers))
 
-pub at-other : (t : Table) (c d : ℕ) (x : Controller) → Named seats c → Named seats d → d ≢ c → at (withController t c x) d ≡ at t d
+pub at-other : (t : Table) (c d : ℕ) (x : Controller) → Among seats c → Among seats d → d ≢ c → at (withController t c x) d ≡ at t d
 unfolding at withController
 at-other t c d x hc hd f = getD-set-other (t .controllers) (c - 1) (d - 1) x noController (omega arith)
 
-pub at-sized : (t : Table) (c : ℕ) → Sized t → Named seats c → SizedController (at t c)
+pub at-sized : (t : Table) (c : ℕ) → Sized t → Among seats c → SizedController (at t c)
 unfolding at
 at-sized t c z h = z .each (c - 1) (omega arith)
 
@@ -50,10 +50,10 @@ message-old t m s h = getD-set-other (t .messages) (t .count) s m noMessage (ome
 
 -- A PLACE MOVED ON
 
-pub read-place : (c : Controller) (o : ℕ) → SizedController c → Named seats o → place (withRead c o) o ≡ place c o + 1
+pub read-place : (c : Controller) (o : ℕ) → SizedController c → Among seats o → place (withRead c o) o ≡ place c o + 1
 read-place c o z h = getD-set-same (c .read) (o - 1) (place c o + 1) 0 (omega (arith, z .read))
 
-pub read-place-other : (c : Controller) (o q : ℕ) → Named seats o → Named seats q → q ≢ o → place (withRead c o) q ≡ place c q
+pub read-place-other : (c : Controller) (o q : ℕ) → Among seats o → Among seats q → q ≢ o → place (withRead c o) q ≡ place c q
 read-place-other c o q ho hq d = getD-set-other (c .read) (o - 1) (q - 1) (place c o + 1) 0 (omega arith)
 
 -- AN ENTRY OF THE BUFFER REPLACED

@@ -149,13 +149,6 @@ fn put_whole(tail: &mut [u8], text: &[u8]) -> Put
     Put { number: 0, written }
 }
 
-// The number of names that there are, of those asked for.
-fn clipped(size: usize) -> usize
-    ensures { λ r. ⌜ r ≡ min size 64 ⌝ }
-{
-    if size < 64 { size } else { 64 }
-}
-
 // Writes the line of an event whose set has the first of the names, at the front of the tail; no line for an empty set.
 pub fn put_line(
     tail: &mut [u8],
@@ -167,7 +160,7 @@ pub fn put_line(
 ) -> Put
     ensures { λ r. ⌜ Wrote (lineOf event controller panel (take size names)) (now (tail .entry)) (now (tail .exit)) r ⌝ }
 {
-    let count = clipped(size);
+    let count = numbers::at_most(size, 64);
     if count == 0 {
         return Put {
             number: refusal::ACCEPTED,

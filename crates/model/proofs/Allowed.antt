@@ -19,7 +19,7 @@ use Rattle.model.specs.declared.Payload.{Payload}
 use Rattle.model.specs.declared.Table.{Table}
 use Rattle.model.specs.declared.Event.{Event}
 use Rattle.model.specs.declared.Event.the-variants.{Send, Handover, Stop}
-use Rattle.model.specs.Facts.{Named}
+use Rattle.model.specs.Facts.{Among}
 use Rattle.model.proofs.Tested.{named-at, all-named}
 
 -- no no: the first answer was yes, and there is no no behind it
@@ -93,23 +93,23 @@ file-allowed s e =
     }
 
 pub record SendAllowed (t : Table) (c : ℕ) (p : Payload) : Type 0 where
-  pub sender : Named (t .n) c
+  pub sender : Among (t .n) c
   pub amount : fairAmount p ≡ true
   pub running : yes? (at t c .running) ≡ true
   pub none-pending : (s : ℕ) → s < t .count → held (at t c) s ≡ true → message t s .sender ≡ c → ⊥
   pub room : t .count < capacity
 
 pub record HandoverAllowed (t : Table) (r o : ℕ) : Type 0 where
-  pub receiver : Named (t .n) r
-  pub owner : Named (t .n) o
+  pub receiver : Among (t .n) r
+  pub owner : Among (t .n) o
   pub running : yes? (at t r .running) ≡ true
   pub unread : place (at t r) o < at t o .length
 
 pub record StopAllowed (t : Table) (c k : ℕ) : Type 0 where
-  pub controller : Named (t .n) c
+  pub controller : Among (t .n) c
   pub running : yes? (at t c .running) ≡ true
   pub within : k ≤ at t c .length
-  pub read-kept : (r : ℕ) → Named (t .n) r → place (at t r) c ≤ k
+  pub read-kept : (r : ℕ) → Among (t .n) r → place (at t r) c ≤ k
 
 pub send-allowed : (t : Table) (c : ℕ) (p : Payload) → firstNo (eventQuestions t (Send c p)) ≡ 0 → SendAllowed t c p
 unfolding eventQuestions ownPending
@@ -159,7 +159,7 @@ stop-allowed t c k e =
     }
 
 -- an event that is allowed changes a controller of the table
-pub subject-allowed : (t : Table) (e : Event) → firstNo (eventQuestions t e) ≡ 0 → Named (t .n) (subject e)
+pub subject-allowed : (t : Table) (e : Event) → firstNo (eventQuestions t e) ≡ 0 → Among (t .n) (subject e)
 unfolding subject
 subject-allowed t (Send c p) q = send-allowed t c p q .sender
 subject-allowed t (Handover r o) q = handover-allowed t r o q .receiver

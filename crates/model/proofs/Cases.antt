@@ -1,4 +1,4 @@
--- The cases that document 01 marks P; and of each call, for each two questions that it is put one after the other and that can
+-- The cases of RULES.md, section 23 (Edges), that are marked P; and of each call, for each two questions that it is put one after the other and that can
 -- both be no at once, a row in which both are and the first gives the number. One table, one theorem.
 -- Assumes nothing.
 use mathlib.Core.Path.{_≡_, refl}
@@ -102,7 +102,7 @@ quiet n rs s room k j = case n rs s room k (times j ([] ∷ []))
 abbrev shows : ℕ → List (List ℕ) → ℕ → List (List ℕ) → ℤ → Row
 shows n rs c ss x = record { of = events n rs (panel c); gives = record { number = 0; sets = ss; shown = x } }
 
--- the run of document 01 but for its last record
+-- the run of RULES.md, section 19 (The worked run), but for its last record
 worked : List (List ℕ)
 unfolding report handover minus
 worked =

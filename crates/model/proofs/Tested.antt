@@ -15,25 +15,25 @@ use Rattle.model.specs.WellFormed.{named, fairAmount, sameName, goodMark
 use Rattle.model.specs.declared.Message.{Message}
 use Rattle.model.specs.declared.Controller.{Controller}
 use Rattle.model.specs.declared.Table.{Table}
-use Rattle.model.specs.Facts.{Named, GoodMark, GoodController, WellFormed}
+use Rattle.model.specs.Facts.{Among, GoodMark, GoodController, WellFormed}
 
 -- NAMES OF CONTROLLERS
 
-pub named-at : (t : Table) (c : ℕ) → named t c ≡ true → Named (t .n) c
+pub named-at : (t : Table) (c : ℕ) → named t c ≡ true → Among (t .n) c
 unfolding named
 named-at t c e = record { low = ltb-true 0 c (and-left _ _ e); high = leb-true c (t .n) (and-right (ltb 0 c) _ e) }
 
-pub named-of : (t : Table) (c : ℕ) → Named (t .n) c → named t c ≡ true
+pub named-of : (t : Table) (c : ℕ) → Among (t .n) c → named t c ≡ true
 unfolding named
 named-of t c h = both (lt-ltb 0 c (h .low)) (le-leb c (t .n) (h .high))
 
 -- a test of every name is a loop from 0
-pub all-named : (n : ℕ) (p : ℕ → Bool) → all n (λ i. p (suc i)) ≡ true → (c : ℕ) → Named n c → p c ≡ true
+pub all-named : (n : ℕ) (p : ℕ → Bool) → all n (λ i. p (suc i)) ≡ true → (c : ℕ) → Among n c → p c ≡ true
 all-named n p e c h =
     let q : suc (c - 1) ≡ c = omega arith in
     rw q at (all-at n (λ i. p (suc i)) e (c - 1) (omega arith))
 
-pub all-named-of : (n : ℕ) (p : ℕ → Bool) → ((c : ℕ) → Named n c → p c ≡ true) → all n (λ i. p (suc i)) ≡ true
+pub all-named-of : (n : ℕ) (p : ℕ → Bool) → ((c : ℕ) → Among n c → p c ≡ true) → all n (λ i. p (suc i)) ≡ true
 all-named-of n p f = all-of n (λ i. p (suc i)) (λ i h. f (suc i) (omega arith))
 
 -- what is distinct is the same only as itself
@@ -126,7 +126,7 @@ unfolding sameName
 same-name a b p q = both (eq-eqb (a .sender) (b .sender) p) (eq-eqb (a .number .0) (b .number .0) q)
 
 message-facts : (t : Table) (m : Message) → goodMessage t m ≡ true
-    → Named (t .n) (m .sender) × ((0 < m .number .0) × (m .number .0 ≤ 64)) × (fairAmount (m .payload) ≡ true)
+    → Among (t .n) (m .sender) × ((0 < m .number .0) × (m .number .0 ≤ 64)) × (fairAmount (m .payload) ≡ true)
 unfolding goodMessage
 message-facts t m e =
     let e₁ = and-right (named t (m .sender)) _ e in

@@ -1,5 +1,5 @@
 -- Lines 15 and 16 of Algorithm 1: the set of buffered messages that a controller applies.
--- It is the largest set in the words of document 01, Largest.antt: proofs/Largest.antt.
+-- It is the largest set of RULES.md, section 8 (Apply), as Largest.antt says it: proofs/Largest.antt.
 use Prim.Native.Nat.{ℕ, zero, suc, min}
 use mathlib.Core.Bool.{Bool, false, not, _&&_, _||_, cond}
 use mathlib.Core.List.{List, [], _∷_}

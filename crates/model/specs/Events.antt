@@ -1,4 +1,4 @@
--- The events of document 01 and what each does to the table: lines 1 to 20 of Algorithm 1, and the counter of Algorithm 4.
+-- The events (RULES.md, sections 6 to 10) and what each does to the table: lines 1 to 20 of Algorithm 1, and the counter of Algorithm 4.
 use Prim.Native.Nat.{ℕ, zero, suc, _+_, max}
 use mathlib.Core.Bool.{Bool, _&&_, _||_, cond}
 use mathlib.Core.List.{List, [], _∷_}

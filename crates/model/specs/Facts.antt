@@ -1,10 +1,10 @@
--- What question 4 tests, as named facts: one for each clause of document 01's "Well formed" and for the readings of it.
+-- What question 4 tests, as named facts: one for each clause of RULES.md, section 15 (Well formed).
 -- The test passes exactly where the facts hold: proofs/Tested.antt.
 use mathlib.Core.Path.{_≡_}
 use mathlib.Core.Bool.{true, false, _||_}
 use mathlib.Core.Logic.{_⊎_}
 use Prim.Native.Nat.{ℕ, _≤_, _<_}
-pub use Rattle.model.specs.Tables.{Named}
+pub use Rattle.model.specs.Tables.{Among}
 use Rattle.model.specs.Tables.{seats, capacity, absent, yes?, at, message, slotAt, place, entry, held, mark, applied, highest}
 use Rattle.model.specs.WellFormed.{inLog, greatestApplied, fairAmount}
 use Rattle.model.specs.declared.Controller.{Controller}
@@ -21,14 +21,14 @@ pub record GoodController (t : Table) (i : ℕ) (c : Controller) : Type 0 where
   pub log-run : (k : ℕ) → k < c .length → slotAt c k < t .count
   pub log-once : (j k : ℕ) → j < c .length → k < c .length → slotAt c j ≡ slotAt c k → j ≡ k
   -- "read positions do not pass log ends"
-  pub places : (o : ℕ) → Named (t .n) o → place c o ≤ at t o .length
+  pub places : (o : ℕ) → Among (t .n) o → place c o ≤ at t o .length
   pub marks : (s f : ℕ) → s < t .count → held c s ≡ true → f < t .n → GoodMark (mark (entry (c .pending) s) f)
   -- "No message is both pending and applied at a controller"
   pub apart : (s : ℕ) → s < t .count → held c s ≡ true → applied c s ≡ true → ⊥
   -- and neither is a message that the run has not
   pub outside : (s : ℕ) → s < capacity → t .count ≤ s → (held c s ≡ false) × (applied c s ≡ false)
   -- "its highest applied numbers agree with what it applied"
-  pub highest-is : (x : ℕ) → Named (t .n) x → highest c x ≡ greatestApplied t c x
+  pub highest-is : (x : ℕ) → Among (t .n) x → highest c x ≡ greatestApplied t c x
   -- "A running controller's log names exactly what it has pending or applied"
   pub exact : yes? (c .running) ≡ true → (s : ℕ) → s < t .count → inLog c s ≡ (held c s || applied c s)
   -- "and is at least as long as any message number it sent"
@@ -42,7 +42,7 @@ pub record WellFormed (t : Table) : Type 0 where
   -- "messages have distinct names, senders 1 to n, numbers 1 to 64, and reports have amounts as in question 9"
   pub names : (i j : ℕ) → i < t .count → j < t .count
       → message t i .sender ≡ message t j .sender → message t i .number .0 ≡ message t j .number .0 → i ≡ j
-  pub senders : (s : ℕ) → s < t .count → Named (t .n) (message t s .sender)
+  pub senders : (s : ℕ) → s < t .count → Among (t .n) (message t s .sender)
   pub numbers : (s : ℕ) → s < t .count → (0 < message t s .number .0) × (message t s .number .0 ≤ 64)
   pub amounts : (s : ℕ) → s < t .count → fairAmount (message t s .payload) ≡ true
-  pub controllers : (c : ℕ) → Named (t .n) c → GoodController t c (at t c)
+  pub controllers : (c : ℕ) → Among (t .n) c → GoodController t c (at t c)

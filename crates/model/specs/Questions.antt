@@ -1,4 +1,4 @@
--- The questions of document 01 and their order: the refusal is the number of the first no.
+-- The questions and their order (RULES.md, sections 13 and 14): the refusal is the number of the first no.
 use Prim.Native.Nat.{ℕ, suc}
 use mathlib.Core.Bool.{Bool, not, _&&_, cond}
 use mathlib.Core.List.{List, [], _∷_, _++_}

@@ -29,8 +29,8 @@ capacity = 64
 abbrev pub scratchSize : ℕ
 scratchSize = 4096
 
--- a controller's name, of n
-pub record Named (n c : ℕ) : Type 0 where
+-- c is one of n controllers
+pub record Among (n c : ℕ) : Type 0 where
   pub low : 0 < c
   pub high : c ≤ n
 

@@ -1,4 +1,4 @@
--- Question 4: the table is well formed. Each clause stands for the words of document 01 above it.
+-- Question 4: the table is well formed. Each clause stands for the words of RULES.md, section 15 (Well formed), above it.
 use Prim.Native.Nat.{ℕ, suc}
 use mathlib.Core.Bool.{Bool, not, _&&_, _||_, Bool·beq, cond}
 use lib.Dec.{eqb, leb, ltb}

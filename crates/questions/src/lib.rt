@@ -1,4 +1,4 @@
-// Questions 8 to 14 of document 01, on every table. Past the last controller the definitions read zeros; no value of the
+// Questions 8 to 14, on every table. Past the last controller the definitions read zeros; no value of the
 // type has empty arrays, so each function that reads a controller answers that case by itself. A function that indexes a
 // table copies it, so each kind of event has one that does.
 ghost use mathlib.Core.Path.{_≡_};
@@ -148,7 +148,7 @@ fn stop_refusal(t: Table, controller: u8, kept: usize) -> u8
     refusal::ACCEPTED
 }
 
-// The first no of questions 8 to 14, in document 01's order for each kind of event.
+// The first no of questions 8 to 14, in their order for each kind of event.
 pub fn refusal(t: Table, e: Event) -> u8
     ensures { λ r. ⌜ r ≡ firstNo (eventQuestions t e) ⌝ }
 {

@@ -15,7 +15,7 @@ use Rattle.lists.proofs.Clipped.{any-none}
 use Rattle.model.specs.Tables.{yes?, slotAt, entry, held, applied}
 use Rattle.model.specs.WellFormed.{inLog, goodMarks, goodBuffer}
 use Rattle.model.specs.declared.Controller.{Controller}
-use Rattle.validity.specs.Parts.{part}
+use Rattle.model.specs.Parts.{part}
 use Rattle.validity.specs.Flags.{goodEntry, goodSlot}
 
 elsewhere : (a b : Bool) → a ≡ false → (a || b) ≡ true → b ≡ true

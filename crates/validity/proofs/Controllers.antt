@@ -21,7 +21,8 @@ use Rattle.model.specs.declared.Controller.{Controller}
 use Rattle.model.specs.declared.Table.{Table}
 use Rattle.validity.specs.declared.LogRead.{LogRead}
 use Rattle.validity.specs.declared.BufferRead.{BufferRead}
-use Rattle.validity.specs.Parts.{part, whole, goodAlone}
+use Rattle.model.specs.Parts.{part, whole}
+use Rattle.validity.specs.Parts.{goodAlone}
 use Rattle.validity.specs.Flags.{Seated, taken, goodEntries, ReadsLog, ReadsBuffer, goodSlot, slotTest, greatestOf}
 use Rattle.validity.proofs.Buffers.{slot, slots-are}
 use Rattle.validity.proofs.Numbers.{long-enough}

@@ -15,7 +15,7 @@ use Rattle.lists.proofs.Clipped.{all-failed}
 use Rattle.model.specs.Tables.{noMessage, message}
 use Rattle.model.specs.WellFormed.{named, sameName, goodMessage, goodMessages}
 use Rattle.model.specs.declared.Message.{Message}
-use Rattle.validity.specs.Parts.{part}
+use Rattle.model.specs.Parts.{part}
 use Rattle.validity.specs.Flags.{taken, Seated}
 use Rattle.validity.proofs.Flags.{none-taken, next-taken, flag-read, apart, again}
 

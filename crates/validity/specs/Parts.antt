@@ -1,21 +1,12 @@
--- A table made of its parts, and one of which only some parts are given, for the clauses of the well-formed test that read
--- no other.
+-- What the well-formed test asks of one controller, but for its read positions.
 use Prim.Native.Nat.{ℕ}
 use mathlib.Core.Bool.{Bool, not, _&&_, _||_, Bool·beq}
-use mathlib.Core.List.{List, []}
 use lib.Dec.{leb}
 use Rattle.lists.specs.Below.{all}
 use Rattle.model.specs.Tables.{yes?, held, applied}
 use Rattle.model.specs.WellFormed.{inLog, goodLog, goodMarks, goodBuffer, goodHighest}
-use Rattle.model.specs.declared.Message.{Message}
 use Rattle.model.specs.declared.Controller.{Controller}
 use Rattle.model.specs.declared.Table.{Table}
-
-abbrev pub whole : ℕ → ℕ → List Message → List Controller → Table
-whole n k M C = record { n = n; count = k; messages = M; controllers = C }
-
-abbrev pub part : ℕ → ℕ → List Message → Table
-part n k M = whole n k M []
 
 -- the clauses of a controller whose greatest number sent is given, but for its read positions
 unfoldable pub goodAlone : Table → ℕ → Controller → Bool

@@ -10,7 +10,8 @@ ghost use Rattle.lists.specs.Below.{all};
 ghost use Rattle.lists.specs.Build.{tabulate};
 ghost use Rattle.model.specs.Tables.{none, noController, at, yes?};
 ghost use Rattle.model.specs.WellFormed.{goodMessage, goodMessages, goodMark, goodController, wellFormed};
-ghost use Rattle.validity.specs.Parts.{part, whole, goodAlone};
+ghost use Rattle.model.specs.Parts.{part, whole};
+ghost use Rattle.validity.specs.Parts.{goodAlone};
 ghost use Rattle.validity.specs.Flags.{Seated, ReadsLog, goodEntry, ReadsBuffer, goodSlot, slotTest, greatestOf};
 use model::Controller;
 use model::ForwardNumber;
@@ -186,12 +187,6 @@ fn good_slots(
 
 // NUMBERS
 
-fn greater(a: u8, b: u8) -> u8
-    ensures { λ r. ⌜ r ≡ max a b ⌝ }
-{
-    if a < b { b } else { a }
-}
-
 fn number_if(flag: u8, m: Message) -> u8
     ensures { λ r. ⌜ r ≡ cond (yes? flag) (m .number .0) 0 ⌝ }
 {
@@ -208,7 +203,7 @@ fn greatest_numbers(count: usize, messages: [Message; 64], flags: [u8; 64]) -> [
         let m = messages[s];
         let sender = m.sender as usize;
         let number = number_if(flags[s], m);
-        greatest[sender] = greater(greatest[sender], number);
+        greatest[sender] = numbers::greater(greatest[sender], number);
     }
     greatest
 }

@@ -21,15 +21,15 @@ use Rattle.listing.proofs.put_line.Tie as tie
 abbrev stored : tie.After-put-whole → tie.After-store-line
 stored c = c .before .before .before .before
 
-abbrev clipped : tie.After-buffer → tie.After-clipped
+abbrev clipped : tie.After-buffer → tie.After-at-most
 clipped c = c .before .before .before
 
-abbrev start : tie.After-clipped → tie.Start
+abbrev start : tie.After-at-most → tie.Start
 start c = c .before .before
 
 -- the line that is stored, and the one of the set
-abbrev text : tie.After-clipped → List ℕ
-text c = let s = start c in line (s .args .event) (s .args .controller) (showing (toZ w32 (ofZ w32 (s .args .panel .total)))) (take (c .clipped .result) (s .args .names))
+abbrev text : tie.After-at-most → List ℕ
+text c = let s = start c in line (s .args .event) (s .args .controller) (showing (toZ w32 (ofZ w32 (s .args .panel .total)))) (take (c .at-most .result) (s .args .names))
 
 abbrev wanted : tie.Start → List ℕ
 wanted s = lineOf (s .args .event) (s .args .controller) (s .args .panel) (take (s .args .size) (s .args .names))
@@ -45,27 +45,27 @@ room : (c : tie.After-struct-told) → length (text (c .before .before)) ≤ 549
 room c =
     let k = c .before .before in
     let s = start k in
-    line-room (s .args .event) (s .args .controller) (s .args .panel .total) (s .args .names) _ (s .args .size) (told c) (owned s) (k .clipped .ensures) (s .fits .event .fits) (s .fits .controller .fits)
+    line-room (s .args .event) (s .args .controller) (s .args .panel .total) (s .args .names) _ (s .args .size) (told c) (owned s) (k .at-most .ensures) (s .fits .event .fits) (s .fits .controller .fits)
 
 same-line : (c : tie.After-struct-told) → text (c .before .before) ≡ wanted (start (c .before .before))
 same-line c =
     let k = c .before .before in
     let s = start k in
-    line-of-clipped (s .args .event) (s .args .controller) (s .args .panel .total) (s .args .names) _ (s .args .size) (told c) (owned s) (k .clipped .ensures) (c .before .if1 .left)
+    line-of-clipped (s .args .event) (s .args .controller) (s .args .panel .total) (s .args .names) _ (s .args .size) (told c) (owned s) (k .at-most .ensures) (c .before .if1 .left)
 
 whole : (c : tie.After-store-line) → Front (wanted (start (clipped (c .before)))) (c .store-line .last .0) (c .store-line .result)
 whole c =
     let put = c .before in
     rw (← same-line (put .before)) (stored-front {x = text (clipped put)} (room (put .before)) (c .store-line .ensures))
 
-clipped-requires : tie.Need-clipped-requires
-clipped-requires c κs = search needs
+at-most-requires : tie.Need-at-most-requires
+at-most-requires c κs = search needs
 
 returns : tie.Need-returns
 returns c =
     let k = c .before in
     let s = start k in
-    rw (← no-line (s .args .event) (s .args .controller) (s .args .panel .total) (s .args .names) _ (s .args .size) (k .clipped .ensures) (c .if1 .taken))
+    rw (← no-line (s .args .event) (s .args .controller) (s .args .panel .total) (s .args .names) _ (s .args .size) (k .at-most .ensures) (c .if1 .taken))
     (fitting-written (omega arith) (stored-none _ 0))
 
 slice-aggregate-store-line : tie.Need-slice-aggregate-store-line
@@ -95,7 +95,7 @@ pub put-line-spec : {M : Type 1} → statement M
 put-line-spec =
     tie.close
     (tie.spec
-    clipped-requires
+    at-most-requires
     returns
     slice-aggregate-store-line
     store-line-requires

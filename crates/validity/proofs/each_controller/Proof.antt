@@ -9,7 +9,7 @@ use Rattle.lists.proofs.Clipped.{all-failed}
 use Rattle.model.specs.Tables.{at}
 use Rattle.model.specs.WellFormed.{goodController}
 use Rattle.model.specs.declared.Table.{Table}
-use Rattle.validity.specs.Parts.{whole}
+use Rattle.model.specs.Parts.{whole}
 use Rattle.validity.proofs.Controllers.{Tested, controller-is}
 use borrow.Author.Needs.{needs}
 use Rattle.validity.proofs.each_controller.Statement.{statement}

@@ -4,7 +4,7 @@ use mathlib.Core.Bool.{true, false, not}
 use borrow.Author.Tests.{not-true, not-false}
 use Rattle.model.specs.WellFormed.{goodMessages}
 use Rattle.model.specs.declared.Table.{Table}
-use Rattle.validity.specs.Parts.{part}
+use Rattle.model.specs.Parts.{part}
 use Rattle.validity.proofs.Messages.{seated}
 use Rattle.validity.proofs.Controllers.{inBounds, out-of-range, few, fits, bad-messages, tested}
 use Rattle.validity.proofs.well_formed.Statement.{statement}

@@ -3,7 +3,7 @@ use mathlib.Core.Path.{refl, subst}
 use borrow.Author.Needs.{needs}
 use Rattle.model.specs.Tables.{seats}
 use Rattle.model.specs.Events.{after, appliedBy}
-use Rattle.model.specs.Facts.{Named}
+use Rattle.model.specs.Facts.{Among}
 use Rattle.model.specs.declared.Event.{Event}
 use Rattle.model.specs.declared.Event.the-variants.{Send, Handover, Stop}
 use Rattle.events.specs.Conditions.{Accepted}
@@ -43,7 +43,7 @@ sender c = sendable _ _ _ (subst (Accepted (sent-start c .args .t)) (c .e .given
 handover : (c : tie.After-e2) → Accepted (handed-start c .args .t) (Handover (c .e2 .given .0 .0) (c .e2 .given .0 .1 .0))
 handover c = subst (Accepted (handed-start c .args .t)) (c .e2 .given .1) (handed-start c .pre .0)
 
-controller : (c : tie.After-e3) → Named seats (c .e3 .given .0 .0)
+controller : (c : tie.After-e3) → Among seats (c .e3 .given .0 .0)
 controller c = stoppable _ _ _ (subst (Accepted (stopped-start c .args .t)) (c .e3 .given .1) (stopped-start c .pre .0))
 
 enum-known-e : tie.Need-enum-known-e

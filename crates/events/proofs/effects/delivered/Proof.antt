@@ -7,7 +7,7 @@ use borrow.Author.Tests.{not-true, not-false}
 use borrow.Author.Needs.{needs}
 use lib.ListN.{getD}
 use Rattle.model.specs.Tables.{noMessage, message}
-use Rattle.model.specs.Facts.{Named, WellFormed}
+use Rattle.model.specs.Facts.{Among, WellFormed}
 use Rattle.model.specs.Sized.{SizedController}
 use Rattle.model.specs.declared.Message.{Message}
 use Rattle.model.specs.declared.Table.{Table}
@@ -34,15 +34,15 @@ sized : (c : tie.Start Inv-loop μ-loop) → SizedController (c .args .c)
 sized c = controller-sized (c .args .c) _ (c .good .1 .0)
 
 -- the sender of the slot that the loop is at
-sender : (c : tie.In-loop Inv-loop μ-loop) → Named (start (c .before) .args .t .n) (getD (start (c .before) .args .t .messages) (c .before .loop .slot) noMessage .sender)
+sender : (c : tie.In-loop Inv-loop μ-loop) → Among (start (c .before) .args .t .n) (getD (start (c .before) .args .t .messages) (c .before .loop .slot) noMessage .sender)
 unfolding message
 sender c = formed (start (c .before)) .senders _ (c .loop-test .taken)
 
 -- the same in every table with these messages
 in-table : (c : tie.In-loop Inv-loop μ-loop) (t : Table) → t .messages ≡ start (c .before) .args .t .messages
-    → Named (start (c .before) .args .t .n) (message t (c .before .loop .slot) .sender)
+    → Among (start (c .before) .args .t .n) (message t (c .before .loop .slot) .sender)
 unfolding message
-in-table c t e = subst (λ (M : List Message). Named (start (c .before) .args .t .n) (getD M (c .before .loop .slot) noMessage .sender)) (sym e) (sender c)
+in-table c t e = subst (λ (M : List Message). Among (start (c .before) .args .t .n) (getD M (c .before .loop .slot) noMessage .sender)) (sym e) (sender c)
 
 loop-holds : tie.Need-loop-holds Inv-loop μ-loop
 loop-holds c = (omega arith, λ t e. partly-none t _ _ (sized (c .before) .highest))

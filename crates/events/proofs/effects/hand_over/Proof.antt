@@ -3,7 +3,7 @@ use mathlib.Core.Path.{_≡_, sym, subst}
 use borrow.Author.Needs.{needs}
 use Rattle.model.specs.Tables.{seats}
 use Rattle.model.specs.Events.{received, handoverSet}
-use Rattle.model.specs.Facts.{Named}
+use Rattle.model.specs.Facts.{Among}
 use Rattle.model.specs.Sized.{Sized, SizedController}
 use Rattle.model.proofs.Owned.{table-sized}
 use Rattle.model.proofs.Tested.{facts}
@@ -35,7 +35,7 @@ start c = c .before .before
 sized : (s : tie.Start) → Sized (s .args .t)
 sized s = table-sized (s .args .t) _ (s .good .0)
 
-receiver : (s : tie.Start) → Named seats (s .args .receiver)
+receiver : (s : tie.Start) → Among seats (s .args .receiver)
 receiver s = handable _ _ _ (s .pre .0) .receiver
 
 -- the entry is read, and the set is the definition's, of messages of the run

@@ -4,7 +4,7 @@ use native.Mathlib.Omega.{arith}
 use borrow.Author.Needs.{needs}
 use Rattle.model.specs.Tables.{seats}
 use Rattle.model.specs.Events.{subject}
-use Rattle.model.specs.Facts.{Named}
+use Rattle.model.specs.Facts.{Among}
 use Rattle.model.specs.declared.Event.{Event}
 use Rattle.model.specs.declared.Event.the-variants.{Send}
 use Rattle.events.specs.Effects.{Leaves}
@@ -21,7 +21,7 @@ abbrev start : tie.After-e → tie.Start
 start c = c .before .before .before
 
 -- the event's controller has a seat, and a sender its room
-seat : (c : tie.After-subject) → Named seats (c .subject .result)
+seat : (c : tie.After-subject) → Among seats (c .subject .result)
 seat c = rw (c .subject .ensures) (subject-seated _ _ (c .before .pre .0))
 
 leaves : (c : tie.After-e) → Leaves (start c .args .t) (Send (c .e .given .0 .0) (c .e .given .0 .1 .0)) (start c .args .c)

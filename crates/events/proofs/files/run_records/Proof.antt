@@ -7,7 +7,7 @@ use lib.ListN.{length}
 use borrow.Author.Needs.{needs}
 use denote.Ref.{now}
 use Rattle.model.specs.Tables.{seats}
-use Rattle.model.specs.Facts.{Named}
+use Rattle.model.specs.Facts.{Among}
 use Rattle.model.specs.declared.Event.{Event}
 use Rattle.model.specs.declared.Event.the-variants.{Send}
 use Rattle.events.specs.Effects.{Leaves}
@@ -50,7 +50,7 @@ leaves c =
     let e = d .turn .ensures in
     subst (λ (x : Event). Leaves (inside d .before .loop .table) x (d .turn .result .controller)) (sym (e .event)) (e .leaves (sym (e .number) ∙ c .if1 .left))
 
-seat : (c : tie.After-subject Inv-loop μ-loop) → Named seats (c .subject .result)
+seat : (c : tie.After-subject Inv-loop μ-loop) → Among seats (c .subject .result)
 seat c = rw (c .subject .ensures) (subject-seated _ _ (leaves (went-on c) .0))
 
 sends : (c : tie.After-e Inv-loop μ-loop)
