@@ -1,2 +1,4 @@
+pub mod Listing
 pub mod Matrix
 pub mod Removal
+pub mod Answer

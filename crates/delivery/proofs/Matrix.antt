@@ -1,73 +1,70 @@
 -- The matrix of line 16's relation in the scratch area: what a turn of the loops that fill it keeps, and what clearing leaves.
 -- Assumes nothing.
 use mathlib.Core.Path.{_≡_, refl, sym, ap, _∙_}
+use mathlib.Core.Logic.{_≢_}
 use mathlib.Core.Bool.{true, false}
 use mathlib.Core.List.{List}
 use Prim.Native.Nat.{ℕ, _+_, _-_, _*_, _≤_, _<_, min}
 use native.Mathlib.Decide.{decLt}
 use native.Mathlib.Omega.{arith}
-use borrow.Author.Count.{below-none, below-more}
-use borrow.Author.Tests.{le-leb, lt-leb}
-use lib.ListN.{length, getD, set, replicate, length-set, List·getD-eq-default}
+use lib.ListN.{length, getD, set, length-set, List·getD-eq-default}
 use lib.Seq.{getD-set-same, getD-set-other, ext-getD}
 use Rattle.lists.proofs.Tests.{contradiction}
 use Rattle.lists.specs.Build.{over}
 use Rattle.lists.proofs.Build.{over-end, length-over, getD-over, getD-over-past}
 use Rattle.lists.proofs.Stores.{over-rest}
-use Rattle.model.specs.Tables.{yes?, entry}
-use Rattle.model.specs.Delivery.{Slots, goesBefore, applicable}
+use Rattle.model.specs.Tables.{capacity, yes?}
+use Rattle.model.specs.Delivery.{Slots, has}
+use Rattle.model.specs.Largest.{inBuffer, precedes}
 use Rattle.model.specs.Calls.{cleared}
 use Rattle.model.specs.declared.Pending.{Pending}
-use Rattle.delivery.specs.Apply.{RowFilled, RowsFilled, applyAnswer, applyScratch, Applied}
+use Rattle.delivery.specs.Apply.{among, Listed, flag, RowFilled, RowsFilled}
+use Rattle.delivery.proofs.Listing.{among-none, among-more}
 
-module _ (n : ℕ) (P : List Pending) where
+module _ (n : ℕ) (P : List Pending) (L : List ℕ) where
   -- ONE ROW
 
-  pub row-start : (i : ℕ) (s : List ℕ) → RowFilled n P i 0 s s
-  row-start i s = record { size = refl; ahead = λ x h. refl; behind = λ x h. refl; flags = below-none _ }
+  pub row-start : (i : ℕ) (s : List ℕ) → RowFilled n P L i 0 s s
+  row-start i s = record { size = refl; ahead = λ x h. refl; behind = λ x h. refl; flags = λ t h a. contradiction a (among-none L t) }
 
-  pub row-stored : (i k : ℕ) (s m : List ℕ) (x : ℕ) → i < 64 → k < 64 → 4096 ≤ length s
-      → RowFilled n P i k s m → yes? x ≡ goesBefore n (entry P i) (entry P k) → RowFilled n P i (k + 1) s (set m (i * 64 + k) x)
+  pub row-stored : (i k : ℕ) (s m : List ℕ) (x : ℕ) → i < 64 → getD L k 0 < 64 → 4096 ≤ length s
+      → RowFilled n P L i k s m → yes? x ≡ precedes n P i (getD L k 0) → RowFilled n P L i (k + 1) s (set m (i * 64 + getD L k 0) x)
   row-stored i k s m x hi hk l r e = record {
-    size = length-set m (i * 64 + k) x ∙ r .size;
-    ahead = λ y h. getD-set-other m (i * 64 + k) y x 0 (omega arith) ∙ r .ahead y h;
-    behind = λ y h. getD-set-other m (i * 64 + k) y x 0 (omega arith) ∙ r .behind y h;
-    flags =
-        below-more _ k
-        (λ t h q. ap yes? (getD-set-other m (i * 64 + k) (i * 64 + t) x 0 (omega arith)) ∙ r .flags t h q)
-        (λ q. ap yes? (getD-set-same m (i * 64 + k) x 0 (omega (arith, r .size))) ∙ e);
-  }
-
-  pub row-skipped : (i k : ℕ) (s m : List ℕ) → RowFilled n P i k s m → yes? (entry P k .held) ≡ false → RowFilled n P i (k + 1) s m
-  row-skipped i k s m r e = record {
-    size = r .size;
-    ahead = r .ahead;
-    behind = r .behind;
-    flags = below-more _ k (r .flags) (λ q. contradiction q e);
+    size = length-set m (i * 64 + getD L k 0) x ∙ r .size;
+    ahead = λ y h. getD-set-other m (i * 64 + getD L k 0) y x 0 (omega arith) ∙ r .ahead y h;
+    behind = λ y h. getD-set-other m (i * 64 + getD L k 0) y x 0 (omega arith) ∙ r .behind y h;
+    flags = λ t h a.
+        among-more L (λ j. j < capacity → flag (set m (i * 64 + getD L k 0) x) i j ≡ precedes n P i j) k
+        (λ j d b hj. ap yes? (getD-set-other m (i * 64 + getD L k 0) (i * 64 + j) x 0 (omega (arith, d))) ∙ r .flags j hj b)
+        (λ _. ap yes? (getD-set-same m (i * 64 + getD L k 0) x 0 (omega (arith, r .size))) ∙ e) t a h;
   }
 
   -- THE ROWS
 
-  pub rows-start : (s : List ℕ) → RowsFilled n P 0 s s
-  rows-start s = record { size = refl; behind = λ x h. refl; flags = λ a t h. absurd (omega arith) }
+  other-row : (i k : ℕ) (s m : List ℕ) → RowFilled n P L i k s m → (j t : ℕ) → j ≢ i → t < 64 → getD m (j * 64 + t) 0 ≡ getD s (j * 64 + t) 0
+  other-row i k s m r j t d h = elim (decLt j i) [ yes l ↦ r .ahead (j * 64 + t) (omega arith) | no l ↦ r .behind (j * 64 + t) (omega (arith, d)) ]
 
-  pub rows-stored : (i : ℕ) (s m m′ : List ℕ) → i < 64 → RowsFilled n P i s m → RowFilled n P i 64 m m′ → RowsFilled n P (i + 1) s m′
-  rows-stored i s m m′ h r f = record {
+  pub rows-start : (S : Slots) (s : List ℕ) → RowsFilled n P L S 0 s s
+  rows-start S s = record { size = refl; behind = λ x h. refl; flags = λ i t hi ht a. contradiction a (among-none L i) }
+
+  pub rows-stored : (S : Slots) (k size : ℕ) (s m m′ : List ℕ) → Listed P 64 size L → getD L k 0 < 64 → RowsFilled n P L S k s m
+      → RowFilled n P L (getD L k 0) size m m′ → RowsFilled n P L S (k + 1) s m′
+  rows-stored S k size s m m′ l h r f = record {
     size = f .size ∙ r .size;
-    behind = λ x l. f .behind x (omega arith) ∙ r .behind x l;
-    flags = λ a t ha ht p q.
-        below-more (λ b. yes? (entry P b .held) ≡ true → yes? (getD m′ (b * 64 + t) 0) ≡ goesBefore n (entry P b) (entry P t)) i
-        (λ b hb p. ap yes? (f .ahead (b * 64 + t) (omega arith)) ∙ r .flags b t hb ht p q)
-        (λ _. f .flags t ht q) a ha p;
+    behind = λ x b. f .behind x (omega arith) ∙ r .behind x b;
+    flags = λ i t hi ht a p q.
+        among-more L (λ j. j < capacity → has S j ≡ true → flag m′ j t ≡ precedes n P j t) k
+        (λ j d b hj pj. ap yes? (other-row (getD L k 0) size m m′ f j t d ht) ∙ r .flags j t hj ht b pj q)
+        (λ _ _. f .flags t ht (l .whole t ht ∙ q)) i a hi p;
   }
 
-  pub rows-skipped : (i : ℕ) (s m : List ℕ) → RowsFilled n P i s m → yes? (entry P i .held) ≡ false → RowsFilled n P (i + 1) s m
-  rows-skipped i s m r e = record {
+  pub rows-skipped : (S : Slots) (k : ℕ) (s m : List ℕ) → RowsFilled n P L S k s m → has S (getD L k 0) ≡ false → RowsFilled n P L S (k + 1) s m
+  rows-skipped S k s m r e = record {
     size = r .size;
     behind = r .behind;
-    flags = λ a t ha ht p q.
-        below-more (λ b. yes? (entry P b .held) ≡ true → yes? (getD m (b * 64 + t) 0) ≡ goesBefore n (entry P b) (entry P t)) i
-        (λ b hb p. r .flags b t hb ht p q) (λ p. contradiction p e) a ha p;
+    flags = λ i t hi ht a p q.
+        among-more L (λ j. j < capacity → has S j ≡ true → flag m j t ≡ precedes n P j t) k
+        (λ j d b hj pj. r .flags j t hj ht b pj q) (λ _ pj. contradiction pj e) i a hi p;
   }
 
 -- CLEARING
@@ -84,7 +81,7 @@ cleared-all s m k e h = elim (decLt (length s) 4096) [
 ]
 
 -- what is cleared depends on the bytes behind the matrix alone
-cleared-same : (s m : List ℕ) → 4096 ≤ length s → length m ≡ length s → ((x : ℕ) → 4096 ≤ x → getD m x 0 ≡ getD s x 0) → cleared m ≡ cleared s
+pub cleared-same : (s m : List ℕ) → 4096 ≤ length s → length m ≡ length s → ((x : ℕ) → 4096 ≤ x → getD m x 0 ≡ getD s x 0) → cleared m ≡ cleared s
 unfolding cleared
 cleared-same s m l e f =
     ext-getD 0 _ _ (length-over _ 4096 m ∙ e ∙ sym (length-over _ 4096 s))
@@ -92,17 +89,3 @@ cleared-same s m l e f =
       | yes p ↦ getD-over _ 4096 m i 0 p (omega arith) ∙ sym (getD-over _ 4096 s i 0 p l)
       | no q ↦ getD-over-past _ 4096 m i 0 (omega arith) ∙ f i (omega arith) ∙ sym (getD-over-past _ 4096 s i 0 (omega arith))
     ])
-
--- THE ANSWER
-
-pub applied-with-room : (n : ℕ) (P : List Pending) (s m after : List ℕ) (answer : Slots) → 4096 ≤ length s → RowsFilled n P 64 s m
-    → answer ≡ applicable n P → after ≡ cleared m → Applied n P s answer after
-unfolding applyAnswer applyScratch
-applied-with-room n P s m after answer l r e f = record {
-  set = rw (le-leb 4096 (length s) l) e;
-  scratch = rw (le-leb 4096 (length s) l) (f ∙ cleared-same s m l (r .size) (r .behind));
-}
-
-pub applied-without-room : (n : ℕ) (P : List Pending) (s : List ℕ) → length s < 4096 → Applied n P s (replicate 64 false) s
-unfolding applyAnswer applyScratch
-applied-without-room n P s l = record { set = rw (lt-leb 4096 (length s) l); scratch = rw (lt-leb 4096 (length s) l) }

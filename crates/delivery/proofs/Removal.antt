@@ -1,25 +1,30 @@
 -- The loop of line 16: each removal is one that the definition allows and makes the set smaller, and where none is left the
--- set is the one that is applied. Assumes nothing.
+-- set is the largest. With the matrix and the candidates that is the set applied; where no candidate stands beside another
+-- slot in the buffer, the candidates are. Assumes nothing.
 use mathlib.Core.Path.{_≡_, refl, sym, ap, subst, _∙_}
+use mathlib.Core.Logic.{⊎-elim}
 use mathlib.Core.Bool.{Bool, true, false, not, _&&_, _||_}
 use mathlib.Core.List.{List}
-use Prim.Native.Nat.{ℕ, _<_}
+use Prim.Native.Nat.{ℕ, zero, suc, _≤_, _<_}
 use native.Mathlib.Decide.{ℕ-discrete}
 use native.Mathlib.Omega.{arith}
-use borrow.Author.Tests.{not-true, not-false}
-use lib.ListN.{length, set, length-set}
+use borrow.Author.Tests.{eqb-true, not-true, not-false}
+use lib.ListN.{length, getD, set}
+use lib.Dec.{eqb}
 use lib.Seq.{getD-set-same, getD-set-other}
 use Rattle.lists.specs.Below.{count, Within}
-use Rattle.lists.proofs.Tests.{and-left, and-right, contradiction}
-use Rattle.lists.proofs.Below.{count-le, count-eq}
+use Rattle.lists.proofs.Tests.{and-left, and-right, both, or-cases, contradiction}
+use Rattle.lists.proofs.Below.{count-le, count-eq, count-pos}
 use Rattle.lists.proofs.Build.{length-tabulate, getD-tabulate, tabulate-self}
 use Rattle.model.specs.Tables.{capacity}
 use Rattle.model.specs.Delivery.{Slots, has, largest, applicable}
-use Rattle.model.specs.declared.Pending.{Pending}
 use Rattle.model.specs.Largest.{Closed, Reached, candidates, removal, inBuffer, candidate, precedes}
 use Rattle.model.proofs.Largest.{largest-is, largest-unique, reached-size, reached-fit, removals-end}
+use Rattle.model.specs.declared.Pending.{Pending}
 use Rattle.delivery.specs.Apply
-use Rattle.delivery.specs.Apply.{flag, Flags, others}
+use Rattle.delivery.specs.Apply.{among, Listed, Candidates, flag, RowsFilled, Removable}
+use Rattle.delivery.specs.declared.Chosen.{Chosen}
+use Rattle.delivery.proofs.Listing.{among-at, among-found}
 
 -- THE SAME SET: what is largest depends on the candidates, on what is held, and on the relation from the first to the second
 
@@ -56,108 +61,120 @@ largest-alike N held fit before held′ fit′ before′ a =
     })
     (largest-is N held′ fit′ before′)
 
--- THE LOOP
-
--- Begun with the candidates C and the others O, the loop has members S and others W.
-pub record Removing (m : List ℕ) (C O S W : Slots) : Type 0 where
-  pub left : Reached capacity (λ s. has C s || has O s) (has C) (flag m) S
-  pub size : length W ≡ capacity
-  pub rest : (t : ℕ) → t < capacity → has W t ≡ (not (has S t) && (has C t || has O t))
-
--- whether slot t makes member s go
+-- whether slot t, of those in the buffer, makes member s of S go
 abbrev pub barred : List ℕ → Slots → ℕ → ℕ → Bool
-barred m W s t = has W t && not (flag m s t)
+barred m S s t = not (has S t) && not (flag m s t)
 
-absorbs : (a b : Bool) → ((a || b) && a) ≡ a
-absorbs true b = refl
-absorbs false true = refl
-absorbs false false = refl
+-- THE LOOP, with the first `size` slots of L, begun with the candidates C and by the flags of m
 
-module _ (m : List ℕ) (C O S W : Slots) (r : Removing m C O S W) where
-  removed-within : (s : ℕ) → has S s ≡ true → Within capacity (has (set S s false)) (has S)
-  removed-within s p k h e = go (ℕ-discrete k s)
-    where
-      go : Dec (k ≡ s) → has S k ≡ true
-      go (yes q) = rw q p
-      go (no d) = sym (getD-set-other S s k false false d) ∙ e
+module _ (size : ℕ) (L : List ℕ) (C : Slots) (m : List ℕ) where
+  pub record Removing (S : Slots) : Type 0 where
+    pub left : Reached capacity (among size L) (has C) (flag m) S
 
-  gone : (s : ℕ) → s < capacity → has (set S s false) s ≡ false
-  gone s h = getD-set-same S s false false (omega (arith, reached-size _ _ _ _ (r .left)))
-
-  pub removed-fewer : (s : ℕ) → s < capacity → has S s ≡ true → count capacity (has (set S s false)) < count capacity (has S)
-  removed-fewer s h p =
-      let w = removed-within s p in
-      let d : count capacity (has (set S s false)) ≡ count capacity (has S) → ⊥ =
-      λ q. contradiction (count-eq capacity (has (set S s false)) (has S) w q s h p) (gone s h) in
-      omega (arith, count-le capacity (has (set S s false)) (has S) w, d)
-
-  removed-rest : (s t : ℕ) → s < capacity → t < capacity → has S s ≡ true
-      → has (set W s true) t ≡ (not (has (set S s false) t) && (has C t || has O t))
-  removed-rest s t hs ht p = go (ℕ-discrete t s)
-    where
-      member : (has C s || has O s) ≡ true
-      member = and-left (has C s || has O s) (has C s) (reached-fit _ _ _ _ (r .left) s hs p)
-
-      go : Dec (t ≡ s) → has (set W s true) t ≡ (not (has (set S s false) t) && (has C t || has O t))
-      go (yes e) = rw (e, gone s hs, member) (getD-set-same W s true false (omega (arith, r .size)))
-      go (no d) = getD-set-other W s t true false d ∙ r .rest t ht ∙ rw (getD-set-other S s t false false d)
-
-  pub removed-still : (s t : ℕ) → s < capacity → t < capacity → has S s ≡ true → barred m W s t ≡ true → Removing m C O (set S s false) (set W s true)
-  removed-still s t hs ht p b =
-      let w = sym (r .rest t ht) ∙ and-left (has W t) (not (flag m s t)) b in
-      record {
-        left =
-            removal s t hs ht p (and-right (not (has S t)) (has C t || has O t) w) (not-true (has S t) (and-left (not (has S t)) (has C t || has O t) w))
-            (not-true (flag m s t) (and-right (has W t) (not (flag m s t)) b)) (r .left);
-        size = length-set W s true ∙ r .size;
-        rest = λ k h. removed-rest s k hs h p;
-      }
-
-  none-barred : ((s : ℕ) → s < capacity → has S s ≡ true → (t : ℕ) → t < capacity → barred m W s t ≡ false)
-      → S ≡ largest capacity (λ s. has C s || has O s) (has C) (flag m)
-  none-barred f =
-      removals-end _ _ _ _ (r .left)
-      (λ s t hs ht p h q. stays (has W t) (flag m s t) (f s hs p t ht) (r .rest t ht ∙ rw (q, h)))
-    where
-      stays : (a b : Bool) → (a && not b) ≡ false → a ≡ true → b ≡ true
-      stays true b e p = not-false b e
-      stays false b e p = contradiction p refl
-
--- ITS START AND ITS END
-
-module _ (n : ℕ) (P : List Pending) (C O : Slots) (c : C ≡ Apply.candidates n P) (o : O ≡ others P C) where
-  has-candidate : (s : ℕ) → s < capacity → has C s ≡ (inBuffer n P s && candidate n P s)
-  unfolding Apply.candidates Apply.candidate
-  has-candidate s h = ap (λ X. has X s) c ∙ getD-tabulate capacity _ false s h
-
-  has-either : (s : ℕ) → s < capacity → (has C s || has O s) ≡ inBuffer n P s
-  unfolding others
-  has-either s h =
-      go (has C s) (has O s) (inBuffer n P s) (candidate n P s) (has-candidate s h) (ap (λ X. has X s) o ∙ getD-tabulate capacity _ false s h)
-    where
-      go : (c o b d : Bool) → c ≡ (b && d) → o ≡ (not c && b) → (c || o) ≡ b
-      go true o b d e f = sym (and-left b d (sym e))
-      go false o b d e f = f
-
-  pub removing-start : (m : List ℕ) → Removing m C O C O
-  unfolding Apply.candidates others
-  removing-start m = record {
+  pub removing-start : length C ≡ capacity → Removable size L C m → Removing C
+  removing-start l r = record {
     left =
-        subst (λ X. Reached capacity (λ s. has C s || has O s) (has C) (flag m) X)
-        (tabulate-self C false capacity _ (ap length c ∙ length-tabulate capacity _) (λ k h. absorbs (has C k) (has O k))) candidates;
-    size = ap length o ∙ length-tabulate capacity _;
-    rest = λ t h. let e = ap (λ X. has X t) o ∙ getD-tabulate capacity _ false t h in e ∙ ap (λ b. not (has C t) && b) (sym (has-either t h));
+        subst (Reached capacity (among size L) (has C) (flag m)) (tabulate-self C false capacity _ l (λ s h. listed s h (has C s) refl)) candidates;
   }
+    where
+      listed : (s : ℕ) → s < capacity → (b : Bool) → has C s ≡ b → (among size L s && b) ≡ b
+      listed s h true e = both (r .listed s h e) refl
+      listed s h false e = go (among size L s)
+        where
+          go : (a : Bool) → (a && false) ≡ false
+          go true = refl
+          go false = refl
 
-  pub settled : (m : List ℕ) (S W : Slots) → Flags n P 64 m → Removing m C O S W
-      → ((s : ℕ) → s < capacity → has S s ≡ true → (t : ℕ) → t < capacity → barred m W s t ≡ false) → S ≡ applicable n P
+  module _ (S : Slots) (r : Removing S) where
+    removed-within : (s : ℕ) → has S s ≡ true → Within capacity (has (set S s false)) (has S)
+    removed-within s p k h e = go (ℕ-discrete k s)
+      where
+        go : Dec (k ≡ s) → has S k ≡ true
+        go (yes q) = rw q p
+        go (no d) = sym (getD-set-other S s k false false d) ∙ e
+
+    pub removed-fewer : (s : ℕ) → s < capacity → has S s ≡ true → count capacity (has (set S s false)) < count capacity (has S)
+    removed-fewer s h p =
+        let w = removed-within s p in
+        let gone = getD-set-same S s false false (omega (arith, reached-size _ _ _ _ (r .left))) in
+        let d : count capacity (has (set S s false)) ≡ count capacity (has S) → ⊥ =
+        λ q. contradiction (count-eq capacity (has (set S s false)) (has S) w q s h p) gone in
+        omega (arith, count-le capacity (has (set S s false)) (has S) w, d)
+
+    pub removed-still : (s t : ℕ) → s < capacity → t < capacity → has S s ≡ true → among size L t ≡ true → barred m S s t ≡ true → Removing (set S s false)
+    removed-still s t hs ht p a b = record {
+      left =
+          removal s t hs ht p a (not-true (has S t) (and-left (not (has S t)) (not (flag m s t)) b))
+          (not-true (flag m s t) (and-right (not (has S t)) (not (flag m s t)) b)) (r .left);
+    }
+
+    pub settled : ((s : ℕ) → among size L s ≡ true → has S s ≡ true → (t : ℕ) → among size L t ≡ true → barred m S s t ≡ false)
+        → S ≡ largest capacity (among size L) (has C) (flag m)
+    settled f =
+        removals-end _ _ _ _ (r .left)
+        (λ s t hs ht p a q. stays (has S t) (flag m s t) (f s (and-left (among size L s) (has C s) (reached-fit _ _ _ _ (r .left) s hs p)) p t a) q)
+      where
+        stays : (a b : Bool) → (not a && not b) ≡ false → a ≡ false → b ≡ true
+        stays true b e p = contradiction refl p
+        stays false b e p = not-false b e
+
+-- THE SET APPLIED
+
+-- all that are counted pass
+count-full : (n : ℕ) (p : ℕ → Bool) → count n p ≡ n → (k : ℕ) → k < n → p k ≡ true
+unfolding count
+count-full n p e k h = count-eq n p (λ _. true) (λ _ _ _. refl) (e ∙ sym (all-pass n)) k h refl
+  where
+    all-pass : (n : ℕ) → count n (λ _. true) ≡ n
+    all-pass zero = refl
+    all-pass (suc n) = ap suc (all-pass n)
+
+module _ (n : ℕ) (P : List Pending) (size : ℕ) (L : List ℕ) (l : Listed P 64 size L) (x : Chosen) (c : Candidates n P size L x) where
+  abbrev C : Slots
+  C = x .members
+
+  has-candidate : (s : ℕ) → s < capacity → has C s ≡ (inBuffer n P s && candidate n P s)
+  unfolding Apply.candidates
+  has-candidate s h = ap (λ X. has X s) (c .members) ∙ getD-tabulate capacity _ false s h
+
+  candidate-held : (s : ℕ) → s < capacity → has C s ≡ true → inBuffer n P s ≡ true
+  candidate-held s h p = and-left (inBuffer n P s) (candidate n P s) (sym (has-candidate s h) ∙ p)
+
+  pub removable : (m : List ℕ) → 4096 ≤ length m → Removable size L C m
+  removable m h = record { few = l .few; below = l .below; room = h; listed = λ s b p. l .whole s b ∙ candidate-held s b p }
+
+  -- by the matrix
+  pub matrix-applicable : (s m : List ℕ) (S : Slots) → RowsFilled n P L C size s m → S ≡ largest capacity (among size L) (has C) (flag m) → S ≡ applicable n P
   unfolding applicable
-  settled m S W f r g =
-      none-barred m C O S W r g
-      ∙ largest-alike capacity (λ s. has C s || has O s) (has C) (flag m) (inBuffer n P) (candidate n P) (precedes n P)
+  matrix-applicable s m S r e =
+      e ∙ largest-alike capacity (among size L) (has C) (flag m) (inBuffer n P) (candidate n P) (precedes n P)
       (record {
-        same-held = has-either;
-        same-fit = λ s h. absorbs (has C s) (has O s) ∙ has-candidate s h;
-        same-before = λ s t hs ht p q.
-            f s t hs ht (sym (has-either s hs) ∙ and-left (has C s || has O s) (has C s) p) (sym (has-either t ht) ∙ q);
+        same-held = l .whole;
+        same-fit = λ i h. ap (λ b. b && has C i) (l .whole i h) ∙ same i h;
+        same-before = λ i t hi ht p q.
+            r .flags i t hi ht (and-left (among size L i) (has C i) p) (and-right (among size L i) (has C i) p) (sym (l .whole t ht) ∙ q);
       })
+    where
+      twice : (a b c : Bool) → c ≡ (a && b) → (a && c) ≡ (a && b)
+      twice true b c e = e
+      twice false b c e = refl
+
+      same : (i : ℕ) → i < capacity → (inBuffer n P i && has C i) ≡ (inBuffer n P i && candidate n P i)
+      same i h = twice (inBuffer n P i) (candidate n P i) (has C i) (has-candidate i h)
+
+  -- without it, where there is no candidate or nothing else in the buffer
+  pub candidates-applicable : (eqb (x .count) 0 || eqb (x .count) size) ≡ true → C ≡ applicable n P
+  unfolding applicable Apply.candidates
+  candidates-applicable e =
+      c .members ∙ removals-end _ _ _ _ candidates
+      (λ s t hs ht p h q. absurd (⊎-elim (λ z. none (eqb-true _ _ z) s hs (ap (λ X. has X s) (c .members) ∙ p)) (λ z. whole (eqb-true _ _ z) t ht h (ap (λ X. has X t) (c .members) ∙ q)) (or-cases _ _ e)))
+    where
+      none : x .count ≡ 0 → (s : ℕ) → s < capacity → has C s ≡ true → ⊥
+      none z s h p =
+          let o = among-found L size s (l .whole s h ∙ candidate-held s h p) in
+          omega (arith, c .counted, count-pos size (λ k. has C (getD L k 0)) (o .which) (o .below) (rw (eqb-true (getD L (o .which) 0) s (o .passes)) p))
+
+      whole : x .count ≡ size → (t : ℕ) → t < capacity → inBuffer n P t ≡ true → has C t ≡ false → ⊥
+      whole z t h b q =
+          let o = among-found L size t (l .whole t h ∙ b) in
+          contradiction (count-full size (λ k. has C (getD L k 0)) (sym (c .counted) ∙ z) (o .which) (o .below)) (rw (eqb-true (getD L (o .which) 0) t (o .passes)) q)

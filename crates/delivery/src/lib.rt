@@ -1,33 +1,23 @@
 // The delivery rule: which buffered messages a controller applies (lines 15 and 16 of Algorithm 1).
 ghost use mathlib.Core.Path.{_≡_};
 ghost use mathlib.Core.Bool.{not, _&&_};
-ghost use Prim.Native.Nat.{_<_, _≤_, min};
+ghost use Prim.Native.Nat.{_<_, _≤_};
 ghost use lib.ListN.{length, getD};
-ghost use Rattle.model.specs.Tables.{yes?};
-ghost use Rattle.model.specs.Delivery.{majority, markCount, beforeCount, goesBefore, applicable};
+ghost use Rattle.lists.specs.Below.{tally};
+ghost use Rattle.model.specs.Tables.{capacity, yes?};
+ghost use Rattle.model.specs.Delivery.{has, majority, markCount, beforeCount, goesBefore, largest};
 ghost use Rattle.model.specs.Calls.{cleared};
-ghost use Rattle.delivery.specs.Apply.{candidate, candidates, others, Flags, RowFilled, RowsFilled, Applied};
+ghost use Rattle.delivery.specs.Apply.{Applied, among, Listed, Candidates, flag, RowFilled, RowsFilled, Removable, Settled};
 use model::ForwardNumber;
 use model::Pending;
 use model::Table;
 
 const MAJORITIES: [usize; 8] = [1, 1, 2, 2, 3, 3, 4, 4];
 
-// The number of controllers that a table has room for, of n.
-fn clipped(n: usize) -> usize
-    ensures { λ r. ⌜ r ≡ min n 7 ⌝ }
-{
-    if n < Table::CONTROLLERS {
-        n
-    } else {
-        Table::CONTROLLERS
-    }
-}
-
 pub fn majority(n: usize) -> usize
     ensures { λ r. ⌜ r ≡ majority n ⌝ }
 {
-    let index = clipped(n);
+    let index = numbers::at_most(n, Table::CONTROLLERS);
     MAJORITIES[index]
 }
 
@@ -36,7 +26,7 @@ pub fn mark_count(n: usize, p: Pending) -> usize
     ensures { λ r. ⌜ r ≡ markCount n p ⌝ }
 {
     let marks = p.marks;
-    let end = clipped(n);
+    let end = numbers::at_most(n, Table::CONTROLLERS);
     let mut count: usize = 0;
     for f in 0..end {
         if marks[f].0 < ForwardNumber::ABSENT {
@@ -52,7 +42,7 @@ pub fn before_count(n: usize, p: Pending, q: Pending) -> usize
 {
     let first = p.marks;
     let second = q.marks;
-    let end = clipped(n);
+    let end = numbers::at_most(n, Table::CONTROLLERS);
     let mut count: usize = 0;
     for f in 0..end {
         if first[f].0 < second[f].0 {
@@ -69,73 +59,101 @@ pub fn goes_before(n: usize, p: Pending, q: Pending) -> bool
     majority(n) <= before_count(n, p, q)
 }
 
-// Line 15: in the buffer, with the marks of a majority.
-fn candidate(n: usize, p: Pending) -> bool
-    ensures { λ r. ⌜ r ≡ candidate n p ⌝ }
+// One more where the test passes.
+fn tallied(yes: bool, count: usize) -> usize
+    requires { ⌜ count < 64 ⌝ }
+    ensures { λ r. ⌜ r ≡ tally yes count ⌝ }
 {
-    let held = p.held;
-    if 0 < held {
-        majority(n) <= mark_count(n, p)
-    } else {
-        false
-    }
+    if yes { count + 1 } else { count }
 }
 
-fn candidates(n: usize, pending: [Pending; 64]) -> [bool; 64]
-    ensures { λ r. ⌜ r ≡ candidates n pending ⌝ }
+// The slots in the buffer, in order. Few are, so that all that follows goes through this list and not through all 64.
+struct Held {
+    size: usize,
+    slots: [u8; 64],
+}
+
+// Each slot is written behind those that are counted, and stays where it is counted: a slot costs no branch.
+fn held_slots(pending: [Pending; 64]) -> Held
+    ensures { λ r. ⌜ Listed pending 64 (r .size) (r .slots) ⌝ }
 {
-    let mut members = [false; Table::MESSAGES];
+    let mut slots = [0u8; Table::MESSAGES];
+    let mut size: usize = 0;
     for s in 0..Table::MESSAGES {
-        let entry = pending[s];
-        members[s] = candidate(n, entry);
+        slots[size] = s as u8;
+        size = tallied(0 < pending[s].held, size);
     }
-    members
+    Held { size, slots }
 }
 
-fn flag(n: usize, p: Pending, q: Pending) -> u8
+// The candidates of line 15, and how many they are.
+struct Chosen {
+    count: usize,
+    members: [bool; 64],
+}
+
+fn candidates(n: usize, pending: [Pending; 64], size: usize, slots: [u8; 64]) -> Chosen
+    requires { ⌜ Listed pending 64 size slots ⌝ }
+    ensures { λ r. ⌜ Candidates n pending size slots r ⌝ }
+{
+    let m = majority(n);
+    let mut members = [false; Table::MESSAGES];
+    let mut count: usize = 0;
+    for k in 0..size {
+        let s = slots[k] as usize;
+        let chosen = m <= mark_count(n, pending[s]);
+        members[s] = chosen;
+        count = tallied(chosen, count);
+    }
+    Chosen { count, members }
+}
+
+fn flag(n: usize, m: usize, p: Pending, q: Pending) -> u8
+    requires { ⌜ m ≡ majority n ⌝ }
     ensures { λ r. ⌜ yes? r ≡ goesBefore n p q ⌝ }
 {
-    if goes_before(n, p, q) { 1 } else { 0 }
+    if m <= before_count(n, p, q) { 1 } else { 0 }
 }
 
 // Row i of the matrix: whether slot i goes before each slot in the buffer.
-fn fill_row(n: usize, pending: [Pending; 64], i: usize, scratch: &mut [u8])
-    requires { ⌜ (4096 ≤ length (now scratch)) × (i < 64) ⌝ }
-    ensures { λ r. ⌜ RowFilled n pending i 64 (now (scratch .entry)) (now (scratch .exit)) ⌝ }
+fn fill_row(
+    n: usize,
+    m: usize,
+    pending: [Pending; 64],
+    size: usize,
+    slots: [u8; 64],
+    i: usize,
+    scratch: &mut [u8],
+)
+    requires { ⌜ (4096 ≤ length (now scratch)) × Listed pending 64 size slots × (i < 64) × (m ≡ majority n) ⌝ }
+    ensures { λ r. ⌜ RowFilled n pending slots i size (now (scratch .entry)) (now (scratch .exit)) ⌝ }
 {
     let row = i * Table::MESSAGES;
     let entry = pending[i];
-    for t in 0..Table::MESSAGES {
-        let other = pending[t];
-        let held = other.held;
-        if 0 < held {
-            scratch[row + t] = flag(n, entry, other);
-        }
+    for k in 0..size {
+        let t = slots[k] as usize;
+        scratch[row + t] = flag(n, m, entry, pending[t]);
     }
 }
 
-// The rows of the slots in the buffer.
-fn fill(n: usize, pending: [Pending; 64], scratch: &mut [u8])
-    requires { ⌜ 4096 ≤ length (now scratch) ⌝ }
-    ensures { λ r. ⌜ RowsFilled n pending 64 (now (scratch .entry)) (now (scratch .exit)) ⌝ }
+// The rows of the candidates: of no other slot is it asked what it goes before.
+fn fill(
+    n: usize,
+    pending: [Pending; 64],
+    size: usize,
+    slots: [u8; 64],
+    members: [bool; 64],
+    scratch: &mut [u8],
+)
+    requires { ⌜ (4096 ≤ length (now scratch)) × Listed pending 64 size slots ⌝ }
+    ensures { λ r. ⌜ RowsFilled n pending slots members size (now (scratch .entry)) (now (scratch .exit)) ⌝ }
 {
-    for i in 0..Table::MESSAGES {
-        let entry = pending[i];
-        let held = entry.held;
-        if 0 < held {
-            fill_row(n, pending, i, scratch);
+    let m = majority(n);
+    for k in 0..size {
+        let s = slots[k] as usize;
+        if members[s] {
+            fill_row(n, m, pending, size, slots, s, scratch);
         }
-    }
-}
-
-// How many bytes of so many are cleared.
-fn clearable(length: usize) -> usize
-    ensures { λ r. ⌜ r ≡ min length 4096 ⌝ }
-{
-    if length < Table::SCRATCH {
-        length
-    } else {
-        Table::SCRATCH
     }
 }
 
@@ -143,59 +161,37 @@ fn clearable(length: usize) -> usize
 pub fn clear(scratch: &mut [u8])
     ensures { λ r. ⌜ now (scratch .exit) ≡ cleared (now (scratch .entry)) ⌝ }
 {
-    let end = clearable(scratch.len());
+    let end = numbers::at_most(scratch.len(), Table::SCRATCH);
     for k in 0..end {
         scratch[k] = 0;
     }
 }
 
-// Whether a slot is in the buffer and is no member.
-fn outside(p: Pending, member: bool) -> bool
-    ensures { λ r. ⌜ r ≡ (not member && yes? (p .held)) ⌝ }
+// Whether a member has to go in view of another slot in the buffer, whose flag stands at this index.
+fn bars(flags: &[u8], at: usize, member: bool) -> bool
+    requires { ⌜ at < length (now flags) ⌝ }
+    ensures { λ r. ⌜ r ≡ (not member && not (yes? (getD (now (flags .entry)) at 0))) ⌝ }
 {
-    let held = p.held;
     if member {
         return false;
     }
-    0 < held
-}
-
-fn others(pending: [Pending; 64], members: [bool; 64]) -> [bool; 64]
-    ensures { λ r. ⌜ r ≡ others pending members ⌝ }
-{
-    let mut others = [false; Table::MESSAGES];
-    for t in 0..Table::MESSAGES {
-        let entry = pending[t];
-        others[t] = outside(entry, members[t]);
-    }
-    others
-}
-
-// Whether a member has to go in view of another slot, whose flag stands at this index.
-fn bars(flags: &[u8], at: usize, outside: bool) -> bool
-    requires { ⌜ at < length (now flags) ⌝ }
-    ensures { λ r. ⌜ r ≡ (outside && not (yes? (getD (now (flags .entry)) at 0))) ⌝ }
-{
-    if outside {
-        return !(0 < flags[at]);
-    }
-    false
+    !(0 < flags[at])
 }
 
 // Line 16: the candidates without those that, one after the other, do not go before some non-member in the buffer.
-fn settle(n: usize, pending: [Pending; 64], flags: &[u8]) -> [bool; 64]
-    requires { ⌜ (4096 ≤ length (now flags)) × Flags n pending 64 (now flags) ⌝ }
-    ensures { λ r. ⌜ r ≡ applicable n pending ⌝ }
+fn settle(size: usize, slots: [u8; 64], candidates: [bool; 64], flags: &[u8]) -> [bool; 64]
+    requires { ⌜ Removable size slots candidates (now flags) ⌝ }
+    ensures { λ r. ⌜ r ≡ largest capacity (among size slots) (has candidates) (flag (now (flags .entry))) ⌝ }
 {
-    let mut members = candidates(n, pending);
-    let mut others = others(pending, members);
+    let mut members = candidates;
     'again: loop {
-        for s in 0..Table::MESSAGES {
+        for j in 0..size {
+            let s = slots[j] as usize;
             if members[s] {
-                for t in 0..Table::MESSAGES {
-                    if bars(flags, s * Table::MESSAGES + t, others[t]) {
+                for k in 0..size {
+                    let t = slots[k] as usize;
+                    if bars(flags, s * Table::MESSAGES + t, members[t]) {
                         members[s] = false;
-                        others[s] = true;
                         continue 'again;
                     }
                 }
@@ -206,16 +202,34 @@ fn settle(n: usize, pending: [Pending; 64], flags: &[u8]) -> [bool; 64]
     members
 }
 
-// The set that a controller of n applies with this buffer. The first 4,096 bytes of scratch are the matrix of line 16's
-// relation meanwhile, and zero afterwards; where there are fewer, no slot is answered and nothing is written.
+// The set that a controller of n applies with this buffer. Where there is no candidate, or nothing else in the buffer, it is
+// the candidates. Otherwise the first 4,096 bytes of scratch become the matrix of line 16's relation.
+fn applicable(n: usize, pending: [Pending; 64], scratch: &mut [u8]) -> [bool; 64]
+    requires { ⌜ 4096 ≤ length (now scratch) ⌝ }
+    ensures { λ r. ⌜ Settled n pending (now (scratch .entry)) r (now (scratch .exit)) ⌝ }
+{
+    let held = held_slots(pending);
+    let size = held.size;
+    let slots = held.slots;
+    let start = candidates(n, pending, size, slots);
+    let count = start.count;
+    let members = start.members;
+    if (count == 0) | (count == size) {
+        return members;
+    }
+    fill(n, pending, size, slots, members, scratch);
+    settle(size, slots, members, scratch)
+}
+
+// The set, and the first 4,096 bytes of scratch are zero afterwards; where there are fewer, no slot is answered and nothing
+// is written.
 pub fn apply(n: usize, pending: [Pending; 64], scratch: &mut [u8]) -> [bool; 64]
     ensures { λ r. ⌜ Applied n pending (now (scratch .entry)) r (now (scratch .exit)) ⌝ }
 {
     if scratch.len() < Table::SCRATCH {
         return [false; Table::MESSAGES];
     }
-    fill(n, pending, scratch);
-    let members = settle(n, pending, scratch);
+    let members = applicable(n, pending, scratch);
     clear(scratch);
     members
 }

@@ -19,11 +19,11 @@ Inv-loop n first second end count₀ f₀ count f = (f ≤ end) × (end ≡ min 
 abbrev μ-loop : tie.MeasureT-loop
 μ-loop n first second end count₀ f₀ count f = end - f
 
-clipped-requires : tie.Need-clipped-requires Inv-loop μ-loop
-clipped-requires c κs = search needs
+at-most-requires : tie.Need-at-most-requires Inv-loop μ-loop
+at-most-requires c κs = search needs
 
 loop-holds : tie.Need-loop-holds Inv-loop μ-loop
-loop-holds c = (search needs, c .clipped .ensures, search needs, count-start _)
+loop-holds c = (search needs, c .at-most .ensures, search needs, count-start _)
 
 element-copy-out-if1 : tie.Need-element-copy-out-if1 Inv-loop μ-loop
 element-copy-out-if1 c = search needs
@@ -57,7 +57,7 @@ before-count-spec =
     (tie.spec
     Inv-loop
     μ-loop
-    clipped-requires
+    at-most-requires
     loop-holds
     element-copy-out-if1
     element-copy-out-if1-2

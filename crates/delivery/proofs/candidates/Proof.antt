@@ -1,50 +1,79 @@
--- `candidates` tries each slot. Assumes nothing.
-use mathlib.Core.Path.{_≡_, refl, sym, _∙_}
-use mathlib.Core.Bool.{false}
-use Prim.Native.Nat.{_-_, _≤_}
+-- `candidates` tries each slot in the buffer. Assumes nothing.
+use mathlib.Core.Path.{_≡_, ap₂}
+use mathlib.Core.List.{List}
+use Prim.Native.Nat.{ℕ, _-_, _≤_, _<_}
 use native.Mathlib.Omega.{arith}
-use lib.ListN.{length, length-set}
-use Rattle.lists.specs.Build.{over}
-use Rattle.lists.proofs.Build.{over-none, over-more, over-end, over-tabulate}
-use Rattle.model.specs.Tables.{entry}
-use Rattle.delivery.specs.Apply.{candidate, candidates}
+use lib.ListN.{getD}
+use lib.Dec.{leb}
+use Rattle.delivery.proofs.Listing.{Choosing, choosing-start, choosing-few, choosing-turn, choosing-end}
 use borrow.Author.Needs.{needs}
 use Rattle.delivery.proofs.candidates.Statement.{statement}
 use Rattle.delivery.proofs.candidates.Tie as tie
 
 abbrev Inv-loop : tie.InvT-loop
-Inv-loop n pending members₀ s₀ members s = (s ≤ 64) × (length members ≡ 64) × (members ≡ over (λ t. candidate n (entry pending t)) s members₀)
+Inv-loop n size pending slots m members₀ count₀ k₀ members count k = (k ≤ size) × Choosing n pending slots k members count
 
 abbrev μ-loop : tie.MeasureT-loop
-μ-loop n pending members₀ s₀ members s = 64 - s
+μ-loop n size pending slots m members₀ count₀ k₀ members count k = size - k
+
+-- PLACES: from a turn to the start, and from behind its count of marks to the turn
+abbrev start : tie.At-loop Inv-loop μ-loop → tie.Start Inv-loop μ-loop
+start c = c .before .before
+
+abbrev slots : tie.Start Inv-loop μ-loop → List ℕ
+slots c = c .args .t4
+
+abbrev turn : tie.After-mark-count Inv-loop μ-loop → tie.In-loop Inv-loop μ-loop
+turn c = c .before .before
+
+slot-below : (c : tie.In-loop Inv-loop μ-loop) → getD (slots (start (c .before))) (c .before .loop .k) 0 < 64
+slot-below c = start (c .before) .pre .below _ (omega arith)
+
+majority-requires : tie.Need-majority-requires Inv-loop μ-loop
+majority-requires c κs = search needs
 
 loop-holds : tie.Need-loop-holds Inv-loop μ-loop
-loop-holds c = (search needs, refl, sym (over-none _ _))
+loop-holds c = (search needs, choosing-start _ _ _)
 
-mul-entry : tie.Need-mul-entry Inv-loop μ-loop
-mul-entry c = search needs
+array-read-s : tie.Need-array-read-s Inv-loop μ-loop
+array-read-s c = search needs
 
-array-copy-out-entry : tie.Need-array-copy-out-entry Inv-loop μ-loop
-array-copy-out-entry c = search needs
+cast-s : tie.Need-cast-s Inv-loop μ-loop
+cast-s c = search needs
 
-candidate-requires : tie.Need-candidate-requires Inv-loop μ-loop
-candidate-requires c κs = search needs
+mul-mark-count : tie.Need-mul-mark-count Inv-loop μ-loop
+mul-mark-count c = let h = slot-below c in search needs
+
+array-copy-out-mark-count : tie.Need-array-copy-out-mark-count Inv-loop μ-loop
+array-copy-out-mark-count c = let h = slot-below c in search needs
+
+mark-count-requires : tie.Need-mark-count-requires Inv-loop μ-loop
+mark-count-requires c κs = search needs
 
 array-write-members : tie.Need-array-write-members Inv-loop μ-loop
-array-write-members c = search needs
+array-write-members c = let h = slot-below (turn c) in search needs
 
-add-s : tie.Need-add-s Inv-loop μ-loop
-add-s c = search needs
+tallied-requires : tie.Need-tallied-requires Inv-loop μ-loop
+tallied-requires c κs =
+    let t = turn c .before in
+    omega (arith, start t .pre .few, choosing-few _ _ _ _ _ _ (t .loop .inv .1))
+
+add-k : tie.Need-add-k Inv-loop μ-loop
+add-k c = search needs
 
 loop-less : tie.Need-loop-less Inv-loop μ-loop
 loop-less c = search needs
 
 loop-again : tie.Need-loop-again Inv-loop μ-loop
-loop-again c = (search needs, simp length-set (omega arith), over-more _ _ _ _ _ (c .before .before .before .loop .inv .2) (c .candidate .ensures))
+loop-again c =
+    let b = c .before in
+    let t = turn b .before in
+    (search needs, choosing-turn _ _ _ _ _ _ _ _ (slot-below (turn b)) (ap₂ leb (t .before .majority .ensures) (b .mark-count .ensures)) (t .loop .inv .1) (c .tallied .ensures))
 
 returns : tie.Need-returns Inv-loop μ-loop
-unfolding candidates
-returns c = over-end _ _ _ _ _ (omega arith) (c .before .loop .inv .2) ∙ over-tabulate _ _ _ false refl
+returns c =
+    let e : c .before .loop .k ≡ start (c .before) .args .size = omega arith in
+    choosing-end _ _ _ _ _ _ (start (c .before) .pre) (rw e at (c .before .loop .inv .1))
 
 pub candidates-spec : {M : Type 1} → statement M
 candidates-spec =
@@ -52,12 +81,16 @@ candidates-spec =
     (tie.spec
     Inv-loop
     μ-loop
+    majority-requires
     loop-holds
-    mul-entry
-    array-copy-out-entry
-    candidate-requires
+    array-read-s
+    cast-s
+    mul-mark-count
+    array-copy-out-mark-count
+    mark-count-requires
     array-write-members
-    add-s
+    tallied-requires
+    add-k
     loop-less
     loop-again
     returns)

@@ -16,8 +16,8 @@ Inv-loop scratch₀ end k₀ scratch k = (k ≤ end) × (length scratch ≡ leng
 abbrev μ-loop : tie.MeasureT-loop
 μ-loop scratch₀ end k₀ scratch k = end - k
 
-clearable-requires : tie.Need-clearable-requires Inv-loop μ-loop
-clearable-requires c κs = search needs
+at-most-requires : tie.Need-at-most-requires Inv-loop μ-loop
+at-most-requires c κs = search needs
 
 loop-holds : tie.Need-loop-holds Inv-loop μ-loop
 loop-holds c = (search needs, refl, sym (over-none _ _))
@@ -46,7 +46,7 @@ clear-spec =
     (tie.spec
     Inv-loop
     μ-loop
-    clearable-requires
+    at-most-requires
     loop-holds
     slice-write-scratch
     add-k

@@ -1,10 +1,10 @@
--- `fill` fills the rows of the slots in the buffer. Assumes nothing.
+-- `fill` fills the rows of the members. Assumes nothing.
 use mathlib.Core.Path.{_≡_}
 use mathlib.Core.Logic.{⊎-elim}
-use Prim.Native.Nat.{_-_, _≤_}
+use mathlib.Core.List.{List}
+use Prim.Native.Nat.{ℕ, _-_, _≤_, _<_}
 use native.Mathlib.Omega.{arith}
-use borrow.Author.Tests.{le-ltb}
-use lib.ListN.{length}
+use lib.ListN.{getD}
 use Rattle.delivery.specs.Apply.{RowsFilled}
 use Rattle.delivery.proofs.Matrix.{rows-start, rows-stored, rows-skipped}
 use borrow.Author.Needs.{needs}
@@ -12,44 +12,60 @@ use Rattle.delivery.proofs.fill.Statement.{statement}
 use Rattle.delivery.proofs.fill.Tie as tie
 
 abbrev Inv-loop : tie.InvT-loop
-Inv-loop n scratch₀ pending i₀ scratch i = (i ≤ 64) × (4096 ≤ length scratch₀) × RowsFilled n pending i scratch₀ scratch
+Inv-loop n pending size scratch₀ slots members m k₀ scratch k = (k ≤ size) × RowsFilled n pending slots members k scratch₀ scratch
 
 abbrev μ-loop : tie.MeasureT-loop
-μ-loop n scratch₀ pending i₀ scratch i = 64 - i
+μ-loop n pending size scratch₀ slots members m k₀ scratch k = size - k
+
+-- from a turn to the start
+abbrev start : tie.At-loop Inv-loop μ-loop → tie.Start Inv-loop μ-loop
+start c = c .before .before .before
+
+abbrev slots : tie.Start Inv-loop μ-loop → List ℕ
+slots c = c .args .t4
+
+slot-below : (c : tie.In-loop Inv-loop μ-loop) → getD (slots (start (c .before))) (c .before .loop .k) 0 < 64
+slot-below c = start (c .before) .pre .1 .below _ (omega arith)
+
+majority-requires : tie.Need-majority-requires Inv-loop μ-loop
+majority-requires c κs = search needs
 
 loop-holds : tie.Need-loop-holds Inv-loop μ-loop
-loop-holds c = (search needs, search needs, rows-start _ _ _)
+loop-holds c = (search needs, rows-start _ _ _ _ _)
 
-mul-entry : tie.Need-mul-entry Inv-loop μ-loop
-mul-entry c = search needs
+array-read-s : tie.Need-array-read-s Inv-loop μ-loop
+array-read-s c = search needs
 
-array-copy-out-entry : tie.Need-array-copy-out-entry Inv-loop μ-loop
-array-copy-out-entry c = search needs
+cast-s : tie.Need-cast-s Inv-loop μ-loop
+cast-s c = search needs
+
+array-read-if1 : tie.Need-array-read-if1 Inv-loop μ-loop
+array-read-if1 c = let h = slot-below c in search needs
 
 fill-row-requires : tie.Need-fill-row-requires Inv-loop μ-loop
-fill-row-requires c κs = search needs
+fill-row-requires c κs = (search needs, search needs, slot-below (c .before .before), search needs)
 
-add-i : tie.Need-add-i Inv-loop μ-loop
-add-i c = search needs
+add-k : tie.Need-add-k Inv-loop μ-loop
+add-k c = search needs
 
 loop-less : tie.Need-loop-less Inv-loop μ-loop
 loop-less c = search needs
 
 loop-again : tie.Need-loop-again Inv-loop μ-loop
-loop-again c = (
-  search needs,
-  search needs,
-  ⊎-elim
-      (λ w. rw (w .5) (rows-stored _ _ _ _ _ _ (omega arith) (c .before .before .before .loop .inv .2) (w .2 .ensures)))
-      (λ w. rw (w .1) (rows-skipped _ _ _ _ _ (c .before .before .before .loop .inv .2) (le-ltb _ _ (w .0 .left))))
-      (c .if1 .came),
-)
+loop-again c =
+    let l = c .before .before in (
+      search needs,
+      ⊎-elim
+          (λ w. rw (w .5) (rows-stored _ _ _ _ _ _ _ _ _ (start l .pre .1) (slot-below (c .before)) (l .loop .inv .1) (w .2 .ensures)))
+          (λ w. rw (w .1) (rows-skipped _ _ _ _ _ _ _ (l .loop .inv .1) (w .0 .left)))
+          (c .if1 .came),
+    )
 
 same-length : tie.Need-same-length Inv-loop μ-loop
 same-length c = search needs
 
 returns : tie.Need-returns Inv-loop μ-loop
-returns c = let e : c .before .loop .i ≡ 64 = omega arith in rw e at (c .before .loop .inv .2)
+returns c = let e : c .before .loop .k ≡ start (c .before) .args .size = omega arith in rw e at (c .before .loop .inv .1)
 
 pub fill-spec : {M : Type 1} → statement M
 fill-spec =
@@ -57,11 +73,13 @@ fill-spec =
     (tie.spec
     Inv-loop
     μ-loop
+    majority-requires
     loop-holds
-    mul-entry
-    array-copy-out-entry
+    array-read-s
+    cast-s
+    array-read-if1
     fill-row-requires
-    add-i
+    add-k
     loop-less
     loop-again
     same-length

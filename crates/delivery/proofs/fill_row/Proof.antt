@@ -1,22 +1,33 @@
--- `fill_row` fills one row of the matrix. Assumes nothing.
+-- `fill_row` fills one row of the matrix, in the columns of the slots in the buffer. Assumes nothing.
 use mathlib.Core.Path.{_≡_}
-use mathlib.Core.Logic.{⊎-elim}
-use Prim.Native.Nat.{_-_, _≤_, _<_}
+use mathlib.Core.List.{List}
+use Prim.Native.Nat.{ℕ, _-_, _≤_, _<_}
 use native.Mathlib.Omega.{arith}
-use borrow.Author.Tests.{le-ltb}
-use lib.ListN.{length}
-use Rattle.model.specs.Tables.{entry}
+use lib.ListN.{getD}
 use Rattle.delivery.specs.Apply.{RowFilled}
-use Rattle.delivery.proofs.Matrix.{row-start, row-stored, row-skipped}
+use Rattle.delivery.proofs.Matrix.{row-start, row-stored}
 use borrow.Author.Needs.{needs}
 use Rattle.delivery.proofs.fill_row.Statement.{statement}
 use Rattle.delivery.proofs.fill_row.Tie as tie
 
 abbrev Inv-loop : tie.InvT-loop
-Inv-loop n i scratch₀ pending row entry t₀ scratch t = (t ≤ 64) × (i < 64) × (4096 ≤ length scratch₀) × RowFilled n pending i t scratch₀ scratch
+Inv-loop n m size i scratch₀ pending slots row entry k₀ scratch k = (k ≤ size) × RowFilled n pending slots i k scratch₀ scratch
 
 abbrev μ-loop : tie.MeasureT-loop
-μ-loop n i scratch₀ pending row entry t₀ scratch t = 64 - t
+μ-loop n m size i scratch₀ pending slots row entry k₀ scratch k = size - k
+
+-- PLACES: from a turn to the start, and from behind its flag to the turn
+abbrev start : tie.At-loop Inv-loop μ-loop → tie.Start Inv-loop μ-loop
+start c = c .before .before .before
+
+abbrev slots : tie.Start Inv-loop μ-loop → List ℕ
+slots c = c .args .t5
+
+abbrev turn : tie.After-flag Inv-loop μ-loop → tie.In-loop Inv-loop μ-loop
+turn c = c .before .before
+
+slot-below : (c : tie.In-loop Inv-loop μ-loop) → getD (slots (start (c .before))) (c .before .loop .k) 0 < 64
+slot-below c = start (c .before) .pre .1 .below _ (omega arith)
 
 mul-row : tie.Need-mul-row Inv-loop μ-loop
 mul-row c = search needs
@@ -28,45 +39,46 @@ array-copy-out-entry : tie.Need-array-copy-out-entry Inv-loop μ-loop
 array-copy-out-entry c = search needs
 
 loop-holds : tie.Need-loop-holds Inv-loop μ-loop
-loop-holds c = (search needs, search needs, search needs, row-start _ _ _ _)
+loop-holds c = (search needs, row-start _ _ _ _ _)
 
-mul-other : tie.Need-mul-other Inv-loop μ-loop
-mul-other c = search needs
+array-read-t : tie.Need-array-read-t Inv-loop μ-loop
+array-read-t c = search needs
 
-array-copy-out-other : tie.Need-array-copy-out-other Inv-loop μ-loop
-array-copy-out-other c = search needs
+cast-t : tie.Need-cast-t Inv-loop μ-loop
+cast-t c = search needs
+
+mul-flag : tie.Need-mul-flag Inv-loop μ-loop
+mul-flag c = let h = slot-below c in search needs
+
+array-copy-out-flag : tie.Need-array-copy-out-flag Inv-loop μ-loop
+array-copy-out-flag c = let h = slot-below c in search needs
 
 flag-requires : tie.Need-flag-requires Inv-loop μ-loop
 flag-requires c κs = search needs
 
 add-scratch : tie.Need-add-scratch Inv-loop μ-loop
-add-scratch c = search needs
+add-scratch c = let h = slot-below (turn c) in search needs
 
 slice-write-scratch : tie.Need-slice-write-scratch Inv-loop μ-loop
-slice-write-scratch c = search needs
+slice-write-scratch c = let h = slot-below (turn c) in search needs
 
-add-t : tie.Need-add-t Inv-loop μ-loop
-add-t c = search needs
+add-k : tie.Need-add-k Inv-loop μ-loop
+add-k c = search needs
 
 loop-less : tie.Need-loop-less Inv-loop μ-loop
 loop-less c = search needs
 
 loop-again : tie.Need-loop-again Inv-loop μ-loop
-loop-again c = (
-  search needs,
-  search needs,
-  search needs,
-  ⊎-elim
-      (λ w. rw (w .2) (row-stored _ _ _ _ _ _ _ (omega arith) (omega arith) (omega arith) (c .before .before .before .loop .inv .3) (w .1 .ensures)))
-      (λ w. rw (w .1) (row-skipped _ _ _ _ _ _ (c .before .before .before .loop .inv .3) (le-ltb _ _ (w .0 .left))))
-      (c .if1 .came),
-)
+loop-again c =
+    let t = turn c .before in
+    let s = start t in
+    (search needs, row-stored _ _ _ _ _ _ _ _ (s .pre .2) (slot-below (turn c)) (s .pre .0) (t .loop .inv .1) (c .flag .ensures))
 
 same-length : tie.Need-same-length Inv-loop μ-loop
 same-length c = search needs
 
 returns : tie.Need-returns Inv-loop μ-loop
-returns c = let e : c .before .loop .t ≡ 64 = omega arith in rw e at (c .before .loop .inv .3)
+returns c = let e : c .before .loop .k ≡ start (c .before) .args .size = omega arith in rw e at (c .before .loop .inv .1)
 
 pub fill-row-spec : {M : Type 1} → statement M
 fill-row-spec =
@@ -78,12 +90,14 @@ fill-row-spec =
     mul-entry
     array-copy-out-entry
     loop-holds
-    mul-other
-    array-copy-out-other
+    array-read-t
+    cast-t
+    mul-flag
+    array-copy-out-flag
     flag-requires
     add-scratch
     slice-write-scratch
-    add-t
+    add-k
     loop-less
     loop-again
     same-length

@@ -6,8 +6,8 @@ use borrow.Author.Needs.{needs}
 use Rattle.delivery.proofs.majority.Statement.{statement}
 use Rattle.delivery.proofs.majority.Tie as tie
 
-clipped-requires : tie.Need-clipped-requires
-clipped-requires c κs = search needs
+at-most-requires : tie.Need-at-most-requires
+at-most-requires c κs = search needs
 
 mul-result : tie.Need-mul-result
 mul-result c = search needs
@@ -17,7 +17,7 @@ array-read-result c = search needs
 
 returns : tie.Need-returns
 unfolding majority
-returns c = ap (λ i. getD majorities i 0) (c .clipped .ensures)
+returns c = ap (λ i. getD majorities i 0) (c .at-most .ensures)
 
 pub majority-spec : {M : Type 1} → statement M
-majority-spec = tie.close (tie.spec clipped-requires mul-result array-read-result returns)
+majority-spec = tie.close (tie.spec at-most-requires mul-result array-read-result returns)

@@ -1,123 +1,188 @@
--- `settle` ends in the set that is applied: the loop of line 16 is followed removal by removal. Assumes nothing.
+-- `settle` ends in the largest set by the flags: the loop of line 16 is followed removal by removal. Assumes nothing.
 use mathlib.Core.Path.{_≡_, refl, sym, _∙_}
 use mathlib.Core.Bool.{true, false}
 use mathlib.Core.Logic.{⊎-elim}
+use mathlib.Core.List.{List}
 use Prim.Native.Nat.{ℕ, _-_, _≤_, _<_}
 use native.Mathlib.Omega.{arith}
-use borrow.Author.Count.{below-none, below-more}
+use lib.ListN.{length, getD}
 use Rattle.lists.specs.Below.{count}
 use Rattle.lists.proofs.Tests.{contradiction}
+use Rattle.model.specs.Tables.{capacity}
 use Rattle.model.specs.Delivery.{has}
+use Rattle.delivery.specs.Apply.{among}
+use Rattle.delivery.proofs.Listing.{among-none, among-at, among-more}
 use Rattle.delivery.proofs.Removal.{Removing, barred, removing-start, removed-fewer, removed-still, settled}
 use borrow.Author.Needs.{needs}
 use Rattle.delivery.proofs.settle.Statement.{statement}
 use Rattle.delivery.proofs.settle.Tie as tie
 
 abbrev Inv-loop2 : tie.InvT-loop2
-Inv-loop2 n flags members₀ others₀ s t₀ members others t = (t ≤ 64) × (members ≡ members₀) × (others ≡ others₀) × ((k : ℕ) → k < t → barred flags others₀ s k ≡ false)
+Inv-loop2 size flags slots members₀ j s k₀ members k =
+    (k ≤ size) × (members ≡ members₀) × ((t : ℕ) → among k slots t ≡ true → barred flags members₀ s t ≡ false)
 
 abbrev μ-loop2 : tie.MeasureT-loop2
-μ-loop2 n flags members₀ others₀ s t₀ members others t = 64 - t
+μ-loop2 size flags slots members₀ j s k₀ members k = size - k
 
 abbrev Inv-loop : tie.InvT-loop
-Inv-loop n flags members₀ others₀ s₀ members others s =
-    (s ≤ 64) × (members ≡ members₀) × (others ≡ others₀) × ((k : ℕ) → k < s → has members₀ k ≡ true → (t : ℕ) → t < 64 → barred flags others₀ k t ≡ false)
+Inv-loop size flags slots members₀ j₀ members j =
+    (j ≤ size) × (members ≡ members₀)
+    × ((s : ℕ) → among j slots s ≡ true → has members₀ s ≡ true → (t : ℕ) → among size slots t ≡ true → barred flags members₀ s t ≡ false)
 
 abbrev μ-loop : tie.MeasureT-loop
-μ-loop n flags members₀ others₀ s₀ members others s = 64 - s
+μ-loop size flags slots members₀ j₀ members j = size - j
 
 abbrev Inv-again : tie.InvT-again
-Inv-again n flags members₀ others₀ members others = Removing flags members₀ others₀ members others
+Inv-again size flags slots members₀ members = Removing size slots members₀ flags members
 
 abbrev μ-again : tie.MeasureT-again
-μ-again n flags members₀ others₀ members others = count 64 (has members)
+μ-again size flags slots members₀ members = count 64 (has members)
 
-candidates-requires :
-    tie.Need-candidates-requires Inv-loop2 μ-loop2 Inv-loop μ-loop Inv-again μ-again
-candidates-requires c κs = search needs
+-- PLACES: the start, a pass, its turn at a member, and the turn there at another slot
+abbrev Start : Type 0
+Start = tie.Start Inv-loop2 μ-loop2 Inv-loop μ-loop Inv-again μ-again
 
-others-requires : tie.Need-others-requires Inv-loop2 μ-loop2 Inv-loop μ-loop Inv-again μ-again
-others-requires c κs = search needs
+abbrev At-again : Type 0
+At-again = tie.At-again Inv-loop2 μ-loop2 Inv-loop μ-loop Inv-again μ-again
+
+abbrev At-loop : Type 0
+At-loop = tie.At-loop Inv-loop2 μ-loop2 Inv-loop μ-loop Inv-again μ-again
+
+abbrev In-loop : Type 0
+In-loop = tie.In-loop Inv-loop2 μ-loop2 Inv-loop μ-loop Inv-again μ-again
+
+abbrev At-loop2 : Type 0
+At-loop2 = tie.At-loop2 Inv-loop2 μ-loop2 Inv-loop μ-loop Inv-again μ-again
+
+abbrev In-loop2 : Type 0
+In-loop2 = tie.In-loop2 Inv-loop2 μ-loop2 Inv-loop μ-loop Inv-again μ-again
+
+abbrev After-bars : Type 0
+After-bars = tie.After-bars Inv-loop2 μ-loop2 Inv-loop μ-loop Inv-again μ-again
+
+abbrev start : At-again → Start
+start c = c .before .before
+
+abbrev slots : At-again → List ℕ
+slots c = start c .args .t2
+
+abbrev pass : At-loop → At-again
+pass c = c .before
+
+abbrev at-member : At-loop2 → In-loop
+at-member c = c .before .before
+
+abbrev member : At-loop2 → At-loop
+member c = at-member c .before
+
+abbrev other : After-bars → At-loop2
+other c = c .before .before
+
+-- WHAT THEY SAY
+
+whole-array : (c : Start) → length (c .args .candidates) ≡ capacity
+whole-array c = c .good .1 .1 .0 .1 .0 .1
+
+-- the slots of both turns are below 64
+member-below : (c : In-loop) → getD (slots (pass (c .before))) (c .before .loop .j) 0 < 64
+member-below c = start (pass (c .before)) .pre .below _ (omega arith)
+
+other-below : (c : In-loop2) → getD (slots (pass (member (c .before)))) (c .before .loop2 .k) 0 < 64
+other-below c = start (pass (member (c .before))) .pre .below _ (omega arith)
+
+-- the members at both turns are those of the pass, and the member is one of them
+same-members : (c : After-bars) → other c .loop2 .members ≡ pass (member (other c)) .again .members
+same-members c = other c .loop2 .inv .1 ∙ member (other c) .loop .inv .1
+
+is-member : (c : At-loop2) → has (pass (member c) .again .members) (getD (slots (pass (member c))) (member c .loop .j) 0) ≡ true
+is-member c = rw (member c .loop .inv .1) at (c .before .if1 .taken)
 
 again-holds : tie.Need-again-holds Inv-loop2 μ-loop2 Inv-loop μ-loop Inv-again μ-again
-again-holds c = removing-start _ _ _ _ (c .before .candidates .ensures) (c .others .ensures) _
+again-holds c = removing-start _ _ _ _ (whole-array (c .before)) (c .before .pre)
 
 loop-holds : tie.Need-loop-holds Inv-loop2 μ-loop2 Inv-loop μ-loop Inv-again μ-again
-loop-holds c = (search needs, refl, refl, below-none _)
+loop-holds c = (search needs, refl, λ s a. contradiction a (among-none _ s))
+
+array-read-s : tie.Need-array-read-s Inv-loop2 μ-loop2 Inv-loop μ-loop Inv-again μ-again
+array-read-s c = search needs
+
+cast-s : tie.Need-cast-s Inv-loop2 μ-loop2 Inv-loop μ-loop Inv-again μ-again
+cast-s c = search needs
 
 array-read-if1 : tie.Need-array-read-if1 Inv-loop2 μ-loop2 Inv-loop μ-loop Inv-again μ-again
-array-read-if1 c = search needs
+array-read-if1 c = let h = member-below c in search needs
 
 loop2-holds : tie.Need-loop2-holds Inv-loop2 μ-loop2 Inv-loop μ-loop Inv-again μ-again
-loop2-holds c = (search needs, refl, refl, below-none _)
+loop2-holds c = (search needs, refl, λ t a. contradiction a (among-none _ t))
+
+array-read-t : tie.Need-array-read-t Inv-loop2 μ-loop2 Inv-loop μ-loop Inv-again μ-again
+array-read-t c = search needs
+
+cast-t : tie.Need-cast-t Inv-loop2 μ-loop2 Inv-loop μ-loop Inv-again μ-again
+cast-t c = search needs
 
 mul-bars : tie.Need-mul-bars Inv-loop2 μ-loop2 Inv-loop μ-loop Inv-again μ-again
-mul-bars c = search needs
+mul-bars c = let h = member-below (at-member (c .before)) in search needs
 
 add-bars : tie.Need-add-bars Inv-loop2 μ-loop2 Inv-loop μ-loop Inv-again μ-again
-add-bars c = search needs
+add-bars c = omega (arith, member-below (at-member (c .before)), other-below c)
 
 array-read-bars : tie.Need-array-read-bars Inv-loop2 μ-loop2 Inv-loop μ-loop Inv-again μ-again
-array-read-bars c = search needs
+array-read-bars c = let h = other-below c in search needs
 
 bars-requires : tie.Need-bars-requires Inv-loop2 μ-loop2 Inv-loop μ-loop Inv-again μ-again
-bars-requires c κs = search needs
+bars-requires c κs = omega (arith, member-below (at-member (c .before)), other-below c)
 
 array-write-members :
     tie.Need-array-write-members Inv-loop2 μ-loop2 Inv-loop μ-loop Inv-again μ-again
-array-write-members c = omega arith
-
-array-write-others :
-    tie.Need-array-write-others Inv-loop2 μ-loop2 Inv-loop μ-loop Inv-again μ-again
-array-write-others c = omega arith
+array-write-members c = let h = member-below (at-member (other (c .before))) in search needs
 
 again-less : tie.Need-again-less Inv-loop2 μ-loop2 Inv-loop μ-loop Inv-again μ-again
 again-less c =
-    let same = c .before .before .before .loop2 .inv .1 ∙ c .before .before .before .before .before .before .loop .inv .1 in
-    rw same (removed-fewer _ _ _ _ _ (c .before .before .before .before .before .before .before .again .inv) _ (omega arith) (rw (c .before .before .before .before .before .before .loop .inv .1) at (c .before .before .before .before .if1 .taken)))
+    let b = c .before in
+    rw (same-members b)
+    (removed-fewer _ _ _ _ _ (pass (member (other b)) .again .inv) _ (member-below (at-member (other b))) (is-member (other b)))
 
 again-again : tie.Need-again-again Inv-loop2 μ-loop2 Inv-loop μ-loop Inv-again μ-again
 again-again c =
-    let same = c .before .before .before .loop2 .inv .1 ∙ c .before .before .before .before .before .before .loop .inv .1 in
-    let same-others = c .before .before .before .loop2 .inv .2 ∙ c .before .before .before .before .before .before .loop .inv .2 in
-    rw (same, same-others)
-    (removed-still _ _ _ _ _ (c .before .before .before .before .before .before .before .again .inv) _ _ (omega arith) (omega arith) (rw (c .before .before .before .before .before .before .loop .inv .1) at (c .before .before .before .before .if1 .taken))
-    (rw same-others at (sym (c .before .bars .ensures) ∙ c .if2 .taken)))
+    let b = c .before in
+    rw (same-members b)
+    (removed-still _ _ _ _ _ (pass (member (other b)) .again .inv) _ _ (member-below (at-member (other b))) (other-below (b .before)) (is-member (other b))
+    (among-at _ _ _ (omega arith)) (rw (same-members b) at (sym (b .bars .ensures) ∙ c .if2 .taken)))
 
-add-t : tie.Need-add-t Inv-loop2 μ-loop2 Inv-loop μ-loop Inv-again μ-again
-add-t c = search needs
+add-k : tie.Need-add-k Inv-loop2 μ-loop2 Inv-loop μ-loop Inv-again μ-again
+add-k c = search needs
 
 loop2-less : tie.Need-loop2-less Inv-loop2 μ-loop2 Inv-loop μ-loop Inv-again μ-again
 loop2-less c = search needs
 
 loop2-again : tie.Need-loop2-again Inv-loop2 μ-loop2 Inv-loop μ-loop Inv-again μ-again
 loop2-again c =
-    let same = c .before .before .before .loop2 .inv .2 in
-    (search needs, c .before .before .before .loop2 .inv .1, same, below-more _ _ (c .before .before .before .loop2 .inv .3) (rw same at (sym (c .before .bars .ensures) ∙ c .if2 .left)))
+    let b = c .before in
+    let i = other b .loop2 .inv in
+    (search needs, i .1, among-more _ _ _ (λ t _. i .2 t) (rw (i .1) at (sym (b .bars .ensures) ∙ c .if2 .left)))
 
-add-s : tie.Need-add-s Inv-loop2 μ-loop2 Inv-loop μ-loop Inv-again μ-again
-add-s c = search needs
+add-j : tie.Need-add-j Inv-loop2 μ-loop2 Inv-loop μ-loop Inv-again μ-again
+add-j c = search needs
 
 loop-less : tie.Need-loop-less Inv-loop2 μ-loop2 Inv-loop μ-loop Inv-again μ-again
 loop-less c = search needs
 
 loop-again : tie.Need-loop-again Inv-loop2 μ-loop2 Inv-loop μ-loop Inv-again μ-again
 loop-again c =
-    let same = c .before .before .loop .inv .1 in
-    let same-others = c .before .before .loop .inv .2 in (
+    let i = c .before .before .loop .inv in (
       search needs,
-      ⊎-elim (λ w. w .3 ∙ w .1 .inv .1 ∙ same) (λ w. w .1 ∙ same) (c .if1 .came),
-      ⊎-elim (λ w. w .4 ∙ w .1 .inv .2 ∙ same-others) (λ w. w .2 ∙ same-others) (c .if1 .came),
-      below-more _ _ (c .before .before .loop .inv .3)
-          (λ p t h. rw (← same-others)
-          (⊎-elim (λ w. w .1 .inv .3 t (omega arith)) (λ w. contradiction p (rw same at (w .0 .left))) (c .if1 .came))),
+      ⊎-elim (λ w. w .3 ∙ w .1 .inv .1 ∙ i .1) (λ w. w .1 ∙ i .1) (c .if1 .came),
+      among-more _ _ _ (λ s _. i .2 s)
+          (λ p t a. rw (← i .1)
+          (⊎-elim (λ w. let e : w .1 .k ≡ start (pass (c .before .before)) .args .size = omega arith in w .1 .inv .2 t (rw e a)) (λ w. contradiction p (rw (i .1) at (w .0 .left))) (c .if1 .came))),
     )
 
 returns : tie.Need-returns Inv-loop2 μ-loop2 Inv-loop μ-loop Inv-again μ-again
 returns c =
-    c .before .loop .inv .1
-    ∙ settled _ _ _ _ (c .before .before .before .before .candidates .ensures) (c .before .before .before .others .ensures) _ _ _ (c .before .before .before .before .before .before .pre .1) (c .before .before .again .inv)
-    (λ s h. c .before .loop .inv .3 s (omega arith))
+    let l = c .before in
+    let e : l .loop .j ≡ start (pass l) .args .size = omega arith in
+    l .loop .inv .1 ∙ settled _ _ _ _ _ (pass l .again .inv) (λ s a. l .loop .inv .2 s (rw e a))
 
 pub settle-spec : {M : Type 1} → statement M
 settle-spec =
@@ -129,24 +194,25 @@ settle-spec =
     μ-loop
     Inv-again
     μ-again
-    candidates-requires
-    others-requires
     again-holds
     loop-holds
+    array-read-s
+    cast-s
     array-read-if1
     loop2-holds
+    array-read-t
+    cast-t
     mul-bars
     add-bars
     array-read-bars
     bars-requires
     array-write-members
-    array-write-others
     again-less
     again-again
-    add-t
+    add-k
     loop2-less
     loop2-again
-    add-s
+    add-j
     loop-less
     loop-again
     returns)
