@@ -4,6 +4,10 @@ use borrow.Author.Needs.{needs}
 use Rattle.records.proofs.decode_record.Statement.{statement}
 use Rattle.records.proofs.decode_record.Tie as tie
 
+-- from behind the first test to the kind
+abbrev kind : tie.Else1 → tie.After-byte-at
+kind c = c .before .before
+
 byte-at-requires : tie.Need-byte-at-requires
 byte-at-requires c κs = search needs
 
@@ -23,13 +27,13 @@ sync-requires : tie.Need-sync-requires
 sync-requires c κs = search needs
 
 returns-2 : tie.Need-returns-2
-returns-2 c = cc (decode-sync _ _ (c .before .before .before .before .byte-at .ensures) (c .before .if2 .taken))
+returns-2 c = cc (decode-sync _ _ (kind (c .before .before) .byte-at .ensures) (c .before .if2 .taken))
 
 byte-at-requires-3 : tie.Need-byte-at-requires-3
 byte-at-requires-3 c κs = search needs
 
 returns-3 : tie.Need-returns-3
-returns-3 c = cc (decode-handover _ _ (c .before .before .before .before .before .byte-at .ensures) (c .before .if3 .taken))
+returns-3 c = cc (decode-handover _ _ (kind (c .before .before .before) .byte-at .ensures) (c .before .if3 .taken))
 
 word-at-requires-2 : tie.Need-word-at-requires-2
 word-at-requires-2 c κs = search needs
@@ -38,7 +42,7 @@ cast-t10 : tie.Need-cast-t10
 cast-t10 c = search needs
 
 returns-4 : tie.Need-returns-4
-returns-4 c = cc (decode-stop _ _ (c .before .before .before .before .before .byte-at .ensures) (c .before .before .before .if1 .left) (c .before .before .if2 .left) (c .before .if3 .left))
+returns-4 c = cc (decode-stop _ _ (kind (c .before .before .before) .byte-at .ensures) (c .before .before .before .if1 .left) (c .before .before .if2 .left) (c .before .if3 .left))
 
 pub decode-record-spec : {M : Type 1} → statement M
 decode-record-spec =
