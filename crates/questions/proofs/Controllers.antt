@@ -1,5 +1,5 @@
--- What the questions of an event find of a controller: past the last, zeros; and what questions 11 and 14 ask of arrays. Assumes nothing.
-use mathlib.Core.Path.{_≡_, refl}
+-- What the questions of an event find of a controller: past the last, zeros; and question 14, of the arrays that it reads. Assumes nothing.
+use mathlib.Core.Path.{_≡_}
 use mathlib.Core.Bool.{Bool, true, false, _&&_}
 use mathlib.Core.List.{List}
 use Prim.Native.Nat.{ℕ, suc, _-_, _≤_, _<_}
@@ -7,14 +7,12 @@ use native.Mathlib.Omega.{arith}
 use lib.ListN.{length, getD, List·getD-eq-default}
 use lib.Dec.{leb}
 use borrow.Author.Tests.{lt-ltb, le-ltb, le-leb, lt-leb}
-use Rattle.model.specs.Tables.{seats, capacity, yes?, noPending, noController, at, message, entry, place}
-use Rattle.model.specs.Sized.{Sized}
-use Rattle.model.specs.WellFormed.{named}
-use Rattle.model.specs.Questions.{ownPending, unread, keepable}
+use Rattle.model.specs.Tables.{seats, capacity, yes?, noPending, noController, at, entry, place}
+use Rattle.model.specs.Questions.{unread, keepable}
 use Rattle.model.specs.declared.Pending.{Pending}
 use Rattle.model.specs.declared.Controller.{Controller}
 use Rattle.model.specs.declared.Table.{Table}
-use Rattle.questions.specs.Arrays.{ownAmong, readWithin}
+use Rattle.questions.specs.Arrays.{readWithin}
 
 -- PAST THE END OF AN ARRAY
 
@@ -30,13 +28,14 @@ pub read-past : (controllers : List Controller) → length controllers ≡ seats
     → (o k : ℕ) → leb (getD (getD controllers i noController .read) o 0) k ≡ true
 read-past controllers l i h o k = rw (none-past controllers l i h) (le-leb 0 k (omega arith))
 
-pub stopped-past : (t : Table) (c : ℕ) → Sized t → seats ≤ c - 1 → yes? (at t c .running) ≡ false
-unfolding at
-stopped-past t c z h = rw (none-past (t .controllers) (z .controllers) (c - 1) h)
+module _ (t : Table) (l : length (t .controllers) ≡ seats) (c : ℕ) (h : seats ≤ c - 1) where
+  pub stopped-past : yes? (at t c .running) ≡ false
+  unfolding at
+  stopped-past = rw (none-past (t .controllers) l (c - 1) h)
 
-pub unread-past : (t : Table) (r o : ℕ) → Sized t → seats ≤ o - 1 → unread t r o ≡ false
-unfolding unread at
-unread-past t r o z h = rw (none-past (t .controllers) (z .controllers) (o - 1) h) (le-ltb (place (at t r) o) 0 (omega arith))
+  pub unread-past : (r : ℕ) → unread t r c ≡ false
+  unfolding unread at
+  unread-past r = rw (none-past (t .controllers) l (c - 1) h) (le-ltb (place (at t r) c) 0 (omega arith))
 
 -- CONTROLLER c
 
@@ -48,10 +47,6 @@ index-suc : (r : ℕ) → suc r - 1 ≡ r
 index-suc r = omega arith
 
 module _ (t : Table) (c : ℕ) where
-  pub own-pending : ownAmong (t .count) (t .messages) (at t c .pending) c ≡ ownPending t c
-  unfolding ownAmong ownPending message
-  own-pending = refl
-
   pub kept-more : (k : ℕ) → at t c .length < k → keepable t c k ≡ false
   unfolding keepable
   kept-more k h = rw (lt-leb k (at t c .length) h)

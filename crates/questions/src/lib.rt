@@ -1,14 +1,21 @@
+<<<<<<< ours
 // Questions 8 to 14, on every table. Past the last controller the definitions read zeros; no value of the
 // type has empty arrays, so each function that reads a controller answers that case by itself. A function that indexes a
 // table copies it, so each kind of event has one that does.
+=======
+// Questions 8 to 14 of document 01, on every table. Past the last controller the definitions read zeros; no value of the
+// type has empty arrays, so each function that reads a controller answers that case by itself.
+>>>>>>> theirs
 ghost use mathlib.Core.Path.{_≡_};
 ghost use mathlib.Core.Bool.{_&&_};
+ghost use mathlib.Core.List.{[]};
 ghost use Prim.Native.Nat.{_<_};
 ghost use lib.Dec.{eqb, leb, ltb};
 ghost use Rattle.model.specs.Tables.{yes?};
+ghost use Rattle.model.specs.Parts.{whole};
 ghost use Rattle.model.specs.Questions.{firstNo, eventQuestions};
 ghost use Rattle.model.specs.declared.Event.the-variants.{Send, Handover, Stop};
-ghost use Rattle.questions.specs.Arrays.{ownAmong, readWithin};
+ghost use Rattle.questions.specs.Arrays.{roomQuestions, readWithin};
 use model::Controller;
 use model::Event;
 use model::Message;
@@ -26,28 +33,34 @@ fn named(n: usize, c: u8) -> bool
 
 // A REPORT OR SYNC
 
-fn own(entry: Pending, m: Message, c: u8) -> bool
-    ensures { λ r. ⌜ r ≡ (yes? (entry .held) && eqb (m .sender) c) ⌝ }
-{
-    (0 < entry.held) & (m.sender == c)
-}
-
-// Whether one of so many messages is in the buffer and c's own.
-fn any_own(count: usize, messages: [Message; 64], pending: [Pending; 64], c: u8) -> bool
-    ensures { λ r. ⌜ r ≡ ownAmong count messages pending c ⌝ }
+// Questions 11 and 12, of a sender with this buffer and of a run with so many messages.
+fn room_refusal(count: usize, messages: [Message; 64], pending: [Pending; 64], c: u8) -> u8
+    ensures { λ r. ⌜ r ≡ firstNo (roomQuestions count messages pending c) ⌝ }
 {
     for s in 0..numbers::at_most(count, Table::MESSAGES) {
-        if own(pending[s], messages[s], c) {
-            return true;
+        let held = pending[s].held;
+        let sender = messages[s].sender;
+        if (0 < held) & (sender == c) {
+            return refusal::OWN_PENDING;
         }
     }
-    false
+    if Table::MESSAGES <= count {
+        return refusal::FULL;
+    }
+    refusal::ACCEPTED
 }
 
-fn send_refusal(t: Table, sender: u8, payload: Payload) -> u8
-    ensures { λ r. ⌜ r ≡ firstNo (eventQuestions t (Send sender payload)) ⌝ }
+fn send_refusal(
+    n: usize,
+    count: usize,
+    messages: [Message; 64],
+    controllers: [Controller; 7],
+    sender: u8,
+    payload: Payload,
+) -> u8
+    ensures { λ r. ⌜ r ≡ firstNo (eventQuestions (whole n count messages controllers) (Send sender payload)) ⌝ }
 {
-    if !named(t.n, sender) {
+    if !named(n, sender) {
         return refusal::CONTROLLER;
     }
     if !Payload::fair(payload) {
@@ -57,28 +70,21 @@ fn send_refusal(t: Table, sender: u8, payload: Payload) -> u8
     if Table::CONTROLLERS <= i {
         return refusal::STOPPED;
     }
-    let x = t.controllers[i];
+    let x = controllers[i];
     let flag = x.running;
     if flag == 0 {
         return refusal::STOPPED;
     }
     let pending = x.pending;
-    let messages = t.messages;
-    if any_own(t.count, messages, pending, sender) {
-        return refusal::OWN_PENDING;
-    }
-    if Table::MESSAGES <= t.count {
-        return refusal::FULL;
-    }
-    refusal::ACCEPTED
+    room_refusal(count, messages, pending, sender)
 }
 
 // A HANDOVER
 
-fn handover_refusal(t: Table, receiver: u8, owner: u8) -> u8
-    ensures { λ r. ⌜ r ≡ firstNo (eventQuestions t (Handover receiver owner)) ⌝ }
+fn handover_refusal(n: usize, controllers: [Controller; 7], receiver: u8, owner: u8) -> u8
+    ensures { λ r. ⌜ r ≡ firstNo (eventQuestions (whole n 0 [] controllers) (Handover receiver owner)) ⌝ }
 {
-    if !(named(t.n, receiver) & named(t.n, owner)) {
+    if !(named(n, receiver) & named(n, owner)) {
         return refusal::CONTROLLER;
     }
     let r = receiver as usize - 1;
@@ -86,16 +92,15 @@ fn handover_refusal(t: Table, receiver: u8, owner: u8) -> u8
     if Table::CONTROLLERS <= r {
         return refusal::STOPPED;
     }
-    let x = t.controllers[r];
-    let flag = x.running;
+    let flag = controllers[r].running;
     if flag == 0 {
         return refusal::STOPPED;
     }
     if Table::CONTROLLERS <= o {
         return refusal::NO_ENTRY;
     }
-    let y = t.controllers[o];
-    let length = y.length;
+    let length = controllers[o].length;
+    let x = controllers[r];
     let read = x.read;
     let place = read[o];
     if length <= place {
@@ -122,27 +127,25 @@ fn none_past(n: usize, controllers: [Controller; 7], o: usize, k: usize) -> bool
     true
 }
 
-fn stop_refusal(t: Table, controller: u8, kept: usize) -> u8
-    ensures { λ r. ⌜ r ≡ firstNo (eventQuestions t (Stop controller kept)) ⌝ }
+fn stop_refusal(n: usize, controllers: [Controller; 7], controller: u8, kept: usize) -> u8
+    ensures { λ r. ⌜ r ≡ firstNo (eventQuestions (whole n 0 [] controllers) (Stop controller kept)) ⌝ }
 {
-    if !named(t.n, controller) {
+    if !named(n, controller) {
         return refusal::CONTROLLER;
     }
     let i = controller as usize - 1;
     if Table::CONTROLLERS <= i {
         return refusal::STOPPED;
     }
-    let x = t.controllers[i];
-    let flag = x.running;
+    let flag = controllers[i].running;
     if flag == 0 {
         return refusal::STOPPED;
     }
-    let length = x.length;
+    let length = controllers[i].length;
     if length < kept {
         return refusal::KEPT;
     }
-    let controllers = t.controllers;
-    if !none_past(t.n, controllers, i, kept) {
+    if !none_past(n, controllers, i, kept) {
         return refusal::KEPT;
     }
     refusal::ACCEPTED
@@ -152,9 +155,13 @@ fn stop_refusal(t: Table, controller: u8, kept: usize) -> u8
 pub fn refusal(t: Table, e: Event) -> u8
     ensures { λ r. ⌜ r ≡ firstNo (eventQuestions t e) ⌝ }
 {
+    let controllers = t.controllers;
     match e {
-        Event::Send { sender, payload } => send_refusal(t, sender, payload),
-        Event::Handover { receiver, owner } => handover_refusal(t, receiver, owner),
-        Event::Stop { controller, kept } => stop_refusal(t, controller, kept),
+        Event::Send { sender, payload } => {
+            let messages = t.messages;
+            send_refusal(t.n, t.count, messages, controllers, sender, payload)
+        }
+        Event::Handover { receiver, owner } => handover_refusal(t.n, controllers, receiver, owner),
+        Event::Stop { controller, kept } => stop_refusal(t.n, controllers, controller, kept),
     }
 }

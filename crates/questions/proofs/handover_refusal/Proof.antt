@@ -1,14 +1,16 @@
 -- The questions of a handover, in order. Assumes nothing.
 use mathlib.Core.Path.{_≡_, ap₂}
 use mathlib.Core.Bool.{true, _&&_}
+use mathlib.Core.List.{[]}
+use lib.ListN.{length}
 use borrow.Author.Needs.{needs}
 use borrow.Author.Tests.{lt-ltb, le-ltb}
 use Rattle.lists.proofs.Tests.{and-left, and-right}
-use Rattle.model.specs.Tables.{yes?, at}
-use Rattle.model.specs.Sized.{Sized}
+use Rattle.model.specs.Tables.{seats, yes?, at}
 use Rattle.model.specs.WellFormed.{named}
 use Rattle.model.specs.Questions.{unread, eventQuestions}
-use Rattle.model.proofs.Owned.{table-sized}
+use Rattle.model.specs.Parts.{whole}
+use Rattle.model.specs.declared.Table.{Table}
 use Rattle.model.proofs.Tested.{named-at}
 use Rattle.questions.proofs.Answers.{answered, refused, accepted, seen-yes, seen-no}
 use Rattle.questions.proofs.Controllers.{flagged, stopped-past, unread-past}
@@ -20,21 +22,25 @@ abbrev entered : tie.Else1 → tie.Start
 entered c = c .before .before .before
 
 abbrev known : tie.Else3 → tie.Else1
-known c = c .before .before .before
+known c = c .before .before
 
 abbrev runs : tie.After-read → tie.Else3
 runs c = c .before .before .before
 
-sized : (c : tie.Else1) → Sized (entered c .args .t1)
-sized c = table-sized (entered c .args .t1) _ (entered c .good .0)
+-- the table that the questions are put to
+abbrev asked : tie.Else1 → Table
+asked c = whole (entered c .args .n) 0 [] (entered c .args .t2)
+
+long : (c : tie.Else1) → length (entered c .args .t2) ≡ seats
+long c = entered c .good .1 .0 .1 .0 .1
 
 -- WHAT WAS ANSWERED YES
 
-both-named : (c : tie.Else1) → let s = entered c .args in (named (s .t1) (s .receiver) && named (s .t1) (s .owner)) ≡ true
+both-named : (c : tie.Else1) → (named (asked c) (entered c .args .receiver) && named (asked c) (entered c .args .owner)) ≡ true
 unfolding named
 both-named c = seen-yes (ap₂ _&&_ (c .before .before .named .ensures) (c .before .named2 .ensures)) (c .if1 .left)
 
-receiver-runs : (c : tie.Else3) → let s = entered (known c) .args in yes? (at (s .t1) (s .receiver) .running) ≡ true
+receiver-runs : (c : tie.Else3) → yes? (at (asked (known c)) (entered (known c) .args .receiver) .running) ≡ true
 unfolding at
 receiver-runs c = flagged (c .if3 .left)
 
@@ -51,36 +57,42 @@ unfolding eventQuestions named
 returns c = refused _ _ (seen-no (ap₂ _&&_ (c .before .before .named .ensures) (c .before .named2 .ensures)) (c .if1 .taken))
 
 sub-r : tie.Need-sub-r
-sub-r c = named-at (entered c .args .t1) _ (and-left _ _ (both-named c)) .low
+sub-r c = named-at (asked c) _ (and-left _ _ (both-named c)) .low
 
 sub-o : tie.Need-sub-o
-sub-o c = named-at (entered c .args .t1) _ (and-right (named (entered c .args .t1) (entered c .args .receiver)) _ (both-named c)) .low
+sub-o c = named-at (asked c) _ (and-right (named (asked c) (entered c .args .receiver)) _ (both-named c)) .low
 
 returns-2 : tie.Need-returns-2
 unfolding eventQuestions
-returns-2 c = answered _ _ (both-named (c .before)) (refused _ _ (stopped-past _ _ (sized (c .before)) (c .if2 .taken)))
+returns-2 c = answered _ _ (both-named (c .before)) (refused _ _ (stopped-past (asked (c .before)) (long (c .before)) _ (c .if2 .taken)))
 
-mul-x : tie.Need-mul-x
-mul-x c = search needs
+mul-flag : tie.Need-mul-flag
+mul-flag c = search needs
 
-element-copy-out-x : tie.Need-element-copy-out-x
-element-copy-out-x c = search needs
+element-copy-out-flag : tie.Need-element-copy-out-flag
+element-copy-out-flag c = search needs
 
 returns-3 : tie.Need-returns-3
 unfolding eventQuestions at
-returns-3 c = answered _ _ (both-named (c .before .before .before)) (refused _ _ (rw (c .if3 .taken)))
+returns-3 c = answered _ _ (both-named (c .before .before)) (refused _ _ (rw (c .if3 .taken)))
 
 returns-4 : tie.Need-returns-4
 unfolding eventQuestions
 returns-4 c =
     let k = known (c .before) in
-    answered _ _ (both-named k) (answered _ _ (receiver-runs (c .before)) (refused _ _ (unread-past _ _ _ (sized k) (c .if4 .taken))))
+    answered _ _ (both-named k) (answered _ _ (receiver-runs (c .before)) (refused _ _ (unread-past (asked k) (long k) _ (c .if4 .taken) _)))
 
-mul-y : tie.Need-mul-y
-mul-y c = search needs
+mul-length : tie.Need-mul-length
+mul-length c = search needs
 
-element-copy-out-y : tie.Need-element-copy-out-y
-element-copy-out-y c = search needs
+element-copy-out-length : tie.Need-element-copy-out-length
+element-copy-out-length c = search needs
+
+mul-x : tie.Need-mul-x
+mul-x c = search needs
+
+array-copy-out-x : tie.Need-array-copy-out-x
+array-copy-out-x c = search needs
 
 mul-place : tie.Need-mul-place
 mul-place c = search needs
@@ -110,12 +122,14 @@ handover-refusal-spec =
     sub-r
     sub-o
     returns-2
-    mul-x
-    element-copy-out-x
+    mul-flag
+    element-copy-out-flag
     returns-3
     returns-4
-    mul-y
-    element-copy-out-y
+    mul-length
+    element-copy-out-length
+    mul-x
+    array-copy-out-x
     mul-place
     array-read-place
     returns-5

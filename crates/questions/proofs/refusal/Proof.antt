@@ -1,5 +1,8 @@
--- `refusal` puts the questions of the event's kind. Assumes nothing.
+-- `refusal` puts the questions of the event's kind to the parts of the table that they read. Assumes nothing.
 use borrow.Author.Needs.{needs}
+use Rattle.model.specs.Tables.{at, message}
+use Rattle.model.specs.WellFormed.{named}
+use Rattle.model.specs.Questions.{ownPending, unread, keepable, eventQuestions}
 use Rattle.questions.proofs.refusal.Statement.{statement}
 use Rattle.questions.proofs.refusal.Tie as tie
 
@@ -22,12 +25,15 @@ stop-refusal-requires : tie.Need-stop-refusal-requires
 stop-refusal-requires c κs = search needs
 
 returns : tie.Need-returns
-returns c = rw (c .before .before .e .given .1) (c .send-refusal .ensures)
+unfolding eventQuestions named ownPending at message
+returns c = rw (c .before .before .before .e .given .1) (c .send-refusal .ensures)
 
 returns-2 : tie.Need-returns-2
+unfolding eventQuestions named unread at
 returns-2 c = rw (c .before .before .e2 .given .1) (c .handover-refusal .ensures)
 
 returns-3 : tie.Need-returns-3
+unfolding eventQuestions named keepable at
 returns-3 c = rw (c .before .before .e3 .given .1) (c .stop-refusal .ensures)
 
 pub refusal-spec : {M : Type 1} → statement M

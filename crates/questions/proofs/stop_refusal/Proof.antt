@@ -1,12 +1,14 @@
 -- The questions of a stop, in order. Assumes nothing.
 use mathlib.Core.Path.{_≡_, _∙_}
 use mathlib.Core.Bool.{true}
+use mathlib.Core.List.{[]}
+use lib.ListN.{length}
 use borrow.Author.Needs.{needs}
-use Rattle.model.specs.Tables.{yes?, at}
-use Rattle.model.specs.Sized.{Sized}
+use Rattle.model.specs.Tables.{seats, yes?, at}
 use Rattle.model.specs.WellFormed.{named}
 use Rattle.model.specs.Questions.{keepable, eventQuestions}
-use Rattle.model.proofs.Owned.{table-sized}
+use Rattle.model.specs.Parts.{whole}
+use Rattle.model.specs.declared.Table.{Table}
 use Rattle.model.proofs.Tested.{named-at}
 use Rattle.questions.proofs.Answers.{answered, refused, accepted, seen-yes, seen-no}
 use Rattle.questions.proofs.Controllers.{flagged, stopped-past, kept-more, kept}
@@ -18,30 +20,35 @@ abbrev entered : tie.Else1 → tie.Start
 entered c = c .before .before
 
 abbrev known : tie.Else3 → tie.Else1
-known c = c .before .before .before
+known c = c .before .before
 
 abbrev runs : tie.After-none-past → tie.Else3
-runs c = c .before .before .before
+runs c = c .before .before
 
-sized : (c : tie.Else1) → Sized (entered c .args .t1)
-sized c = table-sized (entered c .args .t1) _ (entered c .good .0)
+-- the table that the questions are put to
+abbrev asked : tie.Else1 → Table
+asked c = whole (entered c .args .n) 0 [] (entered c .args .t2)
+
+long : (c : tie.Else1) → length (entered c .args .t2) ≡ seats
+long c = entered c .good .1 .0 .1 .0 .1
 
 -- WHAT WAS ANSWERED YES
 
-controller-named : (c : tie.Else1) → named (entered c .args .t1) (entered c .args .controller) ≡ true
+controller-named : (c : tie.Else1) → named (asked c) (entered c .args .controller) ≡ true
 unfolding named
 controller-named c = seen-yes (c .before .named .ensures) (c .if1 .left)
 
-controller-runs : (c : tie.Else3) → let s = entered (known c) .args in yes? (at (s .t1) (s .controller) .running) ≡ true
+controller-runs : (c : tie.Else3) → yes? (at (asked (known c)) (entered (known c) .args .controller) .running) ≡ true
 unfolding at
 controller-runs c = flagged (c .if3 .left)
 
 -- the answer to question 14
-kept-found : (c : tie.After-none-past) → let s = entered (known (runs c)) .args in c .none-past .result ≡ keepable (s .t1) (s .controller) (s .kept)
+kept-found : (c : tie.After-none-past) → let k = known (runs c) in
+    c .none-past .result ≡ keepable (asked k) (entered k .args .controller) (entered k .args .kept)
 unfolding at
 kept-found c =
-    let s = entered (known (runs c)) .args in
-    c .none-past .ensures ∙ kept (s .t1) (s .controller) _ (c .before .before .if4 .left)
+    let k = known (runs c) in
+    c .none-past .ensures ∙ kept (asked k) (entered k .args .controller) _ (c .before .if4 .left)
 
 -- NEEDS
 
@@ -53,28 +60,34 @@ unfolding eventQuestions named
 returns c = refused _ _ (seen-no (c .before .named .ensures) (c .if1 .taken))
 
 sub-i : tie.Need-sub-i
-sub-i c = named-at (entered c .args .t1) _ (controller-named c) .low
+sub-i c = named-at (asked c) _ (controller-named c) .low
 
 returns-2 : tie.Need-returns-2
 unfolding eventQuestions
-returns-2 c = answered _ _ (controller-named (c .before)) (refused _ _ (stopped-past _ _ (sized (c .before)) (c .if2 .taken)))
+returns-2 c = answered _ _ (controller-named (c .before)) (refused _ _ (stopped-past (asked (c .before)) (long (c .before)) _ (c .if2 .taken)))
 
-mul-x : tie.Need-mul-x
-mul-x c = search needs
+mul-flag : tie.Need-mul-flag
+mul-flag c = search needs
 
-element-copy-out-x : tie.Need-element-copy-out-x
-element-copy-out-x c = search needs
+element-copy-out-flag : tie.Need-element-copy-out-flag
+element-copy-out-flag c = search needs
 
 returns-3 : tie.Need-returns-3
 unfolding eventQuestions at
-returns-3 c = answered _ _ (controller-named (c .before .before .before)) (refused _ _ (rw (c .if3 .taken)))
+returns-3 c = answered _ _ (controller-named (c .before .before)) (refused _ _ (rw (c .if3 .taken)))
+
+mul-length : tie.Need-mul-length
+mul-length c = search needs
+
+element-copy-out-length : tie.Need-element-copy-out-length
+element-copy-out-length c = search needs
 
 returns-4 : tie.Need-returns-4
 unfolding eventQuestions at
 returns-4 c =
     let k = known (c .before) in
     answered _ _ (controller-named k)
-    (answered _ _ (controller-runs (c .before)) (refused _ _ (kept-more (entered k .args .t1) (entered k .args .controller) _ (c .if4 .taken))))
+    (answered _ _ (controller-runs (c .before)) (refused _ _ (kept-more (asked k) (entered k .args .controller) _ (c .if4 .taken))))
 
 none-past-requires : tie.Need-none-past-requires
 none-past-requires c κs = search needs
@@ -99,9 +112,11 @@ stop-refusal-spec =
     returns
     sub-i
     returns-2
-    mul-x
-    element-copy-out-x
+    mul-flag
+    element-copy-out-flag
     returns-3
+    mul-length
+    element-copy-out-length
     returns-4
     none-past-requires
     returns-5
