@@ -1,11 +1,5 @@
-<<<<<<< ours
 // Questions 8 to 14, on every table. Past the last controller the definitions read zeros; no value of the
-// type has empty arrays, so each function that reads a controller answers that case by itself. A function that indexes a
-// table copies it, so each kind of event has one that does.
-=======
-// Questions 8 to 14 of document 01, on every table. Past the last controller the definitions read zeros; no value of the
 // type has empty arrays, so each function that reads a controller answers that case by itself.
->>>>>>> theirs
 ghost use mathlib.Core.Path.{_≡_};
 ghost use mathlib.Core.Bool.{_&&_};
 ghost use mathlib.Core.List.{[]};
