@@ -7,7 +7,7 @@ use lib.ListN.{length, getD, replicate}
 use lib.Dec.{eqb, leb, ltb}
 use Rattle.lists.specs.Below.{count}
 use Rattle.lists.specs.Build.{tabulate}
-use Rattle.model.specs.Tables.{capacity, yes?, entry}
+use Rattle.model.specs.Tables.{capacity, scratchSize, yes?, entry}
 use Rattle.model.specs.Delivery.{Slots, has, applicable}
 use Rattle.model.specs.Largest.{inBuffer, candidate, precedes}
 use Rattle.model.specs.Calls.{cleared}
@@ -16,11 +16,11 @@ use Rattle.delivery.specs.declared.Chosen.{Chosen}
 
 -- the set, with so many bytes of scratch: no slot where they are fewer than 4,096
 unfoldable pub applyAnswer : ℕ → ℕ → List Pending → Slots
-applyAnswer room n P = cond (leb 4096 room) (applicable n P) (replicate 64 false)
+applyAnswer room n P = cond (leb scratchSize room) (applicable n P) (replicate 64 false)
 
 -- the scratch area afterwards
 unfoldable pub applyScratch : List ℕ → List ℕ
-applyScratch s = cond (leb 4096 (length s)) (cleared s) s
+applyScratch s = cond (leb scratchSize (length s)) (cleared s) s
 
 pub record Applied (n : ℕ) (P : List Pending) (s : List ℕ) (answer : Slots) (after : List ℕ) : Type 0 where
   pub set : answer ≡ applyAnswer (length s) n P
@@ -61,7 +61,7 @@ pub record RowFilled (n : ℕ) (P : List Pending) (L : List ℕ) (i k : ℕ) (s 
 -- the rows of the members among the first k listed slots are filled, and no byte behind the matrix has changed
 pub record RowsFilled (n : ℕ) (P : List Pending) (L : List ℕ) (S : Slots) (k : ℕ) (s m : List ℕ) : Type 0 where
   pub size : length m ≡ length s
-  pub behind : (x : ℕ) → 4096 ≤ x → getD m x 0 ≡ getD s x 0
+  pub behind : (x : ℕ) → scratchSize ≤ x → getD m x 0 ≡ getD s x 0
   pub flags : (i t : ℕ) → i < capacity → t < capacity → among k L i ≡ true → has S i ≡ true → inBuffer n P t ≡ true
       → flag m i t ≡ precedes n P i t
 
@@ -69,11 +69,11 @@ pub record RowsFilled (n : ℕ) (P : List Pending) (L : List ℕ) (S : Slots) (k
 pub record Removable (size : ℕ) (L : List ℕ) (C : Slots) (m : List ℕ) : Type 0 where
   pub few : size ≤ capacity
   pub below : (k : ℕ) → k < size → getD L k 0 < capacity
-  pub room : 4096 ≤ length m
+  pub room : scratchSize ≤ length m
   pub listed : (s : ℕ) → s < capacity → has C s ≡ true → among size L s ≡ true
 
 -- the set is found, and no byte behind the matrix has changed
 pub record Settled (n : ℕ) (P : List Pending) (s : List ℕ) (answer : Slots) (m : List ℕ) : Type 0 where
   pub set : answer ≡ applicable n P
   pub size : length m ≡ length s
-  pub behind : (x : ℕ) → 4096 ≤ x → getD m x 0 ≡ getD s x 0
+  pub behind : (x : ℕ) → scratchSize ≤ x → getD m x 0 ≡ getD s x 0

@@ -4,7 +4,7 @@ ghost use mathlib.Core.Bool.{not, _&&_};
 ghost use Prim.Native.Nat.{_<_, _≤_};
 ghost use lib.ListN.{length, getD};
 ghost use Rattle.lists.specs.Below.{tally};
-ghost use Rattle.model.specs.Tables.{capacity, yes?};
+ghost use Rattle.model.specs.Tables.{capacity, scratchSize, yes?};
 ghost use Rattle.model.specs.Delivery.{has, majority, markCount, beforeCount, goesBefore, largest};
 ghost use Rattle.model.specs.Calls.{cleared};
 ghost use Rattle.delivery.specs.Apply.{Applied, among, Listed, Candidates, flag, RowFilled, RowsFilled, Removable, Settled};
@@ -14,7 +14,7 @@ use model::Table;
 
 const MAJORITIES: [usize; 8] = [1, 1, 2, 2, 3, 3, 4, 4];
 
-pub fn majority(n: usize) -> usize
+fn majority(n: usize) -> usize
     ensures { λ r. ⌜ r ≡ majority n ⌝ }
 {
     let index = numbers::at_most(n, Table::CONTROLLERS);
@@ -22,7 +22,7 @@ pub fn majority(n: usize) -> usize
 }
 
 // How many of n controllers have forwarded the message, as far as is known here.
-pub fn mark_count(n: usize, p: Pending) -> usize
+fn mark_count(n: usize, p: Pending) -> usize
     ensures { λ r. ⌜ r ≡ markCount n p ⌝ }
 {
     let marks = p.marks;
@@ -37,7 +37,7 @@ pub fn mark_count(n: usize, p: Pending) -> usize
 }
 
 // How many of n controllers have a smaller forward number for p than for q; absent is not smaller than absent.
-pub fn before_count(n: usize, p: Pending, q: Pending) -> usize
+fn before_count(n: usize, p: Pending, q: Pending) -> usize
     ensures { λ r. ⌜ r ≡ beforeCount n p q ⌝ }
 {
     let first = p.marks;
@@ -50,13 +50,6 @@ pub fn before_count(n: usize, p: Pending, q: Pending) -> usize
         }
     }
     count
-}
-
-// The relation of line 16.
-pub fn goes_before(n: usize, p: Pending, q: Pending) -> bool
-    ensures { λ r. ⌜ r ≡ goesBefore n p q ⌝ }
-{
-    majority(n) <= before_count(n, p, q)
 }
 
 // One more where the test passes.
@@ -125,7 +118,7 @@ fn fill_row(
     i: usize,
     scratch: &mut [u8],
 )
-    requires { ⌜ (4096 ≤ length (now scratch)) × Listed pending 64 size slots × (i < 64) × (m ≡ majority n) ⌝ }
+    requires { ⌜ (scratchSize ≤ length (now scratch)) × Listed pending 64 size slots × (i < 64) × (m ≡ majority n) ⌝ }
     ensures { λ r. ⌜ RowFilled n pending slots i size (now (scratch .entry)) (now (scratch .exit)) ⌝ }
 {
     let row = i * Table::MESSAGES;
@@ -145,7 +138,7 @@ fn fill(
     members: [bool; 64],
     scratch: &mut [u8],
 )
-    requires { ⌜ (4096 ≤ length (now scratch)) × Listed pending 64 size slots ⌝ }
+    requires { ⌜ (scratchSize ≤ length (now scratch)) × Listed pending 64 size slots ⌝ }
     ensures { λ r. ⌜ RowsFilled n pending slots members size (now (scratch .entry)) (now (scratch .exit)) ⌝ }
 {
     let m = majority(n);
@@ -205,7 +198,7 @@ fn settle(size: usize, slots: [u8; 64], candidates: [bool; 64], flags: &[u8]) ->
 // The set that a controller of n applies with this buffer. Where there is no candidate, or nothing else in the buffer, it is
 // the candidates. Otherwise the first 4,096 bytes of scratch become the matrix of line 16's relation.
 fn applicable(n: usize, pending: [Pending; 64], scratch: &mut [u8]) -> [bool; 64]
-    requires { ⌜ 4096 ≤ length (now scratch) ⌝ }
+    requires { ⌜ scratchSize ≤ length (now scratch) ⌝ }
     ensures { λ r. ⌜ Settled n pending (now (scratch .entry)) r (now (scratch .exit)) ⌝ }
 {
     let held = held_slots(pending);

@@ -3,6 +3,7 @@ use mathlib.Core.Bool.{cond}
 use mathlib.Core.List.{List, _++_}
 use Prim.Native.Nat.{ℕ}
 use lib.Dec.{eqb}
+use Rattle.model.specs.Tables.{scratchSize}
 use Rattle.model.specs.Records.{byte}
 use Rattle.model.specs.Questions.{firstNo, fileQuestions}
 use Rattle.model.specs.Runs.{progress, header, footer}
@@ -12,6 +13,6 @@ use Rattle.model.specs.Runs.{progress, header, footer}
 unfoldable pub printed : List ℕ → List ℕ
 printed s =
     let k = firstNo (fileQuestions s) in
-    let p = progress s 4096 16384 in
+    let p = progress s scratchSize 16384 in
     let whole = header (byte s 1) ++ (p .lines ++ footer (p .events) (p .number)) in
     cond (eqb k 0) whole (footer 0 k)

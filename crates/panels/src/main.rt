@@ -2,7 +2,9 @@
 // and the events accepted with the refusal number.
 ghost use mathlib.Core.Path.{_≡_};
 ghost use lib.ListN.{length, take};
+ghost use Rattle.model.specs.Tables.{scratchSize};
 ghost use Rattle.panels.specs.Printed.{printed};
+use model::Table;
 
 // The bytes that stand first, all of them where there are fewer.
 fn first(bytes: &[u8], size: usize) -> &[u8]
@@ -21,7 +23,7 @@ const TEXT: usize = 16448;
 
 // Writes what is to be printed of a file, and answers how many bytes that is.
 fn report(file: &[u8], text: &mut [u8], scratch: &mut [u8]) -> usize
-    requires { ⌜ (length (now text) ≡ 16448) × (length (now scratch) ≡ 4096) ⌝ }
+    requires { ⌜ (length (now text) ≡ 16448) × (length (now scratch) ≡ scratchSize) ⌝ }
     ensures { λ r. ⌜ take r (now (text .exit)) ≡ printed (now (file .entry)) ⌝ }
 {
     let refusal = events::files::refusal_of(file);
@@ -41,7 +43,7 @@ fn main() {
     let mut input = io::large_buffer();
     let size = io::read_full(0, &mut input);
     let mut text = [0u8; TEXT];
-    let mut scratch = [0u8; 4096];
+    let mut scratch = [0u8; Table::SCRATCH];
     let written = report(&input[..size], &mut text, &mut scratch);
     io::write_all(1, first(&text, written));
 }

@@ -12,7 +12,7 @@ ghost use Rattle.model.specs.Questions.{firstNo, kindQuestions};
 ghost use Rattle.records.specs.Cuts.{cut, found, recordOf};
 
 // The record at the head of the bytes is whole, and so many bytes follow its length byte; or it is not.
-pub enum Cut {
+enum Cut {
     Whole(usize),
     Short,
 }
@@ -36,7 +36,7 @@ pub fn byte_at(bytes: &[u8], i: usize) -> u8
 }
 
 // Cuts off the record at the head of the bytes.
-pub fn cut_record(bytes: &[u8]) -> Cut
+fn cut_record(bytes: &[u8]) -> Cut
     ensures { λ r. ⌜ found r ≡ cut (now (bytes .entry)) ⌝ }
 {
     let size = byte_at(bytes, 0) as usize;

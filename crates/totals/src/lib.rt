@@ -1,8 +1,7 @@
 // What a panel shows, and whether a set holds a sync of a controller's own: on every table, what no array holds being zero.
 ghost use mathlib.Core.Path.{_≡_};
-ghost use mathlib.Core.Bool.{_&&_, cond};
+ghost use mathlib.Core.Bool.{cond};
 ghost use Prim.Native.Nat.{_≤_};
-ghost use lib.Dec.{eqb};
 ghost use lib.IntN.{pos, _-ℤ_};
 ghost use Rattle.model.specs.Tables.{yes?};
 ghost use Rattle.model.specs.Events.{panelOf, finishes};
@@ -39,9 +38,8 @@ fn summed(count: usize, messages: [Message; 64], applied: [u8; 64]) -> Amounts
     let mut withdrawn = 0;
     for s in 0..numbers::at_most(count, Table::MESSAGES) {
         let flag = applied[s];
-        let m = messages[s];
-        added = added + counted(flag, m.payload.added);
-        withdrawn = withdrawn + counted(flag, m.payload.withdrawn);
+        added = added + counted(flag, messages[s].payload.added);
+        withdrawn = withdrawn + counted(flag, messages[s].payload.withdrawn);
     }
     Amounts { added, withdrawn }
 }
@@ -79,18 +77,14 @@ pub fn panel(t: Table, c: usize) -> Panel
 
 // A FINISHED SYNC
 
-fn finishing(member: bool, m: Message, c: u8) -> bool
-    ensures { λ r. ⌜ r ≡ (member && (eqb (m .payload .kind) 2 && eqb (m .sender) c)) ⌝ }
-{
-    member & ((m.payload.kind == Payload::SYNC) & (m.sender == c))
-}
-
 // Whether a sync of c is among the members.
 pub fn finishes(count: usize, messages: [Message; 64], members: [bool; 64], c: u8) -> bool
     ensures { λ r. ⌜ r ≡ finishes (part 0 count messages) members c ⌝ }
 {
     for s in 0..numbers::at_most(count, Table::MESSAGES) {
-        if finishing(members[s], messages[s], c) {
+        let kind = messages[s].payload.kind;
+        let sender = messages[s].sender;
+        if members[s] & ((kind == Payload::SYNC) & (sender == c)) {
             return true;
         }
     }

@@ -1,6 +1,6 @@
 -- `finishes` searches the members for a sync of c; past the 64th slot there are none. The loop's invariant: none before is.
 -- Assumes nothing.
-use mathlib.Core.Path.{_≡_, sym, _∙_}
+use mathlib.Core.Path.{_≡_}
 use mathlib.Core.Bool.{false, _&&_}
 use Prim.Native.Nat.{ℕ, _-_, _≤_, _<_}
 use native.Mathlib.Nat.{not-suc-le-zero}
@@ -25,12 +25,9 @@ Inv-loop count c messages members s₀ s-end s =
 abbrev μ-loop : tie.MeasureT-loop
 μ-loop count c messages members s₀ s-end s = s-end - s
 
--- from a turn to the entry, and from behind its test to the turn
+-- from a turn to the entry
 abbrev entered : tie.At-loop Inv-loop μ-loop → tie.Start Inv-loop μ-loop
 entered c = c .before .before
-
-abbrev turn : tie.After-finishing Inv-loop μ-loop → tie.At-loop Inv-loop μ-loop
-turn c = c .before .before .before
 
 long : (c : tie.At-loop Inv-loop μ-loop) → length (entered c .args .t3) ≡ capacity
 long c = entered c .good .1 .1 .0 .1 .0 .1
@@ -41,21 +38,24 @@ at-most-requires c κs = search needs
 loop-holds : tie.Need-loop-holds Inv-loop μ-loop
 loop-holds c = (omega arith, λ j h. absurd (not-suc-le-zero h))
 
-array-read-finishing : tie.Need-array-read-finishing Inv-loop μ-loop
-array-read-finishing c = search needs
+mul-kind : tie.Need-mul-kind Inv-loop μ-loop
+mul-kind c = search needs
 
-mul-finishing : tie.Need-mul-finishing Inv-loop μ-loop
-mul-finishing c = search needs
+element-copy-out-kind : tie.Need-element-copy-out-kind Inv-loop μ-loop
+element-copy-out-kind c = search needs
 
-array-copy-out-finishing : tie.Need-array-copy-out-finishing Inv-loop μ-loop
-array-copy-out-finishing c = search needs
+mul-sender : tie.Need-mul-sender Inv-loop μ-loop
+mul-sender c = search needs
 
-finishing-requires : tie.Need-finishing-requires Inv-loop μ-loop
-finishing-requires c κs = search needs
+element-copy-out-sender : tie.Need-element-copy-out-sender Inv-loop μ-loop
+element-copy-out-sender c = search needs
+
+array-read-if1 : tie.Need-array-read-if1 Inv-loop μ-loop
+array-read-if1 c = search needs
 
 returns : tie.Need-returns Inv-loop μ-loop
 unfolding finishes message
-returns c = any-found _ _ (turn (c .before) .loop .s) (omega arith) (sym (c .before .finishing .ensures) ∙ c .if1 .taken)
+returns c = any-found _ _ (c .before .before .loop .s) (omega arith) (c .if1 .taken)
 
 add-s : tie.Need-add-s Inv-loop μ-loop
 add-s c = search needs
@@ -64,7 +64,7 @@ loop-less : tie.Need-loop-less Inv-loop μ-loop
 loop-less c = search needs
 
 loop-again : tie.Need-loop-again Inv-loop μ-loop
-loop-again c = (omega arith, below-more _ _ (turn (c .before) .loop .inv .1) (sym (c .before .finishing .ensures) ∙ c .if1 .left))
+loop-again c = (omega arith, below-more _ _ (c .before .before .loop .inv .1) (c .if1 .left))
 
 returns-2 : tie.Need-returns-2 Inv-loop μ-loop
 unfolding finishes message
@@ -81,10 +81,11 @@ finishes-spec =
     μ-loop
     at-most-requires
     loop-holds
-    array-read-finishing
-    mul-finishing
-    array-copy-out-finishing
-    finishing-requires
+    mul-kind
+    element-copy-out-kind
+    mul-sender
+    element-copy-out-sender
+    array-read-if1
     returns
     add-s
     loop-less

@@ -28,7 +28,7 @@ abbrev entered : tie.At-loop Inv-loop μ-loop → tie.Start Inv-loop μ-loop
 entered c = c .before .before
 
 abbrev turn : tie.After-counted Inv-loop μ-loop → tie.At-loop Inv-loop μ-loop
-turn c = c .before .before .before
+turn c = c .before .before
 
 long : (c : tie.At-loop Inv-loop μ-loop) → length (entered c .args .t3) ≡ capacity
 long c = entered c .good .1 .1 .0 .1 .0 .1
@@ -42,17 +42,23 @@ loop-holds c = (omega arith, sum-start _, sum-start _, omega arith, omega arith)
 array-read-flag : tie.Need-array-read-flag Inv-loop μ-loop
 array-read-flag c = search needs
 
-mul-m : tie.Need-mul-m Inv-loop μ-loop
-mul-m c = search needs
+mul-counted : tie.Need-mul-counted Inv-loop μ-loop
+mul-counted c = search needs
 
-array-copy-out-m : tie.Need-array-copy-out-m Inv-loop μ-loop
-array-copy-out-m c = search needs
+element-copy-out-counted : tie.Need-element-copy-out-counted Inv-loop μ-loop
+element-copy-out-counted c = search needs
 
 counted-requires : tie.Need-counted-requires Inv-loop μ-loop
 counted-requires c κs = search needs
 
 add-added : tie.Need-add-added Inv-loop μ-loop
 add-added c = omega arith
+
+mul-counted-2 : tie.Need-mul-counted-2 Inv-loop μ-loop
+mul-counted-2 c = search needs
+
+element-copy-out-counted-2 : tie.Need-element-copy-out-counted-2 Inv-loop μ-loop
+element-copy-out-counted-2 c = search needs
 
 counted-requires-2 : tie.Need-counted-requires-2 Inv-loop μ-loop
 counted-requires-2 c κs = search needs
@@ -95,10 +101,12 @@ summed-spec =
     at-most-requires
     loop-holds
     array-read-flag
-    mul-m
-    array-copy-out-m
+    mul-counted
+    element-copy-out-counted
     counted-requires
     add-added
+    mul-counted-2
+    element-copy-out-counted-2
     counted-requires-2
     add-withdrawn
     add-s
