@@ -11,10 +11,11 @@ use Rattle.model.specs.declared.Pending.{Pending}
 use Rattle.model.specs.declared.Message.{Message}
 use Rattle.model.specs.declared.Controller.{Controller}
 
--- 11: one of k messages is in the buffer and c's own; 12
+-- 11: one of k messages is in the buffer and c's own
 unfoldable pub ownAmong : ℕ → List Message → List Pending → ℕ → Bool
 ownAmong k M P c = ltb 0 (count k (λ s. yes? (entry P s .held) && eqb (getD M s noMessage .sender) c))
 
+-- 11 and 12
 unfoldable pub roomQuestions : ℕ → List Message → List Pending → ℕ → List Question
 roomQuestions k M P c = ask 11 (not (ownAmong k M P c)) ∷ ask 12 (ltb k capacity) ∷ []
 
