@@ -1,11 +1,6 @@
-<<<<<<< ours
 // Questions 8 to 14, on every table. Past the last controller the definitions read zeros; no value of the
-// type has empty arrays, so each function that reads a controller answers that case by itself.
-=======
-// Questions 8 to 14 of document 01, on every table. Past the last controller the definitions read zeros; no value of the
 // type has empty arrays, so each function that reads a controller answers that case by itself. A function that indexes an
 // array of the table copies it, so a handover and a report have the controllers read in one function.
->>>>>>> theirs
 ghost use mathlib.Core.Path.{_≡_};
 ghost use mathlib.Core.Bool.{_&&_};
 ghost use mathlib.Core.List.{[]};
