@@ -4,7 +4,7 @@ use mathlib.Core.Bool.{cond}
 use mathlib.Core.List.{List, [], _∷_, _++_}
 use lib.ListN.{length, drop}
 use lib.IntN.{ℤ, pos, negsuc}
-use lib.Dec.{eqb, ltb}
+use lib.Dec.{eqb}
 use Rattle.lists.specs.Build.{overlay}
 use Rattle.model.specs.Tables.{fresh, zeroTable}
 use Rattle.model.specs.Events.{subject, panelOf}
@@ -18,13 +18,15 @@ use Rattle.model.specs.declared.RunAnswer.{RunAnswer}
 
 -- THE LISTING
 
--- a number in decimal, without leading zeros; f is any number above it
+-- the digits of a number, none of 0; f is any number that is not less
 unfoldable pub digits : ℕ → ℕ → List ℕ
 digits zero x = []
-digits (suc f) x = cond (ltb x 10) ((48 + x) ∷ []) (digits f (x / 10) ++ ((48 + x % 10) ∷ []))
+digits (suc f) zero = []
+digits (suc f) (suc x) = digits f (suc x / 10) ++ ((48 + suc x % 10) ∷ [])
 
+-- a number in decimal, without leading zeros
 unfoldable pub decimal : ℕ → List ℕ
-decimal x = digits (suc x) x
+decimal x = digits x (x / 10) ++ ((48 + x % 10) ∷ [])
 
 -- with a minus sign, byte 45, before a negative number
 unfoldable pub signed : ℤ → List ℕ
