@@ -1,12 +1,8 @@
 -- A number in decimal: what holds of its digits goes by the number without its last digit, and a number below a power of ten
 -- has no more digits than the power. Assumes nothing.
-<<<<<<< ours
-use mathlib.Core.Path.{_≡_, refl, ap}
-=======
 use mathlib.Core.Path.{_≡_, refl}
->>>>>>> theirs
 use mathlib.Core.List.{List, [], _∷_, _++_}
-use Prim.Native.Nat.{ℕ, zero, suc, _+_, _*_, _/_, _%_, _^_, _≤_, _<_}
+use Prim.Native.Nat.{ℕ, zero, suc, _+_, _/_, _%_, _^_, _≤_, _<_}
 use native.Mathlib.Omega.{arith}
 use native.Mathlib.Decide.{decLt}
 use lib.ListN.{length, length-append}
