@@ -2,6 +2,7 @@ pub mod Accepted
 pub mod Forwarding
 pub mod Applying
 pub mod Subjects
+pub mod Reading
 pub mod Asking
 pub mod Stepping
 pub mod HandingOver

@@ -69,16 +69,16 @@ stored-else t (Send c p) x (inr q) f = absurd (omega arith)
 stored-else t (Handover r o) x q f = rw f refl
 stored-else t (Stop c k) x q f = rw f refl
 
--- the same, of an event that is known as b, whose subject is known as k
-pub stored-as-send : (t : Table) (e b : Event) (k c : ℕ) (p : Payload) (x : Controller) (m : Message) → e ≡ b → k ≡ subject e → e ≡ Send c p → x ≡ after t (Send c p)
+-- the same, of an event e that is known as b, whose subject has the index i
+pub stored-as-send : (t : Table) (e b : Event) (i c : ℕ) (p : Payload) (x : Controller) (m : Message) → e ≡ b → i ≡ subject e - 1 → e ≡ Send c p → x ≡ after t (Send c p)
     → m ≡ messageOf c (messageNumber (x .length)) p
-    → _≡_ {A = Table} (record { n = t .n; count = t .count + 1; messages = set (t .messages) (t .count) m; controllers = set (t .controllers) (k - 1) x }) (next t b)
+    → _≡_ {A = Table} (record { n = t .n; count = t .count + 1; messages = set (t .messages) (t .count) m; controllers = set (t .controllers) i x }) (next t b)
 unfolding subject
-stored-as-send t e b k c p x m q ek es ex em = rw (← q, ek, es) (stored-send t c p x ex m em)
+stored-as-send t e b i c p x m q ei es ex em = rw (← q, ei, es) (stored-send t c p x ex m em)
 
-pub stored-as-else : (t : Table) (e b : Event) (k : ℕ) (x : Controller) → e ≡ b → k ≡ subject e → (tagOf event.the-type e ≡ 1) ⊎ (tagOf event.the-type e ≡ 2) → x ≡ after t e
-    → _≡_ {A = Table} (record { n = t .n; count = t .count; messages = t .messages; controllers = set (t .controllers) (k - 1) x }) (next t b)
-stored-as-else t e b k x q ek kind ex = rw (← q, ek) (stored-else t e x kind ex)
+pub stored-as-else : (t : Table) (e b : Event) (i : ℕ) (x : Controller) → e ≡ b → i ≡ subject e - 1 → (tagOf event.the-type e ≡ 1) ⊎ (tagOf event.the-type e ≡ 2) → x ≡ after t e
+    → _≡_ {A = Table} (record { n = t .n; count = t .count; messages = t .messages; controllers = set (t .controllers) i x }) (next t b)
+stored-as-else t e b i x q ei kind ex = rw (← q, ei) (stored-else t e x kind ex)
 
 -- THE LINE
 

@@ -75,29 +75,27 @@ module _ (c : Cursor) (t : Table) (s l w : List ℕ) (b : Before c t s l) where
 
   -- a refusal, by the record's questions or by question 16
   turn-ended : (k : ℕ) → verdict so-far s (length w) (length l) ≡ k → k ≢ 0 → (x : Cursor) → x ≡ ended c k
-      → (e : Event) → e ≡ decode s → (y : Controller) (v : List ℕ) → v ≡ scratchAfter (step t s (length w) .answer .number) w
-      → Turned c t s l w (record { cursor = x; used = length s; event = e; controller = y }) l v
+      → (y : Controller) (v : List ℕ) → v ≡ scratchAfter (step t s (length w) .answer .number) w
+      → Turned c t s l w (record { cursor = x; used = length s; controller = y }) l v
   unfolding turned progressOf ended overlay
-  turn-ended k ek n x ex e ee y v ev =
+  turn-ended k ek n x ex y v ev =
       let q = advance-ended so-far s (length w) (length l) (λ z. n (sym ek ∙ z)) in
       record {
         number = rw (ex, q) (sym ek);
         events = rw (ex, q) refl;
         written = rw (ex, q) (sym lines-length);
         used = rw q (sym (rw ek (cond-false _ _ (ne-eqb k 0 n))));
-        event = ee;
         leaves = λ z. absurd (n (sym ek ∙ (sym (ap (λ (g : Progress). g .number) q) ∙ z)));
         listed = rw q (sym (rw lines-length (take-append-drop (c .written) l)));
         clear = ev;
       }
 
-  pub turn-refused : (k : ℕ) → k ≡ firstNo (stepQuestions t s (length w)) → k ≢ 0 → (x : Cursor) → x ≡ ended c k
-      → (e : Event) → e ≡ decode s → (y : Controller)
-      → Turned c t s l w (record { cursor = x; used = length s; event = e; controller = y }) l w
+  pub turn-refused : (k : ℕ) → k ≡ firstNo (stepQuestions t s (length w)) → k ≢ 0 → (x : Cursor) → x ≡ ended c k → (y : Controller)
+      → Turned c t s l w (record { cursor = x; used = length s; controller = y }) l w
   unfolding scratchAfter
-  turn-refused k e n x ex ev ee y =
+  turn-refused k e n x ex y =
       let said = step-number t s (length w) ∙ sym e in
-      turn-ended k (verdict-refused (λ z. n (sym said ∙ z)) ∙ said) n x ex ev ee y w (sym (rw said (cond-false _ _ (ne-eqb k 0 n))))
+      turn-ended k (verdict-refused (λ z. n (sym said ∙ z)) ∙ said) n x ex y w (sym (rw said (cond-false _ _ (ne-eqb k 0 n))))
 
   module _ (z : Sized t) (passed : firstNo (stepQuestions t s (length w)) ≡ 0) (d : Effect) (v : List ℕ) (a : Effected t (decode s) w d v) where
     number-said : step t s (length w) .answer .number ≡ 0
@@ -139,13 +137,13 @@ module _ (c : Cursor) (t : Table) (s l w : List ℕ) (b : Before c t s l) where
       verdict-put = verdict-accepted number-said ∙ sym put-number
 
       pub turn-full : q .number ≢ 0 → (y : Cursor) → y ≡ ended c (q .number) → (g : Controller)
-          → Turned c t s l w (record { cursor = y; used = length s; event = e; controller = g }) (putMid (c .written) space l m) v
+          → Turned c t s l w (record { cursor = y; used = length s; controller = g }) (putMid (c .written) space l m) v
       unfolding tailAfter
       turn-full n y ey g =
           let out : leb (length x) (length (drop (c .written) l)) ≡ false = rw (length-drop (c .written) l) (unfit (length x) space (λ o. n (put-number ∙ o))) in
           let same : m ≡ midOf (c .written) space l = wrote .tail ∙ cond-false _ _ out ∙ sym mid-is in
           let kept = ap (putMid (c .written) space l) same ∙ put-same (c .written) space l in
-          rw kept (turn-ended (q .number) verdict-put n y ey e ee g v scratch-said)
+          rw kept (turn-ended (q .number) verdict-put n y ey g v scratch-said)
 
       module _ (n : q .number ≡ 0) where
         fits : leb (length x) (length (drop (c .written) l)) ≡ true
@@ -163,7 +161,7 @@ module _ (c : Cursor) (t : Table) (s l w : List ℕ) (b : Before c t s l) where
             ap (λ (r : List ℕ). xs ++ r) (drop-of-length-le (drop (c .written) l) {i = space} (omega (arith, length-drop (c .written) l))) ∙ append-nil xs
 
         pub turn-listed : (u : ℕ) → u ≡ size s + 1 → (g : Controller) → g ≡ d .controller
-            → Turned c t s l w (record { cursor = record { number = 0; events = c .events + 1; written = c .written + q .written }; used = u; event = e; controller = g })
+            → Turned c t s l w (record { cursor = record { number = 0; events = c .events + 1; written = c .written + q .written }; used = u; controller = g })
             (putMid (c .written) space l m) v
         unfolding turned tailAfter progressOf
         turn-listed u eu g eg =
@@ -173,8 +171,7 @@ module _ (c : Cursor) (t : Table) (s l w : List ℕ) (b : Before c t s l) where
               events = rw on refl;
               written = rw on (omega (arith, put-written, lines-length, length-append (take (c .written) l) x));
               used = rw on eu;
-              event = ee;
-              leaves = λ _. rw eg leaves;
+                    leaves = λ _. rw eg leaves;
               listed = rw on
                   (ap (λ (r : List ℕ). take (c .written) l ++ r) (none-behind m ∙ wrote .tail ∙ cond-true _ _ fits)
                   ∙ overlay-behind (c .written) x l (b .within));

@@ -1,4 +1,5 @@
 pub mod Conditions
+pub mod Reading
 pub mod Asking
 pub mod Applying
 pub mod Effects

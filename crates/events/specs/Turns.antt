@@ -38,7 +38,6 @@ pub record Turned (c : Cursor) (t : Table) (s l w : List ℕ) (answer : Advance)
   pub events : answer .cursor .events ≡ turned c t s l (length w) .events
   pub written : answer .cursor .written ≡ length (turned c t s l (length w) .lines)
   pub used : answer .used ≡ cond (eqb (turned c t s l (length w) .number) 0) (size s + 1) (length s)
-  pub event : answer .event ≡ decode s
   pub leaves : turned c t s l (length w) .number ≡ 0 → Leaves t (decode s) (answer .controller)
   pub listed : listing ≡ overlay (turned c t s l (length w) .lines) l
   pub clear : scratch ≡ scratchAfter (step t s (length w) .answer .number) w

@@ -3,11 +3,12 @@ ghost use mathlib.Core.Path.{_≡_};
 ghost use mathlib.Core.Bool.{true, cond};
 ghost use Prim.Native.Nat.{_+_, _≤_, _<_};
 ghost use lib.ListN.{length};
-ghost use Rattle.model.specs.Tables.{scratchSize, noPanel, at, unheld, withEntry, withMark, withStop};
-ghost use Rattle.model.specs.Events.{sent, forward, received, deliver, subject, next, shown};
+ghost use Rattle.model.specs.Tables.{scratchSize, noPanel, unheld, withEntry, withMark, withStop};
+ghost use Rattle.model.specs.Events.{forward, deliver, subject, next, shown};
 ghost use Rattle.model.specs.WellFormed.{wellFormed};
-ghost use Rattle.model.specs.declared.Event.the-variants.{Send, Handover, Stop};
+ghost use Rattle.model.specs.declared.Event.the-variants.{Handover};
 ghost use Rattle.events.specs.Conditions.{Accepted, Receivable, OfRun};
+ghost use Rattle.events.specs.Reading.{ownerOf, seatOf, partiesOf, Allowed, taken, Reading};
 ghost use Rattle.events.specs.Applying.{withApplied};
 ghost use Rattle.events.specs.Effects.{Leaves, Effected, noSet};
 use model::Answer;
@@ -21,13 +22,57 @@ use model::Panel;
 use model::Pending;
 use model::Table;
 
-// The controller of that number, from 1.
-pub(crate) fn at(t: Table, controller: u8) -> Controller
-    requires { ⌜ (0 < controller) × (controller ≤ 7) ⌝ }
-    ensures { λ r. ⌜ r ≡ at t controller ⌝ }
-{
-    t.controllers[controller as usize - 1]
+// THE CONTROLLERS
+
+// The controllers that an event reads: its subject, and the one whose log a handover reads. An event of another kind has its
+// subject for both.
+pub(crate) struct Parties {
+    pub(crate) subject: Controller,
+    pub(crate) owner: Controller,
 }
+
+// The controller that an event changes.
+pub(crate) fn subject(e: Event) -> u8
+    ensures { λ r. ⌜ r ≡ subject e ⌝ }
+{
+    match e {
+        Event::Send { sender, payload } => sender,
+        Event::Handover { receiver, owner } => receiver,
+        Event::Stop { controller, kept } => controller,
+    }
+}
+
+pub(crate) fn owner(e: Event) -> u8
+    ensures { λ r. ⌜ r ≡ ownerOf e ⌝ }
+{
+    match e {
+        Event::Send { sender, payload } => sender,
+        Event::Handover { receiver, owner } => owner,
+        Event::Stop { controller, kept } => controller,
+    }
+}
+
+// The index of a controller, and of some controller where there is none of that number.
+pub(crate) fn seat(controller: u8) -> usize
+    ensures { λ r. ⌜ r ≡ seatOf controller ⌝ }
+{
+    numbers::at_most(numbers::index(controller as usize), Table::CONTROLLERS - 1)
+}
+
+// Both, out of a table.
+pub(crate) fn both(t: Table, e: Event) -> Parties
+    requires { ⌜ Accepted t e ⌝ }
+    ensures { λ r. ⌜ r ≡ partiesOf t e ⌝ }
+{
+    let i = seat(subject(e));
+    let j = seat(owner(e));
+    Parties {
+        subject: t.controllers[i],
+        owner: t.controllers[j],
+    }
+}
+
+// WHAT EACH KIND DOES
 
 // One entry more at the end of a log.
 fn with_entry(c: Controller, slot: usize) -> Controller
@@ -73,25 +118,23 @@ fn buffered(c: Controller, slot: usize, owner: u8, place: usize) -> Controller
     with_mark(longer, slot, [absent; 7], owner, place)
 }
 
-// The sender with a message more, of the next slot: buffered with its own mark, and at the end of its log.
-fn sent(t: Table, sender: u8) -> Controller
-    requires { ⌜ (0 < sender) × (sender ≤ 7) × (t .count < 64) × (at t sender .length < 64) ⌝ }
-    ensures { λ r. ⌜ r ≡ sent t sender ⌝ }
+// The sender with a message more, of this slot: buffered with its own mark, and at the end of its log.
+fn sent(c: Controller, slot: usize, sender: u8) -> Controller
+    requires { ⌜ (c .length < 64) × (slot < 64) × (0 < sender) × (sender ≤ 7) ⌝ }
+    ensures { λ r. ⌜ r ≡ withMark (withEntry c slot) slot (unheld .marks) sender (c .length + 1) ⌝ }
 {
-    let c = at(t, sender);
     let place = c.length + 1;
-    buffered(c, t.count, sender, place)
+    buffered(c, slot, sender, place)
 }
 
 // The controller runs no longer, and its log has the entries kept.
-fn stopped(t: Table, controller: u8, kept: usize) -> Controller
-    requires { ⌜ (0 < controller) × (controller ≤ 7) ⌝ }
-    ensures { λ r. ⌜ r ≡ withStop (at t controller) kept ⌝ }
+fn stopped(c: Controller, kept: usize) -> Controller
+    ensures { λ r. ⌜ r ≡ withStop c kept ⌝ }
 {
-    let mut c = at(t, controller);
-    c.running = 0;
-    c.length = kept;
-    c
+    let mut next = c;
+    next.running = 0;
+    next.length = kept;
+    next
 }
 
 // An entry of the owner's log is passed over, marked, or buffered and forwarded.
@@ -113,18 +156,17 @@ fn forwarded(c: Controller, m: Message, slot: usize, owner: u8, place: usize) ->
 }
 
 // The receiver after it has read the next entry of the owner's log, and before it applies.
-fn received(t: Table, receiver: u8, owner: u8) -> Controller
-    requires { ⌜ Accepted t (Handover receiver owner) ⌝ }
-    ensures { λ r. ⌜ r ≡ received t receiver owner ⌝ }
+fn received(t: Table, x: Controller, y: Controller, owner: u8) -> Controller
+    requires { ⌜ Reading t x y owner ⌝ }
+    ensures { λ r. ⌜ r ≡ taken t x y owner ⌝ }
 {
-    let seat = receiver as usize - 1;
     let index = owner as usize - 1;
-    let source = t.controllers[index];
-    let mut c = t.controllers[seat];
+    let mut c = x;
     let place = c.read[index];
     c.read[index] = place + 1;
-    let slot = source.log[place] as usize;
-    let m = t.messages[slot];
+    let slot = y.log[place] as usize;
+    let messages = t.messages;
+    let m = messages[slot];
     forwarded(c, m, slot, owner, place + 1)
 }
 
@@ -208,11 +250,18 @@ fn sync_answer(t: Table, c: Controller, finished: bool) -> Panel
 }
 
 // An entry is read; a set that is not empty is named and applied.
-fn hand_over(t: Table, receiver: u8, owner: u8, scratch: &mut [u8]) -> Effect
-    requires { ⌜ Accepted t (Handover receiver owner) × (scratchSize ≤ length (now scratch)) ⌝ }
+fn hand_over(
+    t: Table,
+    x: Controller,
+    y: Controller,
+    receiver: u8,
+    owner: u8,
+    scratch: &mut [u8],
+) -> Effect
+    requires { ⌜ Allowed t (Handover receiver owner) x y × (scratchSize ≤ length (now scratch)) ⌝ }
     ensures { λ r. ⌜ Effected t (Handover receiver owner) (now (scratch .entry)) r (now (scratch .exit)) ⌝ }
 {
-    let c = received(t, receiver, owner);
+    let c = received(t, x, y, owner);
     let pending = c.pending;
     let members = delivery::apply(t.n, pending, scratch);
     let messages = t.messages;
@@ -240,41 +289,39 @@ fn hand_over(t: Table, receiver: u8, owner: u8, scratch: &mut [u8]) -> Effect
     }
 }
 
-pub(crate) fn carry_out(t: Table, e: Event, scratch: &mut [u8]) -> Effect
-    requires { ⌜ Accepted t e × (scratchSize ≤ length (now scratch)) ⌝ }
+// What an event does whose subject is x, and which reads the log of y.
+pub(crate) fn carry_out(
+    t: Table,
+    x: Controller,
+    y: Controller,
+    e: Event,
+    scratch: &mut [u8],
+) -> Effect
+    requires { ⌜ Allowed t e x y × (scratchSize ≤ length (now scratch)) ⌝ }
     ensures { λ r. ⌜ Effected t e (now (scratch .entry)) r (now (scratch .exit)) ⌝ }
 {
     match e {
         Event::Send { sender, payload } => {
+            let after = sent(x, t.count, sender);
             delivery::clear(scratch);
             Effect {
                 answer: no_set(0),
-                controller: sent(t, sender),
+                controller: after,
             }
         }
-        Event::Handover { receiver, owner } => hand_over(t, receiver, owner, scratch),
+        Event::Handover { receiver, owner } => hand_over(t, x, y, receiver, owner, scratch),
         Event::Stop { controller, kept } => {
+            let after = stopped(x, kept);
             delivery::clear(scratch);
             Effect {
                 answer: no_set(0),
-                controller: stopped(t, controller, kept),
+                controller: after,
             }
         }
     }
 }
 
 // THE TABLE
-
-// The controller that an event changes.
-pub(crate) fn subject(e: Event) -> u8
-    ensures { λ r. ⌜ r ≡ subject e ⌝ }
-{
-    match e {
-        Event::Send { sender, payload } => sender,
-        Event::Handover { receiver, owner } => receiver,
-        Event::Stop { controller, kept } => controller,
-    }
-}
 
 // The table after an event that leaves its subject so: a send adds its message.
 pub(crate) fn stored(t: Table, e: Event, c: Controller) -> Table

@@ -8,6 +8,7 @@ ghost use Rattle.model.specs.WellFormed.{wellFormed};
 ghost use Rattle.model.specs.Questions.{firstNo, fileQuestions};
 ghost use Rattle.model.specs.Runs.{lineOf};
 ghost use Rattle.listing.specs.Writing.{Wrote};
+ghost use Rattle.events.specs.Reading.{Found};
 ghost use Rattle.events.specs.Turns.{ended, Before, Turned, Ran};
 ghost use Rattle.events.specs.Stepped.{Runs};
 use crate::effects;
@@ -20,6 +21,7 @@ use model::MessageNumber;
 use model::RunAnswer;
 use model::Table;
 use model::refusal;
+use records::Record;
 
 // How far a run has come: the refusal number, the events accepted and the bytes listed.
 struct Cursor {
@@ -28,12 +30,11 @@ struct Cursor {
     written: usize,
 }
 
-// How far it comes with a record; how many bytes it then has read, all of them where a refusal ends it; the record's event, and
-// the controller that the event changed.
+// How far it comes with a record; how many bytes it then has read, all of them where a refusal ends it; and the controller that
+// the record's event changed.
 struct Advance {
     cursor: Cursor,
     used: usize,
-    event: Event,
     controller: Controller,
 }
 
@@ -66,24 +67,32 @@ fn ended(cursor: Cursor, number: u8) -> Cursor
     }
 }
 
-// Carries out the record that the bytes left begin with, and lists it; a refusal ends the run.
-fn turn(cursor: Cursor, t: Table, left: &[u8], listing: &mut [u8], scratch: &mut [u8]) -> Advance
-    requires { ⌜ Before cursor t (now left) (now listing) ⌝ }
+// Carries out the record that was read off the bytes left, and lists it; a refusal ends the run. Its event's subject is x, and it
+// reads the log of y.
+fn turn(
+    cursor: Cursor,
+    t: Table,
+    x: Controller,
+    y: Controller,
+    found: Record,
+    left: &[u8],
+    listing: &mut [u8],
+    scratch: &mut [u8],
+) -> Advance
+    requires { ⌜ Before cursor t (now left) (now listing) × Found t found (now left) x y ⌝ }
     ensures { λ r. ⌜ Turned cursor t (now (left .entry)) (now (listing .entry)) (now (scratch .entry)) r (now (listing .exit)) (now (scratch .exit)) ⌝ }
 {
     let start = cursor.written;
-    let found = records::read_record(left);
     let event = found.event;
     let number = crate::refusal_of(t, found, scratch.len());
     if number != 0 {
         return Advance {
             cursor: ended(cursor, number),
             used: left.len(),
-            event,
-            controller: effects::at(t, 1),
+            controller: x,
         };
     }
-    let done = effects::carry_out(t, event, scratch);
+    let done = effects::carry_out(t, x, y, event, scratch);
     let controller = done.controller;
     let put = list_line(&mut listing[start..], cursor.events + 1, event, t, done);
     let full = put.number;
@@ -91,7 +100,6 @@ fn turn(cursor: Cursor, t: Table, left: &[u8], listing: &mut [u8], scratch: &mut
         return Advance {
             cursor: ended(cursor, full),
             used: left.len(),
-            event,
             controller,
         };
     }
@@ -102,19 +110,18 @@ fn turn(cursor: Cursor, t: Table, left: &[u8], listing: &mut [u8], scratch: &mut
             written: start + put.written,
         },
         used: found.used,
-        event,
         controller,
     }
 }
 
-// Carries out the records of a file, from its third byte on, until the first refusal. Each event's changes are stored in
-// place: the table of a run is not copied from record to record.
+// Carries out the records of a file, from its third byte on, until the first refusal. The table of a run is not copied from record
+// to record: what an event reads is taken out of it, and its changes are stored in place.
 fn run_records(bytes: &[u8], listing: &mut [u8], scratch: &mut [u8]) -> RunAnswer
     requires { ⌜ firstNo (fileQuestions (now bytes)) ≡ 0 ⌝ }
     ensures { λ r. ⌜ Ran (now (bytes .entry)) (now (listing .entry)) (now (scratch .entry)) r (now (listing .exit)) (now (scratch .exit)) ⌝ }
 {
     let n = records::byte_at(bytes, 1) as usize;
-    let mut table = Table::fresh(n);
+    let mut table = Table::opened(refusal::ACCEPTED, n);
     let mut left = records::behind(bytes, 2);
     let mut cursor = Cursor {
         number: refusal::ACCEPTED,
@@ -122,7 +129,13 @@ fn run_records(bytes: &[u8], listing: &mut [u8], scratch: &mut [u8]) -> RunAnswe
         written: 0,
     };
     while 0 < left.len() {
-        let done = turn(cursor, table, left, listing, scratch);
+        let found = records::read_record(left);
+        let e = found.event;
+        let i = effects::seat(effects::subject(e));
+        let j = effects::seat(effects::owner(e));
+        let x = table.controllers[i];
+        let y = table.controllers[j];
+        let done = turn(cursor, table, x, y, found, left, listing, scratch);
         cursor = done.cursor;
         let next = records::behind(left, done.used);
         left = next;
@@ -130,10 +143,8 @@ fn run_records(bytes: &[u8], listing: &mut [u8], scratch: &mut [u8]) -> RunAnswe
         if verdict != 0 {
             continue;
         }
-        let e = done.event;
         let c = done.controller;
-        let seat = effects::subject(e) as usize - 1;
-        table.controllers[seat] = c;
+        table.controllers[i] = c;
         let Event::Send { sender, payload } = e else {
             continue;
         };
@@ -179,7 +190,7 @@ pub fn run(bytes: &[u8], listing: &mut [u8], scratch: &mut [u8]) -> RunAnswer
             number,
             events: 0,
             written: 0,
-            table: Table::zero(),
+            table: Table::opened(number, 0),
         };
     }
     run_records(bytes, listing, scratch)

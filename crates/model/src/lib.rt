@@ -1,5 +1,7 @@
 // The table of all controllers, its limits, its constructors and what an amount may be. What each function answers is a definition of specs/.
 ghost use mathlib.Core.Path.{_≡_};
+ghost use mathlib.Core.Bool.{cond};
+ghost use lib.Dec.{eqb};
 ghost use Rattle.model.specs.WellFormed.{fairMagnitude, fairAmount};
 ghost use Rattle.model.specs.Tables.{report, sync, messageOf, forwardNumber, messageNumber, start, fresh, zeroTable};
 
@@ -248,5 +250,15 @@ impl Table {
         ensures { λ r. ⌜ r ≡ zeroTable ⌝ }
     {
         Table::start(0, 0, 0)
+    }
+
+    // The table that a run begins with: fresh, or zero in every field where its file is refused.
+    pub fn opened(number: u8, n: usize) -> Table
+        ensures { λ r. ⌜ r ≡ cond (eqb number 0) (fresh n) zeroTable ⌝ }
+    {
+        if number != 0 {
+            return Table::start(0, 0, 0);
+        }
+        Table::start(n, 1, ForwardNumber::ABSENT)
     }
 }

@@ -6,6 +6,8 @@ ghost use mathlib.Core.Bool.{_&&_};
 ghost use mathlib.Core.List.{[]};
 ghost use Prim.Native.Nat.{_<_};
 ghost use lib.Dec.{leb, ltb};
+ghost use lib.ListN.{getD};
+ghost use Rattle.model.specs.Tables.{noController};
 ghost use Rattle.model.specs.Parts.{whole};
 ghost use Rattle.model.specs.Questions.{firstNo, eventQuestions};
 ghost use Rattle.model.specs.declared.Event.the-variants.{Send, Handover, Stop};
@@ -121,6 +123,13 @@ fn none_past(n: usize, controllers: [Controller; 7], o: usize, k: usize) -> bool
     true
 }
 
+fn pick(controllers: [Controller; 7], i: usize) -> Controller
+    requires { ⌜ i < 7 ⌝ }
+    ensures { λ r. ⌜ r ≡ getD controllers i noController ⌝ }
+{
+    controllers[i]
+}
+
 fn stop_refusal(n: usize, controllers: [Controller; 7], controller: u8, kept: usize) -> u8
     ensures { λ r. ⌜ r ≡ firstNo (eventQuestions (whole n 0 [] controllers) (Stop controller kept)) ⌝ }
 {
@@ -131,11 +140,12 @@ fn stop_refusal(n: usize, controllers: [Controller; 7], controller: u8, kept: us
     if Table::CONTROLLERS <= i {
         return refusal::STOPPED;
     }
-    let flag = controllers[i].running;
+    let x = pick(controllers, i);
+    let flag = x.running;
     if flag == 0 {
         return refusal::STOPPED;
     }
-    let length = controllers[i].length;
+    let length = x.length;
     if length < kept {
         return refusal::KEPT;
     }

@@ -15,22 +15,27 @@ use Rattle.questions.proofs.Controllers.{flagged, stopped-past, kept-mo
 use Rattle.questions.proofs.stop_refusal.Statement.{statement}
 use Rattle.questions.proofs.stop_refusal.Tie as tie
 
--- from behind question 8 to the entry, from behind 10 to 8, and from behind the test of the positions to 10
+-- from behind question 8 to the entry, from behind 10 to the controller picked and to 8, and from behind the test of the positions to 10
 abbrev entered : tie.Else1 → tie.Start
 entered c = c .before .before
 
 abbrev known : tie.Else3 → tie.Else1
-known c = c .before .before
+known c = c .before .before .before
 
 abbrev runs : tie.After-none-past → tie.Else3
 runs c = c .before .before
 
 -- the table that the questions are put to
 abbrev asked : tie.Else1 → Table
-asked c = whole (entered c .args .n) 0 [] (entered c .args .t2)
+asked c = whole (entered c .args .n) 0 [] (entered c .args .controllers)
 
-long : (c : tie.Else1) → length (entered c .args .t2) ≡ seats
+long : (c : tie.Else1) → length (entered c .args .controllers) ≡ seats
 long c = entered c .good .1 .0 .1 .0 .1
+
+-- the controller that is to stop
+picked : (c : tie.After-pick) → c .pick .result ≡ at (asked (c .before .before)) (entered (c .before .before) .args .controller)
+unfolding at
+picked c = c .pick .ensures
 
 -- WHAT WAS ANSWERED YES
 
@@ -39,16 +44,14 @@ unfolding named
 controller-named c = seen-yes (c .before .named .ensures) (c .if1 .left)
 
 controller-runs : (c : tie.Else3) → yes? (at (asked (known c)) (entered (known c) .args .controller) .running) ≡ true
-unfolding at
-controller-runs c = flagged (c .if3 .left)
+controller-runs c = rw (← picked (c .before)) (flagged (c .if3 .left))
 
 -- the answer to question 14
 kept-found : (c : tie.After-none-past) → let k = known (runs c) in
     c .none-past .result ≡ keepable (asked k) (entered k .args .controller) (entered k .args .kept)
-unfolding at
 kept-found c =
     let k = known (runs c) in
-    c .none-past .ensures ∙ kept (asked k) (entered k .args .controller) _ (c .before .if4 .left)
+    c .none-past .ensures ∙ kept (asked k) (entered k .args .controller) _ (rw (← picked (runs c .before)) (c .before .if4 .left))
 
 -- NEEDS
 
@@ -66,28 +69,19 @@ returns-2 : tie.Need-returns-2
 unfolding eventQuestions
 returns-2 c = answered _ _ (controller-named (c .before)) (refused _ _ (stopped-past (asked (c .before)) (long (c .before)) _ (c .if2 .taken)))
 
-mul-flag : tie.Need-mul-flag
-mul-flag c = search needs
-
-element-copy-out-flag : tie.Need-element-copy-out-flag
-element-copy-out-flag c = search needs
+pick-requires : tie.Need-pick-requires
+pick-requires c κs = search needs
 
 returns-3 : tie.Need-returns-3
-unfolding eventQuestions at
-returns-3 c = answered _ _ (controller-named (c .before .before)) (refused _ _ (rw (c .if3 .taken)))
-
-mul-length : tie.Need-mul-length
-mul-length c = search needs
-
-element-copy-out-length : tie.Need-element-copy-out-length
-element-copy-out-length c = search needs
+unfolding eventQuestions
+returns-3 c = answered _ _ (controller-named (c .before .before .before)) (refused _ _ (rw (← picked (c .before), c .if3 .taken)))
 
 returns-4 : tie.Need-returns-4
-unfolding eventQuestions at
+unfolding eventQuestions
 returns-4 c =
     let k = known (c .before) in
     answered _ _ (controller-named k)
-    (answered _ _ (controller-runs (c .before)) (refused _ _ (kept-more (asked k) (entered k .args .controller) _ (c .if4 .taken))))
+    (answered _ _ (controller-runs (c .before)) (refused _ _ (kept-more (asked k) (entered k .args .controller) _ (rw (← picked (c .before .before)) (c .if4 .taken)))))
 
 none-past-requires : tie.Need-none-past-requires
 none-past-requires c κs = search needs
@@ -112,11 +106,8 @@ stop-refusal-spec =
     returns
     sub-i
     returns-2
-    mul-flag
-    element-copy-out-flag
+    pick-requires
     returns-3
-    mul-length
-    element-copy-out-length
     returns-4
     none-past-requires
     returns-5

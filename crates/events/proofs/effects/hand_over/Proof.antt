@@ -1,5 +1,5 @@
 -- `hand_over` reads an entry, and names and applies the largest set. Assumes nothing.
-use mathlib.Core.Path.{_≡_, sym, subst}
+use mathlib.Core.Path.{_≡_, sym, subst, _∙_}
 use borrow.Author.Needs.{needs}
 use Rattle.model.specs.Tables.{seats}
 use Rattle.model.specs.Events.{received, handoverSet}
@@ -11,6 +11,7 @@ use Rattle.invariant.proofs.Stores.{at-sized}
 use Rattle.invariant.proofs.Sizes.{received-sized}
 use Rattle.events.specs.Conditions.{OfRun}
 use Rattle.events.proofs.Accepted.{handable, handed-of-run}
+use Rattle.events.proofs.Reading.{taken-received}
 use Rattle.events.proofs.HandingOver.{set-applied, scratch-cleared, none-counted, handed-effect, handed-none}
 use Rattle.events.proofs.effects.hand_over.Statement.{statement}
 use Rattle.events.proofs.effects.hand_over.Tie as tie
@@ -36,11 +37,11 @@ sized : (s : tie.Start) → Sized (s .args .t)
 sized s = table-sized (s .args .t) _ (s .good .0)
 
 receiver : (s : tie.Start) → Among seats (s .args .receiver)
-receiver s = handable _ _ _ (s .pre .0) .receiver
+receiver s = handable _ _ _ (s .pre .0 .accepted) .receiver
 
 -- the entry is read, and the set is the definition's, of messages of the run
 entry-read : (c : tie.After-received) → c .received .result ≡ received (start c .args .t) (start c .args .receiver) (start c .args .owner)
-entry-read c = c .received .ensures
+entry-read c = c .received .ensures ∙ taken-received _ _ _ _ _ (start c .pre .0)
 
 reader-sized : (c : tie.After-received) → SizedController (c .received .result)
 reader-sized c =
@@ -50,10 +51,10 @@ set-is : (c : tie.After-apply) → c .apply .result ≡ handoverSet (start (read
 set-is c = set-applied _ _ _ _ (entry-read (read c)) _ _ _ (start (read c) .pre .1) (c .apply .ensures)
 
 set-of-run : (c : tie.After-apply) → OfRun (start (read c) .args .t) (c .apply .result)
-set-of-run c = subst (OfRun (start (read c) .args .t)) (sym (set-is c)) (handed-of-run _ _ _ (sized (start (read c))) (start (read c) .pre .0))
+set-of-run c = subst (OfRun (start (read c) .args .t)) (sym (set-is c)) (handed-of-run _ _ _ (sized (start (read c))) (start (read c) .pre .0 .accepted))
 
 received-requires : tie.Need-received-requires
-received-requires c κs = search needs
+received-requires c κs = record { receiver = c .before .args .receiver; allowed = c .before .pre .0 }
 
 apply-requires : tie.Need-apply-requires
 apply-requires c κs = search needs
@@ -73,7 +74,7 @@ returns c =
     let d = ruled n in
     let s = start (read d) in
     record {
-      effect = handed-none _ _ _ (sized s) (receiver s) _ (entry-read (read d)) _ (set-is d) (reader-sized (read d)) (facts _ (s .pre .0 .0) .counted) (set-of-run d) (none-counted _ _ _ (n .names-of .ensures) (c .before .if1 .taken)) _ (c .no-set .ensures);
+      effect = handed-none _ _ _ (sized s) (receiver s) _ (entry-read (read d)) _ (set-is d) (reader-sized (read d)) (facts _ (s .pre .0 .accepted .0) .counted) (set-of-run d) (none-counted _ _ _ (n .names-of .ensures) (c .before .if1 .taken)) _ (c .no-set .ensures);
       clear = scratch-cleared _ _ (s .pre .1) (d .apply .ensures);
     }
 
@@ -81,7 +82,7 @@ finishes-requires : tie.Need-finishes-requires
 finishes-requires c κs = search needs
 
 delivered-requires : tie.Need-delivered-requires
-delivered-requires c κs = let d = ruled (named c) in (start (read d) .pre .0 .0, set-of-run d)
+delivered-requires c κs = let d = ruled (named c) in (start (read d) .pre .0 .accepted .0, set-of-run d)
 
 sync-answer-requires : tie.Need-sync-answer-requires
 sync-answer-requires c κs = search needs

@@ -1,6 +1,8 @@
 -- `run` refuses a file by questions 1 to 3, or carries out its records. Assumes nothing.
 use mathlib.Core.Path.{sym, _∙_}
 use borrow.Author.Needs.{needs}
+use borrow.Author.Tests.{ne-eqb}
+use Rattle.lists.proofs.Tests.{cond-false}
 use Rattle.events.proofs.Headers.{run-refused, run-ran}
 use Rattle.events.proofs.files.run.Statement.{statement}
 use Rattle.events.proofs.files.run.Tie as tie
@@ -15,11 +17,13 @@ asked c = c .before .before .before
 refusal-of-requires : tie.Need-refusal-of-requires
 refusal-of-requires c κs = search needs
 
-zero-requires : tie.Need-zero-requires
-zero-requires c κs = search needs
+opened-requires : tie.Need-opened-requires
+opened-requires c κs = search needs
 
 returns : tie.Need-returns
-returns c = run-refused _ _ _ _ (c .before .before .refusal-of .ensures) (c .before .if1 .taken) _ (c .zero .ensures)
+returns c =
+    run-refused _ _ _ _ (c .before .before .refusal-of .ensures) (c .before .if1 .taken) _
+    (c .opened .ensures ∙ cond-false _ _ (ne-eqb _ 0 (c .before .if1 .taken)))
 
 run-records-requires : tie.Need-run-records-requires
 run-records-requires c κs = sym (c .before .before .before .refusal-of .ensures) ∙ c .before .before .if1 .left
@@ -36,4 +40,4 @@ returns-2 c =
     run-ran _ _ _ _ (a .before .refusal-of .ensures) (a .if1 .left) _ _ _ (records c .run-records .ensures)
 
 pub run-spec : {M : Type 1} → statement M
-run-spec = tie.close (tie.spec refusal-of-requires zero-requires returns run-records-requires same-length same-length-2 returns-2)
+run-spec = tie.close (tie.spec refusal-of-requires opened-requires returns run-records-requires same-length same-length-2 returns-2)

@@ -1,18 +1,21 @@
 -- `run_records` carries out the records of a file. The loop's invariant is `Running`, and its measure the bytes left.
 -- Assumes nothing.
-use mathlib.Core.Path.{_≡_, refl, sym, subst, _∙_}
-use Prim.Native.Nat.{_<_}
+use mathlib.Core.Path.{_≡_, refl, sym, ap, subst, _∙_}
+use Prim.Native.Nat.{_-_, _<_}
 use native.Mathlib.Omega.{arith}
 use lib.ListN.{length}
 use borrow.Author.Needs.{needs}
 use denote.Ref.{now}
-use Rattle.model.specs.Tables.{seats}
-use Rattle.model.specs.Facts.{Among}
+use Rattle.model.specs.Events.{subject as subjectOf}
+use Rattle.model.specs.Records.{decode}
 use Rattle.model.specs.declared.Event.{Event}
 use Rattle.model.specs.declared.Event.the-variants.{Send}
+use Rattle.events.specs.Reading.{ownerOf, seatOf}
 use Rattle.events.specs.Effects.{Leaves}
 use Rattle.events.proofs.Accepted.{Sendable, sendable}
 use Rattle.events.proofs.Subjects.{subject-seated, sent-length, stored-as-send, stored-as-else}
+use Rattle.events.proofs.Asking.{event-read}
+use Rattle.events.proofs.Reading.{seat-is, seat-low, allowed-at}
 use Rattle.events.proofs.Running.{Running, scratch-size, run-before, run-begins, run-further, run-goes-on, run-ends}
 use Rattle.events.proofs.files.run_records.Statement.{statement}
 use Rattle.events.proofs.files.run_records.Tie as tie
@@ -23,49 +26,81 @@ Inv-loop bytes listing₀ scratch₀ n table₀ left₀ cursor₀ listing scratc
 abbrev μ-loop : tie.MeasureT-loop
 μ-loop bytes listing₀ scratch₀ n table₀ left₀ cursor₀ listing scratch table left cursor = length left
 
--- PLACES: from behind the message to the test of the kind, the subject, the bytes left, the turn and the loop
+-- PLACES: from behind the message to the test of the kind, what was stored, the bytes left and the turn
 abbrev kind : tie.After-of2 Inv-loop μ-loop → tie.After-e Inv-loop μ-loop
 kind c = c .before .before .before .before
 
-abbrev seated : tie.After-e Inv-loop μ-loop → tie.After-subject Inv-loop μ-loop
-seated c = c .before .before
-
-abbrev went-on : tie.After-subject Inv-loop μ-loop → tie.Else1 Inv-loop μ-loop
-went-on c = c .before .before
+abbrev kept : tie.After-e Inv-loop μ-loop → tie.After-c Inv-loop μ-loop
+kept c = c .before .before
 
 abbrev done : tie.After-behind2 Inv-loop μ-loop → tie.After-turn Inv-loop μ-loop
 done c = c .before .before .before .before .before .before
 
-abbrev inside : tie.After-turn Inv-loop μ-loop → tie.In-loop Inv-loop μ-loop
-inside c = c .before .before .before
+abbrev turned : tie.Else1 Inv-loop μ-loop → tie.After-turn Inv-loop μ-loop
+turned c = done (c .before)
+
+-- from the turn to the owner's controller, the index of the owner, that of the subject, the record and the loop
+abbrev both : tie.After-turn-arg2 Inv-loop μ-loop → tie.After-y Inv-loop μ-loop
+both c = c .before .before
+
+abbrev owner : tie.After-y Inv-loop μ-loop → tie.After-seat2 Inv-loop μ-loop
+owner c = c .before .before
+
+abbrev subject : tie.After-seat2 Inv-loop μ-loop → tie.After-seat Inv-loop μ-loop
+subject c = c .before .before
+
+abbrev reader : tie.After-seat Inv-loop μ-loop → tie.After-read-record Inv-loop μ-loop
+reader c = c .before .before
+
+abbrev inside : tie.After-read-record Inv-loop μ-loop → tie.At-loop Inv-loop μ-loop
+inside c = c .before .before
+
+abbrev first : tie.After-turn Inv-loop μ-loop → tie.After-seat Inv-loop μ-loop
+first c = subject (owner (both (c .before)))
+
+abbrev loop : tie.After-turn Inv-loop μ-loop → tie.At-loop Inv-loop μ-loop
+loop c = inside (reader (first c))
+
+abbrev some : tie.After-turn Inv-loop μ-loop → tie.In-loop Inv-loop μ-loop
+some c = reader (first c) .before
 
 -- WHAT HOLDS THERE
 
--- the turn's event, and what it leaves
-leaves : (c : tie.Else1 Inv-loop μ-loop)
-    → let d = done (c .before) in
-    Leaves (inside d .before .loop .table) (d .turn .result .event) (d .turn .result .controller)
-leaves c =
-    let d = done (c .before) in
-    let e = d .turn .ensures in
-    subst (λ (x : Event). Leaves (inside d .before .loop .table) x (d .turn .result .controller)) (sym (e .event)) (e .leaves (sym (e .number) ∙ c .if1 .left))
+-- the record's event, and the indices of its controllers
+event-is : (c : tie.After-read-record Inv-loop μ-loop) → c .read-record .result .event ≡ decode (inside c .loop .left .now)
+event-is c = event-read _ _ (c .read-record .ensures)
 
-seat : (c : tie.After-subject Inv-loop μ-loop) → Among seats (c .subject .result)
-seat c = rw (c .subject .ensures) (subject-seated _ _ (leaves (went-on c) .0))
+subject-at : (c : tie.After-seat Inv-loop μ-loop) → c .seat .result ≡ seatOf (subjectOf (reader c .read-record .result .event))
+subject-at c = c .seat .ensures ∙ ap seatOf (c .before .subject .ensures)
+
+owner-at : (c : tie.After-seat2 Inv-loop μ-loop) → c .seat2 .result ≡ seatOf (ownerOf (reader (subject c) .read-record .result .event))
+owner-at c = c .seat2 .ensures ∙ ap seatOf (c .before .owner .ensures)
+
+-- what the turn leaves of the subject, and the subject's index
+leaves : (c : tie.Else1 Inv-loop μ-loop)
+    → let d = turned c in
+    Leaves (loop d .loop .table) (reader (first d) .read-record .result .event) (d .turn .result .controller)
+leaves c =
+    let d = turned c in
+    let e = d .turn .ensures in
+    subst (λ (x : Event). Leaves (loop d .loop .table) x (d .turn .result .controller)) (sym (event-is (reader (first d)))) (e .leaves (sym (e .number) ∙ c .if1 .left))
+
+seat : (c : tie.Else1 Inv-loop μ-loop) → let k = first (turned c) in k .seat .result ≡ subjectOf (reader k .read-record .result .event) - 1
+seat c = seat-is _ _ (subject-at (first (turned c))) (subject-seated _ _ (leaves c .0))
 
 sends : (c : tie.After-e Inv-loop μ-loop)
-    → let d = done (went-on (seated c) .before) in
-    Leaves (inside d .before .loop .table) (Send (c .e .given .0 .0) (c .e .given .0 .1 .0)) (d .turn .result .controller)
+    → let d = turned (kept c .before) in
+    Leaves (loop d .loop .table) (Send (c .e .given .0 .0) (c .e .given .0 .1 .0)) (d .turn .result .controller)
 sends c =
-    let d = done (went-on (seated c) .before) in
-    subst (λ (x : Event). Leaves (inside d .before .loop .table) x (d .turn .result .controller)) (c .e .given .1) (leaves (went-on (seated c)))
+    let d = turned (kept c .before) in
+    subst (λ (x : Event). Leaves (loop d .loop .table) x (d .turn .result .controller)) (c .e .given .1) (leaves (kept c .before))
 
-room : (c : tie.After-of2 Inv-loop μ-loop) → Sendable (inside (done (went-on (seated (kind c)) .before)) .before .loop .table) (kind c .e .given .0 .0)
+room : (c : tie.After-of2 Inv-loop μ-loop) → Sendable (loop (turned (kept (kind c) .before)) .loop .table) (kind c .e .given .0 .0)
 room c = sendable _ _ _ (sends (kind c) .0)
 
 -- fewer bytes are left
-fewer : (c : tie.After-behind2 Inv-loop μ-loop) → length (now (c .behind2 .result)) < length (inside (done c) .before .loop .left .now)
-fewer c = let d = done c in run-further _ _ _ _ _ _ _ _ (inside d .before .loop .inv) (inside d .loop-test .taken) _ _ _ (d .turn .ensures) _ (c .behind2 .ensures)
+fewer : (c : tie.After-behind2 Inv-loop μ-loop) → length (now (c .behind2 .result)) < length (loop (done c) .loop .left .now)
+fewer c = let d = done c in run-further _ _ _ _ _ _ _ _ (loop d .loop .inv) (some d .loop-test .taken) _ _ _ (d .turn .ensures) _ (c .behind2 .ensures)
 
 byte-at-requires : tie.Need-byte-at-requires Inv-loop μ-loop
 byte-at-requires c κs = search needs
@@ -73,8 +108,8 @@ byte-at-requires c κs = search needs
 cast-n : tie.Need-cast-n Inv-loop μ-loop
 cast-n c = search needs
 
-fresh-requires : tie.Need-fresh-requires Inv-loop μ-loop
-fresh-requires c κs = search needs
+opened-requires : tie.Need-opened-requires Inv-loop μ-loop
+opened-requires c κs = search needs
 
 behind-requires : tie.Need-behind-requires Inv-loop μ-loop
 behind-requires c κs = search needs
@@ -82,10 +117,46 @@ behind-requires c κs = search needs
 loop-holds : tie.Need-loop-holds Inv-loop μ-loop
 loop-holds c =
     let n = c .before .before in
-    run-begins _ _ _ (n .before .before .before .before .pre) _ (n .byte-at .ensures) _ (c .before .fresh .ensures) _ (c .behind .ensures)
+    run-begins _ _ _ (n .before .before .before .before .pre) _ (n .byte-at .ensures) _ (c .before .opened .ensures) _ (c .behind .ensures)
+
+read-record-requires : tie.Need-read-record-requires Inv-loop μ-loop
+read-record-requires c κs = search needs
+
+subject-requires : tie.Need-subject-requires Inv-loop μ-loop
+subject-requires c κs = search needs
+
+seat-requires : tie.Need-seat-requires Inv-loop μ-loop
+seat-requires c κs = search needs
+
+owner-requires : tie.Need-owner-requires Inv-loop μ-loop
+owner-requires c κs = search needs
+
+seat-requires-2 : tie.Need-seat-requires-2 Inv-loop μ-loop
+seat-requires-2 c κs = search needs
+
+mul-x : tie.Need-mul-x Inv-loop μ-loop
+mul-x c = omega (arith, seat-low _ _ (subject c .seat .ensures))
+
+element-copy-out-x : tie.Need-element-copy-out-x Inv-loop μ-loop
+element-copy-out-x c = seat-low _ _ (subject c .seat .ensures)
+
+mul-y : tie.Need-mul-y Inv-loop μ-loop
+mul-y c = omega (arith, seat-low _ _ (c .before .seat2 .ensures))
+
+element-copy-out-y : tie.Need-element-copy-out-y Inv-loop μ-loop
+element-copy-out-y c = seat-low _ _ (c .before .seat2 .ensures)
 
 turn-requires : tie.Need-turn-requires Inv-loop μ-loop
-turn-requires c κs = run-before _ _ _ _ _ _ _ _ (c .before .before .before .loop .inv)
+turn-requires c κs =
+    let j = owner (both c) in
+    let i = subject j in
+    let d = reader i in (
+      run-before _ _ _ _ _ _ _ _ (inside d .loop .inv),
+      record {
+        record-is = d .read-record .ensures;
+        allowed = λ q. allowed-at _ _ q _ _ (subject-at i ∙ ap (λ (e : Event). seatOf (subjectOf e)) (event-is d)) (owner-at j ∙ ap (λ (e : Event). seatOf (ownerOf e)) (event-is d));
+      },
+    )
 
 behind-requires-2 : tie.Need-behind-requires-2 Inv-loop μ-loop
 behind-requires-2 c κs = search needs
@@ -96,35 +167,26 @@ loop-less c = fewer (c .before)
 loop-again : tie.Need-loop-again Inv-loop μ-loop
 loop-again c =
     let d = done (c .before) in
-    run-goes-on _ _ _ _ _ _ _ _ (inside d .before .loop .inv) (inside d .loop-test .taken) _ _ _ (d .turn .ensures) _ (c .before .behind2 .ensures) _ (λ z. absurd (c .if1 .taken z)) (λ _. refl)
-
-subject-requires : tie.Need-subject-requires Inv-loop μ-loop
-subject-requires c κs = search needs
-
-cast-seat : tie.Need-cast-seat Inv-loop μ-loop
-cast-seat c = search needs
-
-sub-seat : tie.Need-sub-seat Inv-loop μ-loop
-sub-seat c = seat c .low
+    run-goes-on _ _ _ _ _ _ _ _ (loop d .loop .inv) (some d .loop-test .taken) _ _ _ (d .turn .ensures) _ (c .before .behind2 .ensures) _ (λ z. absurd (c .if1 .taken z)) (λ _. refl)
 
 mul-c : tie.Need-mul-c Inv-loop μ-loop
-mul-c c = search needs
+mul-c c = omega (arith, seat-low _ _ (first (turned (c .before)) .seat .ensures))
 
 element-set-from-c : tie.Need-element-set-from-c Inv-loop μ-loop
-element-set-from-c c = omega (arith, seat c .low, seat c .high)
+element-set-from-c c = seat-low _ _ (first (turned (c .before)) .seat .ensures)
 
 enum-known-e : tie.Need-enum-known-e Inv-loop μ-loop
 enum-known-e c = search needs
 
 loop-less-2 : tie.Need-loop-less-2 Inv-loop μ-loop
-loop-less-2 c = fewer (went-on (c .before) .before)
+loop-less-2 c = fewer (c .before .before .before)
 
 loop-again-2 : tie.Need-loop-again-2 Inv-loop μ-loop
 loop-again-2 c =
-    let g = went-on (c .before) in
-    let d = done (g .before) in
-    run-goes-on _ _ _ _ _ _ _ _ (inside d .before .loop .inv) (inside d .loop-test .taken) _ _ _ (d .turn .ensures) _ (g .before .behind2 .ensures) _
-    (λ _. stored-as-else _ _ _ _ _ (d .turn .ensures .event) (c .before .subject .ensures) (c .match .keys2) (leaves g .1))
+    let g = c .before .before in
+    let d = turned g in
+    run-goes-on _ _ _ _ _ _ _ _ (loop d .loop .inv) (some d .loop-test .taken) _ _ _ (d .turn .ensures) _ (g .before .behind2 .ensures) _
+    (λ _. stored-as-else _ _ _ _ _ (event-is (reader (first d))) (seat g) (c .match .keys2) (leaves g .1))
     (λ n. absurd (n (g .if1 .left)))
 
 cast-of : tie.Need-cast-of Inv-loop μ-loop
@@ -136,8 +198,8 @@ of-requires c κs = search needs
 of-requires-2 : tie.Need-of-requires-2 Inv-loop μ-loop
 of-requires-2 c κs = search needs
 
-mul-t20 : tie.Need-mul-t20 Inv-loop μ-loop
-mul-t20 c = omega (arith, room c .slot)
+mul-t24 : tie.Need-mul-t24 Inv-loop μ-loop
+mul-t24 c = omega (arith, room c .slot)
 
 element-set-from-table : tie.Need-element-set-from-table Inv-loop μ-loop
 element-set-from-table c = room c .slot
@@ -146,15 +208,15 @@ add-table : tie.Need-add-table Inv-loop μ-loop
 add-table c = omega (arith, room c .slot)
 
 loop-less-3 : tie.Need-loop-less-3 Inv-loop μ-loop
-loop-less-3 c = fewer (went-on (seated (kind c)) .before)
+loop-less-3 c = fewer (kept (kind c) .before .before)
 
 loop-again-3 : tie.Need-loop-again-3 Inv-loop μ-loop
 loop-again-3 c =
     let k = kind c in
-    let g = went-on (seated k) in
-    let d = done (g .before) in
-    run-goes-on _ _ _ _ _ _ _ _ (inside d .before .loop .inv) (inside d .loop-test .taken) _ _ _ (d .turn .ensures) _ (g .before .behind2 .ensures) _
-    (λ _. stored-as-send _ _ _ _ _ _ _ _ (d .turn .ensures .event) (seated k .subject .ensures) (k .e .given .1) (sends k .1) (rw (c .before .of .ensures) at (c .of2 .ensures)))
+    let g = kept k .before in
+    let d = turned g in
+    run-goes-on _ _ _ _ _ _ _ _ (loop d .loop .inv) (some d .loop-test .taken) _ _ _ (d .turn .ensures) _ (g .before .behind2 .ensures) _
+    (λ _. stored-as-send _ _ _ _ _ _ _ _ (event-is (reader (first d))) (seat g) (k .e .given .1) (sends k .1) (rw (c .before .of .ensures) at (c .of2 .ensures)))
     (λ n. absurd (n (g .if1 .left)))
 
 same-length : tie.Need-same-length Inv-loop μ-loop
@@ -174,16 +236,22 @@ run-records-spec =
     μ-loop
     byte-at-requires
     cast-n
-    fresh-requires
+    opened-requires
     behind-requires
     loop-holds
+    read-record-requires
+    subject-requires
+    seat-requires
+    owner-requires
+    seat-requires-2
+    mul-x
+    element-copy-out-x
+    mul-y
+    element-copy-out-y
     turn-requires
     behind-requires-2
     loop-less
     loop-again
-    subject-requires
-    cast-seat
-    sub-seat
     mul-c
     element-set-from-c
     enum-known-e
@@ -192,7 +260,7 @@ run-records-spec =
     cast-of
     of-requires
     of-requires-2
-    mul-t20
+    mul-t24
     element-set-from-table
     add-table
     loop-less-3

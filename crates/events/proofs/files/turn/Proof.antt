@@ -13,16 +13,16 @@ use Rattle.model.specs.Sized.{Sized}
 use Rattle.model.specs.Questions.{firstNo, stepQuestions}
 use Rattle.model.specs.declared.Event.{Event}
 use Rattle.model.proofs.Owned.{table-sized}
+use Rattle.records.specs.Cuts.{recordOf}
 use Rattle.records.specs.declared.Record.{Record}
 use Rattle.events.specs.Asking.{refusalOf}
 use Rattle.events.specs.Effects.{Effected}
-use Rattle.events.specs.Turns.{Before}
 use Rattle.events.proofs.Asking.{event-read, used-read, refusal-is, allowed}
 use Rattle.events.proofs.Turning.{turn-refused, turn-full, written-within, turn-listed}
 use Rattle.events.proofs.files.turn.Statement.{statement}
 use Rattle.events.proofs.files.turn.Tie as tie
 
--- PLACES: from behind the listing to the line, the effect, the questions, the record and the start
+-- PLACES: from behind the listing to the line, the effect, the questions and the start
 abbrev line : tie.After-slice-known4 → tie.After-list-line
 line c = c .before .before
 
@@ -32,50 +32,49 @@ carried c = c .before .before .before .before .before
 abbrev asked : tie.After-carry-out → tie.Else1
 asked c = c .before .before
 
-abbrev reader : tie.Else1 → tie.After-read-record
-reader c = c .before .before
-
-abbrev start : tie.After-read-record → tie.Start
+abbrev start : tie.After-refusal-of → tie.Start
 start c = c .before .before .before .before
 
-abbrev bytes : tie.After-read-record → List ℕ
-bytes c = now (start c .args .left)
+abbrev begin : tie.Else1 → tie.Start
+begin c = start (c .before)
 
-abbrev room : tie.After-read-record → ℕ
-room c = length (now (start c .args .scratch))
+abbrev bytes : tie.Start → List ℕ
+bytes s = now (s .args .left)
+
+abbrev room : tie.Start → ℕ
+room s = length (now (s .args .scratch))
 
 -- WHAT HOLDS THERE
-sized : (c : tie.Start) → Sized (c .args .t)
-sized c = table-sized (c .args .t) _ (c .good .1 .0)
+sized : (s : tie.Start) → Sized (s .args .t)
+sized s = table-sized (s .args .t) _ (s .good .1 .0)
 
-listing-fits : (c : tie.Start) → length (c .args .listing .now) < 2 ^ 64
-listing-fits c = c .good .1 .1 .1 .0 .0
+listing-fits : (s : tie.Start) → length (s .args .listing .now) < 2 ^ 64
+listing-fits s = s .good .1 .1 .1 .1 .1 .1 .0 .0
 
-event-is : (c : tie.After-read-record) → c .read-record .result .event ≡ decode (bytes c)
-event-is c = event-read _ _ (c .read-record .ensures)
+record-is : (s : tie.Start) → s .args .found ≡ recordOf (bytes s)
+record-is s = s .pre .1 .record-is
 
-number-is : (c : tie.After-refusal-of) → c .refusal-of .result ≡ firstNo (stepQuestions (start (c .before) .args .t) (bytes (c .before)) (room (c .before)))
+event-is : (s : tie.Start) → s .args .found .event ≡ decode (bytes s)
+event-is s = event-read _ _ (record-is s)
+
+number-is : (c : tie.After-refusal-of) → let s = start c in c .refusal-of .result ≡ firstNo (stepQuestions (s .args .t) (bytes s) (room s))
 number-is c =
-    c .refusal-of .ensures
-    ∙ (ap (λ (r : Record). refusalOf (start (c .before) .args .t) r (room (c .before))) (c .before .read-record .ensures)
-    ∙ refusal-is (start (c .before) .args .t) (bytes (c .before)) (room (c .before)))
+    let s = start c in
+    c .refusal-of .ensures ∙ (ap (λ (r : Record). refusalOf (s .args .t) r (room s)) (record-is s) ∙ refusal-is (s .args .t) (bytes s) (room s))
 
-passed : (c : tie.Else1) → firstNo (stepQuestions (start (reader c) .args .t) (bytes (reader c)) (room (reader c))) ≡ 0
+passed : (c : tie.Else1) → let s = begin c in firstNo (stepQuestions (s .args .t) (bytes s) (room s)) ≡ 0
 passed c = sym (number-is (c .before)) ∙ c .if1 .left
 
 effect : (c : tie.After-carry-out)
-    → let d = reader (asked c) in
-    Effected (start d .args .t) (decode (bytes d)) (now (start d .args .scratch)) (c .carry-out .result) (c .carry-out .last .1 .1 .0)
+    → let s = begin (asked c) in
+    Effected (s .args .t) (decode (bytes s)) (now (s .args .scratch)) (c .carry-out .result) (c .carry-out .last .1 .1 .1 .1 .0)
 effect c =
-    let d = reader (asked c) in
-    subst (λ (e : Event). Effected (start d .args .t) e (now (start d .args .scratch)) (c .carry-out .result) (c .carry-out .last .1 .1 .0))
-    (event-is d) (c .carry-out .ensures)
+    let s = begin (asked c) in
+    subst (λ (e : Event). Effected (s .args .t) e (now (s .args .scratch)) (c .carry-out .result) (c .carry-out .last .1 .1 .1 .1 .0))
+    (event-is s) (c .carry-out .ensures)
 
 fits-sum : (a b n : ℕ) → a + b ≤ n → n < 2 ^ 64 → Fits w64 (a + b)
 fits-sum a b n h k = omega arith
-
-read-record-requires : tie.Need-read-record-requires
-read-record-requires c κs = search needs
 
 refusal-of-requires : tie.Need-refusal-of-requires
 refusal-of-requires c κs = search needs
@@ -83,31 +82,28 @@ refusal-of-requires c κs = search needs
 ended-requires : tie.Need-ended-requires
 ended-requires c κs = search needs
 
-at-requires : tie.Need-at-requires
-at-requires c κs = search needs
-
 returns : tie.Need-returns
 returns c =
-    let e = c .before .before in
-    let d = e .before .before in
-    turn-refused _ _ _ _ _ (start d .pre) _ (number-is (e .before)) (e .if1 .taken) _ (c .before .ended .ensures) _ (event-is d) _
+    let n = c .before .before in
+    turn-refused _ _ _ _ _ (start n .pre .0) _ (number-is n) (c .before .if1 .taken) _ (c .ended .ensures) _
 
 carry-out-requires : tie.Need-carry-out-requires
 carry-out-requires c κs =
-    let d = reader (c .before) in
-    rw (event-is d) (allowed _ _ _ (start d .pre .formed) (passed (c .before)))
+    let s = begin (c .before) in
+    let a = allowed _ _ _ (s .pre .0 .formed) (passed (c .before)) in
+    (rw (event-is s) (s .pre .1 .allowed (a .0)), a .1)
 
 sub-list-line : tie.Need-sub-list-line
 sub-list-line c = search needs
 
 part-list-line-start : tie.Need-part-list-line-start
-part-list-line-start c = omega (arith, start (reader (asked (c .before .before .before))) .pre .within)
+part-list-line-start c = omega (arith, begin (asked (c .before .before .before)) .pre .0 .within)
 
 part-list-line-end : tie.Need-part-list-line-end
 part-list-line-end c = search needs
 
 add-list-line : tie.Need-add-list-line
-add-list-line c = omega (arith, start (reader (asked (carried c))) .pre .few)
+add-list-line c = omega (arith, begin (asked (carried c)) .pre .0 .few)
 
 list-line-requires : tie.Need-list-line-requires
 list-line-requires c κs = search needs
@@ -125,20 +121,19 @@ returns-2 : tie.Need-returns-2
 returns-2 c =
     let n = line (c .before .before) in
     let k = carried (n .before) in
-    let d = reader (asked k) in
-    turn-full _ _ _ _ _ (start d .pre) (sized (start d)) (passed (asked k)) _ _ (effect k) _ (event-is d) _ _ (n .list-line .ensures) (c .before .if2 .taken) _ (c .ended2 .ensures) _
+    let s = begin (asked k) in
+    turn-full _ _ _ _ _ (s .pre .0) (sized s) (passed (asked k)) _ _ (effect k) _ (event-is s) _ _ (n .list-line .ensures) (c .before .if2 .taken) _ (c .ended2 .ensures) _
 
-add-t24 : tie.Need-add-t24
-add-t24 c = add-list-line (line (c .before .before) .before)
+add-t25 : tie.Need-add-t25
+add-t25 c = add-list-line (line (c .before .before) .before)
 
-add-t14 : tie.Need-add-t14
-add-t14 c =
+add-t16 : tie.Need-add-t16
+add-t16 c =
     let e = c .before .before in
     let n = line (e .before) in
     let k = carried (n .before) in
-    let d = reader (asked k) in
-    let s = start d in
-    let h = written-within (s .args .cursor) (s .args .t) (s .args .left .now) (s .args .listing .now) (s .args .scratch .now) (s .pre) (sized (start d)) (passed (asked k)) _ _ (effect k) _ (event-is d) _ _ (n .list-line .ensures) (e .if2 .left) in
+    let s = begin (asked k) in
+    let h = written-within (s .args .cursor) (s .args .t) (s .args .left .now) (s .args .listing .now) (s .args .scratch .now) (s .pre .0) (sized s) (passed (asked k)) _ _ (effect k) _ (event-is s) _ _ (n .list-line .ensures) (e .if2 .left) in
     fits-sum _ _ _ h (listing-fits s)
 
 same-length-3 : tie.Need-same-length-3
@@ -152,18 +147,16 @@ returns-3 c =
     let e = c .before .before in
     let n = line (e .before) in
     let k = carried (n .before) in
-    let d = reader (asked k) in
-    turn-listed _ _ _ _ _ (start d .pre) (sized (start d)) (passed (asked k)) _ _ (effect k) _ (event-is d) _ _ (n .list-line .ensures) (e .if2 .left)
-    _ (used-read _ _ _ _ (d .read-record .ensures) (passed (asked k))) _ refl
+    let s = begin (asked k) in
+    turn-listed _ _ _ _ _ (s .pre .0) (sized s) (passed (asked k)) _ _ (effect k) _ (event-is s) _ _ (n .list-line .ensures) (e .if2 .left)
+    _ (used-read _ _ _ _ (record-is s) (passed (asked k))) _ refl
 
 pub turn-spec : {M : Type 1} → statement M
 turn-spec =
     tie.close
     (tie.spec
-    read-record-requires
     refusal-of-requires
     ended-requires
-    at-requires
     returns
     carry-out-requires
     sub-list-line
@@ -175,8 +168,8 @@ turn-spec =
     same-length
     same-length-2
     returns-2
-    add-t24
-    add-t14
+    add-t25
+    add-t16
     same-length-3
     same-length-4
     returns-3)
