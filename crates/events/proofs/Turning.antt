@@ -29,7 +29,6 @@ use Rattle.listing.specs.declared.Put.{Put}
 use Rattle.listing.specs.Writing.{putAnswer, tailAfter, Wrote}
 use Rattle.events.specs.declared.effects.Effect.{Effect}
 use Rattle.events.specs.declared.files.Cursor.{Cursor}
-use Rattle.events.specs.declared.files.Advance.{Advance}
 use Rattle.events.specs.Effects.{Leaves, effectOf, Effected}
 use Rattle.events.specs.Turns.{progressOf, ended, Before, turned, Turned}
 use Rattle.events.proofs.Subjects.{line-shown}
@@ -171,7 +170,7 @@ module _ (c : Cursor) (t : Table) (s l w : List ℕ) (b : Before c t s l) where
               events = rw on refl;
               written = rw on (omega (arith, put-written, lines-length, length-append (take (c .written) l) x));
               used = rw on eu;
-                    leaves = λ _. rw eg leaves;
+              leaves = λ _. rw eg leaves;
               listed = rw on
                   (ap (λ (r : List ℕ). take (c .written) l ++ r) (none-behind m ∙ wrote .tail ∙ cond-true _ _ fits)
                   ∙ overlay-behind (c .written) x l (b .within));

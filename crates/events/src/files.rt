@@ -1,10 +1,7 @@
 // The file run: its records one after the other, each carried out, listed and stored in place, until the first refusal.
 ghost use mathlib.Core.Path.{_≡_};
-ghost use mathlib.Core.Bool.{true};
-ghost use Prim.Native.Nat.{_≤_, _<_};
-ghost use lib.ListN.{length, take};
+ghost use lib.ListN.{take};
 ghost use Rattle.model.specs.Events.{subject, shown};
-ghost use Rattle.model.specs.WellFormed.{wellFormed};
 ghost use Rattle.model.specs.Questions.{firstNo, fileQuestions};
 ghost use Rattle.model.specs.Runs.{lineOf};
 ghost use Rattle.listing.specs.Writing.{Wrote};

@@ -1,12 +1,10 @@
 -- `carry_out` does what the event's kind says, and leaves the scratch bytes that it needed zero. Assumes nothing.
 use mathlib.Core.Path.{refl, subst}
 use borrow.Author.Needs.{needs}
-use native.Mathlib.Omega.{arith}
 use Rattle.model.specs.Events.{subject, appliedBy}
 use Rattle.model.specs.declared.Event.{Event}
 use Rattle.model.specs.declared.Event.the-variants.{Send, Handover, Stop}
 use Rattle.events.specs.Reading.{Allowed}
-use Rattle.events.specs.Effects.{Effected}
 use Rattle.events.proofs.Accepted.{sendable}
 use Rattle.events.proofs.Subjects.{quiet-effect}
 use Rattle.events.proofs.Reading.{sent-after, stopped-after}
