@@ -304,7 +304,7 @@ static inline size_t furnacejade_put_stop(uint8_t *out, size_t room, uint8_t con
     return 5;
 }
 
-/* A fresh table of n controllers, 1 to 7: all run, nothing was sent. Question 3 is put. Takes 15 KB of stack.
+/* A fresh table of n controllers, 1 to 7: all run, nothing was sent. Question 3 is put. Takes 4 KB of stack.
  *
  *     static furnacejade_fresh_answer start;
  *     furnacejade_fresh(5, &start);
@@ -315,7 +315,7 @@ void furnacejade_fresh(size_t n, furnacejade_fresh_answer *answer);
 /* One event: bytes is the rest of a file from a record on, and the record with which it begins is carried out. Questions 4
  * to 15 are put. Returns how many bytes are left: the unread rest is the last so many of bytes. An accepted event leaves
  * the table as the rules say and the first 4,096 scratch bytes zero. A refused one leaves table and scratch as they were,
- * and the record in the rest: a loop that goes on must step over it, by 1 + its length byte. Takes 33 KB of stack.
+ * and the record in the rest: a loop that goes on must step over it, by 1 + its length byte. Takes 20 KB of stack.
  *
  *     uint8_t record[5];
  *     size_t length = furnacejade_put_report(record, sizeof record, 1, 30);
@@ -335,7 +335,7 @@ void furnacejade_look(const furnacejade_table *t, size_t c, furnacejade_look_ans
 /* A whole run file, from a fresh table of its own, up to the first refusal. Its lines are written into the listing from the
  * start on; the bytes behind them stay. Also where a record is refused, the listing keeps the lines before it, the answer
  * has the table that they left, and the first 4,096 scratch bytes are zero if any event was accepted. A file refused by
- * questions 1 to 3 changes neither listing nor scratch. Takes 24 KB of stack.
+ * questions 1 to 3 changes neither listing nor scratch. Takes 14 KB of stack.
  *
  *     static uint8_t listing[FURNACEJADE_LISTING];
  *     furnacejade_run(file, size, listing, sizeof listing, scratch, sizeof scratch, &run);

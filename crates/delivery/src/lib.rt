@@ -105,7 +105,7 @@ fn flag(n: usize, m: usize, p: Pending, q: Pending) -> u8
     requires { ⌜ m ≡ majority n ⌝ }
     ensures { λ r. ⌜ yes? r ≡ goesBefore n p q ⌝ }
 {
-    if m <= before_count(n, p, q) { 1 } else { 0 }
+    numbers::flag(m <= before_count(n, p, q))
 }
 
 // Row i of the matrix: whether slot i goes before each slot in the buffer.

@@ -29,6 +29,7 @@ use Rattle.listing.specs.declared.Put.{Put}
 use Rattle.listing.specs.Writing.{putAnswer, tailAfter, Wrote}
 use Rattle.events.specs.declared.effects.Effect.{Effect}
 use Rattle.events.specs.declared.files.Cursor.{Cursor}
+use Rattle.events.specs.declared.files.Advance.{Advance}
 use Rattle.events.specs.Effects.{Leaves, effectOf, Effected}
 use Rattle.events.specs.Turns.{progressOf, ended, Before, turned, Turned}
 use Rattle.events.proofs.Subjects.{line-shown}
@@ -176,6 +177,11 @@ module _ (c : Cursor) (t : Table) (s l w : List ℕ) (b : Before c t s l) where
                   ∙ overlay-behind (c .written) x l (b .within));
               clear = scratch-said;
             }
+
+-- a turn that does not end the run leaves the subject as its event e does
+pub turn-leaves : {c : Cursor} {t : Table} {s l w m v : List ℕ} {a : Advance} → Turned c t s l w a m v → a .cursor .number ≡ 0
+    → (e : Event) → e ≡ decode s → Leaves t e (a .controller)
+turn-leaves d z e q = rw q (d .leaves (sym (d .number) ∙ z))
 
 -- where there is no line nothing is written
 pub no-line : (s : List ℕ) → Wrote [] s s (record { number = 0; written = 0 })

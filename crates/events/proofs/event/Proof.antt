@@ -66,13 +66,16 @@ accepted c =
     subst (λ (e : Event). Accepted (start d .args .t) e × (scratchSize ≤ room d)) (sym (event-read _ _ (d .read-record .ensures)))
     (allowed _ _ _ (formed d) (passed c))
 
--- what carrying it out answers, of the event that the bytes name
+-- what carrying it out leaves of the scratch area, and answers, of the event that the bytes name
+abbrev cleared : tie.After-carry-out → List ℕ
+cleared c = c .carry-out .last .1 .1 .1 .1 .0
+
 effect : (c : tie.After-carry-out)
     → let d = reader (asked c) in
-    Effected (start d .args .t) (decode (bytes d)) (now (start d .args .scratch)) (c .carry-out .result) (c .carry-out .last .1 .1 .1 .1 .0)
+    Effected (start d .args .t) (decode (bytes d)) (now (start d .args .scratch)) (c .carry-out .result) (cleared c)
 effect c =
     let d = reader (asked c) in
-    subst (λ (e : Event). Effected (start d .args .t) e (now (start d .args .scratch)) (c .carry-out .result) (c .carry-out .last .1 .1 .1 .1 .0))
+    subst (λ (e : Event). Effected (start d .args .t) e (now (start d .args .scratch)) (c .carry-out .result) (cleared c))
     (event-read _ _ (d .read-record .ensures)) (c .carry-out .ensures)
 
 well-formed-requires : tie.Need-well-formed-requires

@@ -1,6 +1,6 @@
 -- `run_records` carries out the records of a file. The loop's invariant is `Running`, and its measure the bytes left.
 -- Assumes nothing.
-use mathlib.Core.Path.{_≡_, refl, sym, ap, subst, _∙_}
+use mathlib.Core.Path.{_≡_, refl, ap, subst, _∙_}
 use Prim.Native.Nat.{_-_, _<_}
 use native.Mathlib.Omega.{arith}
 use lib.ListN.{length}
@@ -16,6 +16,7 @@ use Rattle.events.proofs.Accepted.{Sendable, sendable}
 use Rattle.events.proofs.Subjects.{subject-seated, sent-length, stored-as-send, stored-as-else}
 use Rattle.events.proofs.Asking.{event-read}
 use Rattle.events.proofs.Reading.{seat-is, seat-low, allowed-at}
+use Rattle.events.proofs.Turning.{turn-leaves}
 use Rattle.events.proofs.Running.{Running, scratch-size, run-before, run-begins, run-further, run-goes-on, run-ends}
 use Rattle.events.proofs.files.run_records.Statement.{statement}
 use Rattle.events.proofs.files.run_records.Tie as tie
@@ -80,10 +81,7 @@ owner-at c = c .seat2 .ensures ∙ ap seatOf (c .before .owner .ensures)
 leaves : (c : tie.Else1 Inv-loop μ-loop)
     → let d = turned c in
     Leaves (loop d .loop .table) (reader (first d) .read-record .result .event) (d .turn .result .controller)
-leaves c =
-    let d = turned c in
-    let e = d .turn .ensures in
-    subst (λ (x : Event). Leaves (loop d .loop .table) x (d .turn .result .controller)) (sym (event-is (reader (first d)))) (e .leaves (sym (e .number) ∙ c .if1 .left))
+leaves c = let d = turned c in turn-leaves (d .turn .ensures) (c .if1 .left) _ (event-is (reader (first d)))
 
 seat : (c : tie.Else1 Inv-loop μ-loop) → let k = first (turned c) in k .seat .result ≡ subjectOf (reader k .read-record .result .event) - 1
 seat c = seat-is _ _ (subject-at (first (turned c))) (subject-seated _ _ (leaves c .0))

@@ -65,13 +65,15 @@ number-is c =
 passed : (c : tie.Else1) → let s = begin c in firstNo (stepQuestions (s .args .t) (bytes s) (room s)) ≡ 0
 passed c = sym (number-is (c .before)) ∙ c .if1 .left
 
+-- what carrying it out leaves of the scratch area, and answers, of the event that the bytes name
+abbrev cleared : tie.After-carry-out → List ℕ
+cleared c = c .carry-out .last .1 .1 .1 .1 .0
+
 effect : (c : tie.After-carry-out)
-    → let s = begin (asked c) in
-    Effected (s .args .t) (decode (bytes s)) (now (s .args .scratch)) (c .carry-out .result) (c .carry-out .last .1 .1 .1 .1 .0)
+    → let s = begin (asked c) in Effected (s .args .t) (decode (bytes s)) (now (s .args .scratch)) (c .carry-out .result) (cleared c)
 effect c =
     let s = begin (asked c) in
-    subst (λ (e : Event). Effected (s .args .t) e (now (s .args .scratch)) (c .carry-out .result) (c .carry-out .last .1 .1 .1 .1 .0))
-    (event-is s) (c .carry-out .ensures)
+    subst (λ (e : Event). Effected (s .args .t) e (now (s .args .scratch)) (c .carry-out .result) (cleared c)) (event-is s) (c .carry-out .ensures)
 
 fits-sum : (a b n : ℕ) → a + b ≤ n → n < 2 ^ 64 → Fits w64 (a + b)
 fits-sum a b n h k = omega arith
