@@ -1,26 +1,14 @@
--- What the by-value event call answers is what the lent one leaves, and what that one hands back is as long as it says. Assumes nothing.
-use mathlib.Core.Path.{_≡_, ap, _∙_}
+-- What the event call hands back is as long as its exported form says. Assumes nothing.
+use mathlib.Core.Path.{ap}
 use mathlib.Core.List.{List}
 use Prim.Native.Nat.{ℕ}
-use lib.ListN.{length, drop}
-use Rattle.model.specs.Calls.{event}
+use lib.ListN.{length}
 use Rattle.model.specs.declared.Table.{Table}
 use Rattle.model.specs.declared.Answer.{Answer}
-use Rattle.events.specs.Stepped.{steppedOf, Steps}
-use Rattle.events.specs.declared.Stepped.{Stepped}
-use Rattle.events.proofs.Rest.{rest-handed-back}
-use Rattle.engine.specs.Called.{Called, Counted}
+use Rattle.lent.specs.Called.{Called}
+use Rattle.engine.specs.Called.{Counted}
 
 module _ (t : Table) (s w : List ℕ) where
-  pub called : (r : Stepped) (z p : List ℕ) → Steps t s w r z → p ≡ drop (r .used) s → Called t s w (r .table) (r .answer) p z
-  unfolding steppedOf
-  called r z p e ep = record {
-    table-is = ap (λ (x : Stepped). x .table) (e .outcome);
-    answer-is = ap (λ (x : Stepped). x .answer) (e .outcome);
-    rest-is = ep ∙ (ap (λ (x : Stepped). drop (x .used) s) (e .outcome) ∙ rest-handed-back t s (length w));
-    scratch-is = e .clear;
-  }
-
   pub counted : (h : Table) (g : Answer) (p z : List ℕ) → Called t s w h g p z → Counted t s w h g (length p) z
   counted h g p z e = record {
     table-is = e .table-is;

@@ -1,4 +1,4 @@
--- What the event call leaves, to a caller that is handed back a part of its bytes and to one that is told how long that part is.
+-- What the event call leaves, to a caller that is told how long the part of its bytes is that is unread.
 use mathlib.Core.Path.{_≡_}
 use mathlib.Core.List.{List}
 use Prim.Native.Nat.{ℕ}
@@ -8,12 +8,6 @@ use Rattle.model.specs.declared.Table.{Table}
 use Rattle.model.specs.declared.Answer.{Answer}
 
 -- the event of the bytes s on the table t, with the scratch area w
-pub record Called (t : Table) (s w : List ℕ) (table : Table) (answer : Answer) (rest scratch : List ℕ) : Type 0 where
-  pub table-is : table ≡ event t s (length w) .table
-  pub answer-is : answer ≡ answerOf (event t s (length w) .answer)
-  pub rest-is : rest ≡ event t s (length w) .answer .rest
-  pub scratch-is : scratch ≡ scratchAfter (event t s (length w) .answer .number) w
-
 pub record Counted (t : Table) (s w : List ℕ) (table : Table) (answer : Answer) (left : ℕ) (scratch : List ℕ) : Type 0 where
   pub table-is : table ≡ event t s (length w) .table
   pub answer-is : answer ≡ answerOf (event t s (length w) .answer)

@@ -1,26 +1,12 @@
-// The calls that others make, from Rattle, C and Rust. Each hands what it is lent to the by-value function that
-// answers it and stores what comes back. Its contract is an equation for its result and for all that it may write.
+// The calls that C and Rust make. Each hands what it is lent to the function that answers it and stores what comes back. Its
+// contract is an equation for its result and for all that it may write.
 ghost use mathlib.Core.Path.{_≡_};
 ghost use Rattle.model.specs.Calls.{look, freshTable};
 ghost use Rattle.events.specs.Stepped.{Runs};
-ghost use Rattle.engine.specs.Called.{Called, Counted};
+ghost use Rattle.engine.specs.Called.{Counted};
 
-// One event, of the record with which the bytes begin. The result is the part of the caller's bytes that is unread.
-pub fn event<'t, 'a, 's, 'o>(
-    t: &'t mut model::Table,
-    bytes: &'a [u8],
-    scratch: &'s mut [u8],
-    answer: &'o mut model::Answer,
-) -> &'a [u8]
-    ensures { λ r. ⌜ Called (now (t .entry)) (now (bytes .entry)) (now (scratch .entry)) (now (t .exit)) (now (answer .exit)) (now r) (now (scratch .exit)) ⌝ }
-{
-    let s = events::event(*t, bytes, scratch);
-    *t = s.table;
-    *answer = s.answer;
-    records::behind(bytes, s.used)
-}
-
-// The same for callers that no reference can be handed back to: the result is how many bytes are unread.
+// One event, of the record with which the bytes begin. No reference can be handed back to C: the result is how many bytes are
+// unread.
 #[no_mangle]
 pub extern "C" fn furnacejade_event(
     t: &mut model::Table,
@@ -30,7 +16,7 @@ pub extern "C" fn furnacejade_event(
 ) -> usize
     ensures { λ r. ⌜ Counted (now (t .entry)) (now (bytes .entry)) (now (scratch .entry)) (now (t .exit)) (now (answer .exit)) r (now (scratch .exit)) ⌝ }
 {
-    let left = event(t, bytes, scratch, answer);
+    let left = lent::event(t, bytes, scratch, answer);
     left.len()
 }
 

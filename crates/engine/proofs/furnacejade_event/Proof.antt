@@ -1,16 +1,16 @@
 -- `furnacejade_event` meets its contract: a walk of its MIR, by hand. All that it is lent is lent on to `event` for good, at its own lifetimes, shares and names, so what it has at entry is what `event` asks, by computation.
 -- Assumes nothing.
-use Rattle.engine.proofs.Walk.{_≡_, refl, ap, ℕ, _<_, _^_, [], _∷_, List, length, dropped, URA, named, erased, w64, Val, vint, SProp, ent, Lft, Share, ftrue, flft, fres, Memory, Routine, Heap, Calls, Loops, WpFn, Atoms, Fun, givenOf, tables, Given, Item, ‵, raw, _⊛_, ⋆, _$_, _∵_, !, qed, by, move, keep, drop, use1, fsplit, fjoin, suffices, frame, done, look, init, stop, hop, fld, from, load, addr, of-opd, and-then, no-more, assigns, land, returns, enter, alloc1, alloc0, params1, pass1, pass0, free0, agg, whole, sub, look-in, FmC, Is, uint-makes, u8, usize, RefT, ptr-vals, mut-tells, sliceVal, slice-vals, MutSlice, ShrSlice, finally, mut-slice-tells, shr-slice-tells, mut-slice-lawful, shr-slice-lawful, owned, heard, nothing, onEntry, tripleOf, Contract, Triple, calls-at, cited, says, Stays, stay-dropped, gave-ref, gave-slice, walkOf, goes-dropped, goes-gave-ref, goes-gave-slice, ends-at, yes, Slot, plain, shrSliceOf, ptrOf, sliceOf, as-long, answered, told, freed, asks, proves}
-use Rattle.engine.specs.Called.{Called}
+use Rattle.lent.proofs.Walk.{_≡_, refl, ap, ℕ, _<_, _^_, [], _∷_, List, length, dropped, URA, named, erased, w64, Val, vint, SProp, ent, Lft, Share, ftrue, flft, fres, Memory, Routine, Heap, Calls, Loops, WpFn, Atoms, Fun, givenOf, tables, Given, Item, ‵, raw, _⊛_, ⋆, _$_, _∵_, !, qed, by, move, keep, drop, use1, fsplit, fjoin, suffices, frame, done, look, init, stop, hop, fld, from, load, addr, of-opd, and-then, no-more, assigns, land, returns, enter, alloc1, alloc0, params1, pass1, pass0, free0, agg, whole, sub, look-in, FmC, Is, uint-makes, u8, usize, RefT, ptr-vals, mut-tells, sliceVal, slice-vals, MutSlice, ShrSlice, finally, mut-slice-tells, shr-slice-tells, mut-slice-lawful, shr-slice-lawful, owned, heard, nothing, onEntry, tripleOf, Contract, Triple, calls-at, cited, says, Stays, stay-dropped, gave-ref, gave-slice, walkOf, goes-dropped, goes-gave-ref, goes-gave-slice, ends-at, yes, Slot, plain, shrSliceOf, ptrOf, sliceOf, as-long, answered, told, freed, asks, proves}
+use Rattle.lent.specs.Called.{Called}
 use Rattle.engine.proofs.Outcomes.{counted}
 use Rattle.model.specs.declared.Table.{Table}
 use Rattle.model.specs.declared.Answer.{Answer}
 use Rattle.model.proofs.Table as T
 use Rattle.model.proofs.Answer as N
-use Rattle.engine.proofs.event as g
-use Rattle.engine.proofs.event.Symbol as g-def
-use Rattle.engine.proofs.event.Symbol.{name as #engine·event}
-use Rattle.engine.proofs.event.Met as g-thm
+use Rattle.lent.proofs.event as g
+use Rattle.lent.proofs.event.Symbol as g-def
+use Rattle.lent.proofs.event.Symbol.{name as #lent·event}
+use Rattle.lent.proofs.event.Met as g-thm
 use Rattle.engine.proofs.furnacejade_event.Key.{name as #engine·furnacejade-event}
 use Rattle.engine.proofs.furnacejade_event as f
 use Rattle.engine.proofs.furnacejade_event.Statement as stated
@@ -65,7 +65,7 @@ module _ {M : Type 1} (𝓤 : URA M) (H : Heap 𝓤) (A : Atoms 𝓤) (W : Given
       nothing ! $ move ! (3 ∷ 0 ∷ []) $ fjoin ! $ move ! (2 ∷ 0 ∷ []) $ fjoin ! $ nothing ! $ fjoin ! $ move ! (1 ∷ 0 ∷ []) $ fjoin ! $
       owned ! usize (Is usize) (uint-makes 𝓤 H A W w64) (length p) _ (refl, fits) $ move ! (1 ∷ 0 ∷ []) $ done !
 
-  module _ (C : Calls 𝓤 H) (Λ : Loops 𝓤 H) (fm : FmC 𝓤 H (W .laws) C) (known : Triple 𝓤 (C #engine·event) (Known 𝓤 H A at-mem run)) where
+  module _ (C : Calls 𝓤 H) (Λ : Loops 𝓤 H) (fm : FmC 𝓤 H (W .laws) C) (known : Triple 𝓤 (C #lent·event) (Known 𝓤 H A at-mem run)) where
     walk : Is (ShrSlice (named 1) κa u8) s (sliceOf s ∷ []) → Is (MutSlice (named 2) κs u8) z (sliceOf z ∷ [])
         → ent 𝓤 (onEntry 𝓤 H A f.signature (κt, (κa, (κs, (κo, tt)))) (qt, (qa, (qs, (qo, tt)))) a vals) (WpFn 𝓤 H C Λ code.function (ptrOf t ∷ sliceOf s ∷ sliceOf z ∷ ptrOf w ∷ []) Post)
     walk ps pz =
@@ -95,4 +95,4 @@ furnacejade-event-spec 𝓤 H 𝓜 𝓖 𝓡 =
     (goes-gave-ref 𝓤 H (𝓖 .A) (givenOf 𝓤 H 𝓜 𝓖) 4 0 tt TableS, (goes-dropped 𝓤 H (𝓖 .A) (givenOf 𝓤 H 𝓜 𝓖) 4 BytesS yes (λ κs x f. refl), (goes-gave-slice 𝓤 H (𝓖 .A) (givenOf 𝓤 H 𝓜 𝓖) 4 2 tt (plain (λ _. u8)), (goes-gave-ref 𝓤 H (𝓖 .A) (givenOf 𝓤 H 𝓜 𝓖) 4 3 tt AnswerS, tt))))
     (λ κs. (ptr-vals, (slice-vals, (slice-vals, (ptr-vals, tt))))) (λ κs. (mut-tells (named 0) (κs .0) T.the-row, (shr-slice-tells (named 1) (κs .1 .0) u8, (mut-slice-tells (named 2) (κs .1 .1 .0) u8, (mut-tells (named 3) (κs .1 .1 .1 .0) N.the-row, tt)))))
     (λ fm κs qs bounds a g are. walk 𝓤 H (𝓖 .A) (givenOf 𝓤 H 𝓜 𝓖) (𝓜 .mem) (𝓡 .run) (κs .0) (κs .1 .0) (κs .1 .1 .0) (κs .1 .1 .1 .0) (qs .0) (qs .1 .0) (qs .1 .1 .0) (qs .1 .1 .1 .0) (a .0) (a .1 .0) (a .1 .1 .0) (a .1 .1 .1 .0) (tables 𝓤 H 𝓜 𝓡 code.env .C) (tables 𝓤 H 𝓜 𝓡 code.env .Λ) fm
-    (cited 𝓤 H (Known 𝓤 H (𝓖 .A) (𝓜 .mem) (𝓡 .run)) 𝓜 𝓡 code.env #engine·event g-def.routine code.calls-engine·event (g-thm.met 𝓤 H 𝓜 𝓖 𝓡)) (are .1 .0) (are .1 .1 .0))
+    (cited 𝓤 H (Known 𝓤 H (𝓖 .A) (𝓜 .mem) (𝓡 .run)) 𝓜 𝓡 code.env #lent·event g-def.routine code.calls-lent·event (g-thm.met 𝓤 H 𝓜 𝓖 𝓡)) (are .1 .0) (are .1 .1 .0))

@@ -1,6 +1,6 @@
 -- `furnacejade_run` meets its contract: a walk of its MIR, by hand. The listing and the scratch area are lent on to `files::run` for good, at their own lifetimes, shares and names, and what it answers is stored.
 -- Assumes nothing.
-use Rattle.engine.proofs.Walk.{_≡_, refl, ℕ, [], _∷_, List, length, URA, named, Val, vunit, SProp, ent, Lft, Share, ftrue, flft, Memory, Routine, Heap, Calls, Loops, WpFn, Atoms, Fun, givenOf, tables, Given, Item, ‵, raw, _⊛_, ⋆, _$_, _∵_, !, qed, by, move, drop, use1, split, join, fsplit, fsplit3, fjoin, fjoin3, feqI, suffices, frame, done, look, init, store-raw, stop, hop, fld, from, load, addr, of-opd, unit-lit, and-then, no-more, assigns, land, returns, enter, alloc1, alloc0, params1, pass1, pass0, free0, agg, whole, sub, look-in, FmC, owns, Is, u8, RefT, MutRef, ptr-vals, mut-tells, slice-vals, MutSlice, ShrSlice, finally, mut-slice-tells, shr-slice-tells, mut-slice-lawful, shr-slice-lawful, heard, nothing, onEntry, tripleOf, Contract, Triple, calls-at, cited, says, Stays, stay-ref, stay-dropped, gave-slice, walkOf, goes-ref, goes-dropped, goes-gave-slice, ends-at, yes, Slot, plain, shrSliceOf, ptrOf, sliceOf, lent, opened, closed, as-long, answered, told, freed, asks, proves}
+use Rattle.lent.proofs.Walk.{_≡_, refl, ℕ, [], _∷_, List, length, URA, named, Val, vunit, SProp, ent, Lft, Share, ftrue, flft, Memory, Routine, Heap, Calls, Loops, WpFn, Atoms, Fun, givenOf, tables, Given, Item, ‵, raw, _⊛_, ⋆, _$_, _∵_, !, qed, by, move, drop, use1, split, join, fsplit, fsplit3, fjoin, fjoin3, feqI, suffices, frame, done, look, init, store-raw, stop, hop, fld, from, load, addr, of-opd, unit-lit, and-then, no-more, assigns, land, returns, enter, alloc1, alloc0, params1, pass1, pass0, free0, agg, whole, sub, look-in, FmC, owns, Is, u8, RefT, MutRef, ptr-vals, mut-tells, slice-vals, MutSlice, ShrSlice, finally, mut-slice-tells, shr-slice-tells, mut-slice-lawful, shr-slice-lawful, heard, nothing, onEntry, tripleOf, Contract, Triple, calls-at, cited, says, Stays, stay-ref, stay-dropped, gave-slice, walkOf, goes-ref, goes-dropped, goes-gave-slice, ends-at, yes, Slot, plain, shrSliceOf, ptrOf, sliceOf, lent, opened, closed, as-long, answered, told, freed, asks, proves}
 use denote.Struct.Laws as LL
 use Rattle.events.specs.Stepped.{Runs}
 use Rattle.model.specs.declared.RunAnswer.{RunAnswer}

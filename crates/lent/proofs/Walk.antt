@@ -33,4 +33,4 @@ pub use denote.Triple.Table.{cited}
 pub use denote.Triple.Walked.{says, Stays, stay-ref, stay-dropped, gave-ref, gave-slice, walkOf, goes-ref, goes-dropped, goes-gave-ref, goes-gave-slice, ends-at}
 pub use denote.Exit.{yes}
 pub use denote.Signature.{Slot, plain, shrRefTo, shrSliceOf}
-pub use Rattle.engine.proofs.Steps.{ptrOf, sliceOf, lent, opened, closed, looked, shut, as-long, answered, told, freed, asks, proves}
+pub use Rattle.lent.proofs.Steps.{ptrOf, sliceOf, lent, opened, closed, looked, shut, as-long, answered, told, freed, asks, proves}

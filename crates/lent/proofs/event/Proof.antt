@@ -1,10 +1,10 @@
 -- `event` meets its contract: a walk of its MIR, by hand. The table is copied out of its borrow and handed to the by-value `event` with the bytes and the scratch area, which is given up for good; the table and the answer that come back are stored, and `behind` makes the part that is handed back.
 -- All that the proof knows of the two callees is that each meets its contract.
 -- Assumes nothing.
-use Rattle.engine.proofs.Walk.{_≡_, refl, ap, _∙_, ℕ, [], _∷_, List, length, dropped, URA, named, w64, Val, vint, SProp, ent, id⊢, Lft, Share, Fml, ftrue, flft, Memory, Routine, Heap, Calls, Loops, WpFn, Atoms, Fun, givenOf, tables, Given, Item, ‵, raw, _⊛_, ⋆, _$_, _∵_, !, qed, by, move, drop, use1, split, join, fsplit, fsplit3, fjoin, fjoin3, feqI, suffices, frame, done, look, look-raw, init, store-raw, stop, hop, fld, from, load, addr, of-opd, and-then, no-more, assigns, land, returns, enter, alloc1, alloc0, params1, pass1, pass0, free0, agg, whole, sub, look-in, FmC, owns, Is, shows, uint-makes, u8, usize, RefT, MutRef, ptr-vals, mut-tells, slice-vals, MutSlice, ShrSlice, finally, mut-slice-tells, shr-slice-tells, mut-slice-lawful, shr-slice-lawful, shr-slice-copy, owned, peeks, heard, nothing, onEntry, tripleOf, Contract, Triple, calls-at, cited, says, Stays, stay-ref, stay-dropped, gave-slice, walkOf, goes-ref, goes-dropped, goes-gave-slice, ends-at, yes, Slot, plain, shrSliceOf, ptrOf, sliceOf, lent, opened, closed, as-long, answered, told, freed, asks, proves}
+use Rattle.lent.proofs.Walk.{_≡_, refl, ap, _∙_, ℕ, [], _∷_, List, length, dropped, URA, named, w64, Val, vint, SProp, ent, id⊢, Lft, Share, Fml, ftrue, flft, Memory, Routine, Heap, Calls, Loops, WpFn, Atoms, Fun, givenOf, tables, Given, Item, ‵, raw, _⊛_, ⋆, _$_, _∵_, !, qed, by, move, drop, use1, split, join, fsplit, fsplit3, fjoin, fjoin3, feqI, suffices, frame, done, look, look-raw, init, store-raw, stop, hop, fld, from, load, addr, of-opd, and-then, no-more, assigns, land, returns, enter, alloc1, alloc0, params1, pass1, pass0, free0, agg, whole, sub, look-in, FmC, owns, Is, shows, uint-makes, u8, usize, RefT, MutRef, ptr-vals, mut-tells, slice-vals, MutSlice, ShrSlice, finally, mut-slice-tells, shr-slice-tells, mut-slice-lawful, shr-slice-lawful, shr-slice-copy, owned, peeks, heard, nothing, onEntry, tripleOf, Contract, Triple, calls-at, cited, says, Stays, stay-ref, stay-dropped, gave-slice, walkOf, goes-ref, goes-dropped, goes-gave-slice, ends-at, yes, Slot, plain, shrSliceOf, ptrOf, sliceOf, lent, opened, closed, as-long, answered, told, freed, asks, proves}
 use denote.Struct.Laws as LL
 use Rattle.events.specs.Stepped.{Steps}
-use Rattle.engine.proofs.Outcomes.{called}
+use Rattle.lent.proofs.Outcomes.{called}
 use Rattle.events.specs.declared.Stepped.{Stepped}
 use Rattle.model.specs.declared.Table.{Table}
 use Rattle.model.specs.declared.Answer.{Answer}
@@ -22,10 +22,10 @@ use Rattle.records.proofs.behind as rest
 use Rattle.records.proofs.behind.Symbol as rest-def
 use Rattle.records.proofs.behind.Symbol.{name as #records·behind}
 use Rattle.records.proofs.behind.Met as rest-thm
-use Rattle.engine.proofs.event.Key.{name as #engine·event}
-use Rattle.engine.proofs.event as f
-use Rattle.engine.proofs.event.Statement as stated
-use Rattle.engine.proofs.event.Code as code
+use Rattle.lent.proofs.event.Key.{name as #lent·event}
+use Rattle.lent.proofs.event as f
+use Rattle.lent.proofs.event.Statement as stated
+use Rattle.lent.proofs.event.Code as code
 
 abbrev TableS : Slot 4
 TableS = plain (λ _. T.the-row)
@@ -138,7 +138,7 @@ module _ {M : Type 1} (𝓤 : URA M) (H : Heap 𝓤) (A : Atoms 𝓤) (W : Given
 pub event-spec : {M : Type 1} → stated.statement M
 unfolding code.routine
 event-spec 𝓤 H 𝓜 𝓖 𝓡 =
-    proves 𝓤 H 𝓜 𝓖 𝓡 f.ended stayed (f.clauses 𝓤 H (𝓖 .A) (𝓜 .mem) (𝓡 .run)) code.env #engine·event code.function (code.unfolded 𝓤 H 𝓜 𝓡)
+    proves 𝓤 H 𝓜 𝓖 𝓡 f.ended stayed (f.clauses 𝓤 H (𝓖 .A) (𝓜 .mem) (𝓡 .run)) code.env #lent·event code.function (code.unfolded 𝓤 H 𝓜 𝓡)
     (goes-ref 𝓤 H (𝓖 .A) (givenOf 𝓤 H 𝓜 𝓖) 4 0 tt TableS, (goes-dropped 𝓤 H (𝓖 .A) (givenOf 𝓤 H 𝓜 𝓖) 4 BytesS yes (λ κs x f. refl), (goes-gave-slice 𝓤 H (𝓖 .A) (givenOf 𝓤 H 𝓜 𝓖) 4 2 tt (plain (λ _. u8)), (goes-ref 𝓤 H (𝓖 .A) (givenOf 𝓤 H 𝓜 𝓖) 4 3 tt AnswerS, tt))))
     (λ κs. (ptr-vals, (slice-vals, (slice-vals, (ptr-vals, tt))))) (λ κs. (mut-tells (named 0) (κs .0) T.the-row, (shr-slice-tells (named 1) (κs .1 .0) u8, (mut-slice-tells (named 2) (κs .1 .1 .0) u8, (mut-tells (named 3) (κs .1 .1 .1 .0) N.the-row, tt)))))
     (λ fm κs qs bounds a g are. walk 𝓤 H (𝓖 .A) (givenOf 𝓤 H 𝓜 𝓖) (𝓜 .mem) (𝓡 .run) (κs .0) (κs .1 .0) (κs .1 .1 .0) (κs .1 .1 .1 .0) (qs .0) (qs .1 .0) (qs .1 .1 .0) (qs .1 .1 .1 .0) (a .0) (a .1 .0) (a .1 .1 .0) (a .1 .1 .1 .0) (tables 𝓤 H 𝓜 𝓡 code.env .C) (tables 𝓤 H 𝓜 𝓡 code.env .Λ) fm
