@@ -1,6 +1,7 @@
 -- The controllers that an event reads, taken out of the table: they are the definition's, and what an event does can be said of
 -- them. Assumes nothing.
 use mathlib.Core.Path.{_≡_, refl, ap, _∙_}
+use mathlib.Core.List.{List}
 use Prim.Native.Nat.{ℕ, _+_, _-_, _<_}
 use native.Mathlib.Omega.{arith}
 use lib.ListN.{getD}
@@ -12,9 +13,13 @@ use Rattle.model.specs.declared.Controller.{Controller}
 use Rattle.model.specs.declared.Table.{Table}
 use Rattle.model.specs.declared.Event.{Event}
 use Rattle.model.specs.declared.Event.the-variants.{Send, Handover, Stop}
+use Rattle.records.specs.Cuts.{recordOf}
+use Rattle.records.specs.declared.Record.{Record}
 use Rattle.events.specs.declared.effects.Parties.{Parties}
+use Rattle.events.specs.declared.files.Ahead.{Ahead}
 use Rattle.events.specs.Conditions.{Accepted, Receivable}
 use Rattle.events.specs.Reading.{ownerOf, seatOf, partiesOf, Allowed, taken, Reading}
+use Rattle.events.specs.Turns.{aheadOf}
 use Rattle.events.proofs.Accepted.{sendable, handable, stoppable}
 use Rattle.events.proofs.Subjects.{subject-seated}
 
@@ -56,6 +61,12 @@ module _ (t : Table) (e : Event) (q : Accepted t e) where
     subject-is = ap (λ (x : Parties). x .subject) ep;
     owner-is = ap (λ (x : Parties). x .owner) ep;
   }
+
+-- a record is looked at with the indices of what its event reads
+pub ahead-is : (s : List ℕ) (r : Record) → r ≡ recordOf s → (i j : ℕ) → i ≡ seatOf (subject (r .event)) → j ≡ seatOf (ownerOf (r .event))
+    → _≡_ {A = Ahead} (record { found = r; subject = i; owner = j }) (aheadOf s)
+unfolding aheadOf recordOf
+ahead-is s r er i j ei ej = rw (ei, ej, er) refl
 
 -- WHAT EACH KIND DOES
 

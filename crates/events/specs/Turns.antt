@@ -6,15 +6,23 @@ use Prim.Native.Nat.{ℕ, _+_, _≤_}
 use lib.ListN.{length, take}
 use lib.Dec.{eqb}
 use Rattle.lists.specs.Build.{overlay}
+use Rattle.model.specs.Events.{subject}
 use Rattle.model.specs.Records.{size, decode}
 use Rattle.model.specs.WellFormed.{wellFormed}
 use Rattle.model.specs.Calls.{step, scratchAfter}
 use Rattle.model.specs.Runs.{Progress, advance, progress, ran}
 use Rattle.model.specs.declared.Table.{Table}
 use Rattle.model.specs.declared.RunAnswer.{RunAnswer}
+use Rattle.records.specs.Cuts.{recordOf}
+use Rattle.events.specs.declared.files.Ahead.{Ahead}
 use Rattle.events.specs.declared.files.Cursor.{Cursor}
 use Rattle.events.specs.declared.files.Advance.{Advance}
+use Rattle.events.specs.Reading.{ownerOf, seatOf}
 use Rattle.events.specs.Effects.{Leaves}
+
+-- the record that s begins with, and the indices of the controllers that its event reads
+unfoldable pub aheadOf : List ℕ → Ahead
+aheadOf s = record { found = recordOf s; subject = seatOf (subject (decode s)); owner = seatOf (ownerOf (decode s)) }
 
 unfoldable pub progressOf : Cursor → Table → List ℕ → Progress
 progressOf c t l = record { number = c .number; events = c .events; lines = take (c .written) l; table = t }

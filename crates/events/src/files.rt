@@ -6,7 +6,7 @@ ghost use Rattle.model.specs.Questions.{firstNo, fileQuestions};
 ghost use Rattle.model.specs.Runs.{lineOf};
 ghost use Rattle.listing.specs.Writing.{Wrote};
 ghost use Rattle.events.specs.Reading.{Found};
-ghost use Rattle.events.specs.Turns.{ended, Before, Turned, Ran};
+ghost use Rattle.events.specs.Turns.{aheadOf, ended, Before, Turned, Ran};
 ghost use Rattle.events.specs.Stepped.{Runs};
 use crate::effects;
 use crate::effects::Effect;
@@ -51,6 +51,25 @@ fn list_line(tail: &mut [u8], event: usize, e: Event, t: Table, done: Effect) ->
     let panel = effects::shown(t, controller);
     let names = answer.names;
     listing::put_line(tail, event, effects::subject(e), panel, names, size)
+}
+
+// The record that the bytes left begin with, and the indices of the controllers that its event reads.
+struct Ahead {
+    found: Record,
+    subject: usize,
+    owner: usize,
+}
+
+fn look_ahead(left: &[u8]) -> Ahead
+    ensures { λ r. ⌜ r ≡ aheadOf (now (left .entry)) ⌝ }
+{
+    let found = records::read_record(left);
+    let e = found.event;
+    Ahead {
+        found,
+        subject: effects::seat(effects::subject(e)),
+        owner: effects::seat(effects::owner(e)),
+    }
 }
 
 // A refusal ends a run: nothing else has changed.
@@ -126,10 +145,10 @@ fn run_records(bytes: &[u8], listing: &mut [u8], scratch: &mut [u8]) -> RunAnswe
         written: 0,
     };
     while 0 < left.len() {
-        let found = records::read_record(left);
-        let e = found.event;
-        let i = effects::seat(effects::subject(e));
-        let j = effects::seat(effects::owner(e));
+        let ahead = look_ahead(left);
+        let found = ahead.found;
+        let i = ahead.subject;
+        let j = ahead.owner;
         let x = table.controllers[i];
         let y = table.controllers[j];
         let done = turn(cursor, table, x, y, found, left, listing, scratch);
@@ -142,6 +161,7 @@ fn run_records(bytes: &[u8], listing: &mut [u8], scratch: &mut [u8]) -> RunAnswe
         }
         let c = done.controller;
         table.controllers[i] = c;
+        let e = found.event;
         let Event::Send { sender, payload } = e else {
             continue;
         };

@@ -1,16 +1,19 @@
 -- `run_records` carries out the records of a file. The loop's invariant is `Running`, and its measure the bytes left.
 -- Assumes nothing.
-use mathlib.Core.Path.{_≡_, refl, ap, subst, _∙_}
+use mathlib.Core.Path.{_≡_, refl, sym, ap, subst, _∙_}
 use Prim.Native.Nat.{_-_, _<_}
 use native.Mathlib.Omega.{arith}
 use lib.ListN.{length}
 use borrow.Author.Needs.{needs}
 use denote.Ref.{now}
-use Rattle.model.specs.Events.{subject as subjectOf}
+use Rattle.model.specs.Events.{subject}
 use Rattle.model.specs.Records.{decode}
 use Rattle.model.specs.declared.Event.{Event}
 use Rattle.model.specs.declared.Event.the-variants.{Send}
+use Rattle.records.specs.Cuts.{recordOf}
+use Rattle.events.specs.declared.files.Ahead.{Ahead}
 use Rattle.events.specs.Reading.{ownerOf, seatOf}
+use Rattle.events.specs.Turns.{aheadOf}
 use Rattle.events.specs.Effects.{Leaves}
 use Rattle.events.proofs.Accepted.{Sendable, sendable}
 use Rattle.events.proofs.Subjects.{subject-seated, sent-length, stored-as-send, stored-as-else}
@@ -40,51 +43,51 @@ done c = c .before .before .before .before .before .before
 abbrev turned : tie.Else1 Inv-loop μ-loop → tie.After-turn Inv-loop μ-loop
 turned c = done (c .before)
 
--- from the turn to the owner's controller, the index of the owner, that of the subject, the record and the loop
-abbrev both : tie.After-turn-arg2 Inv-loop μ-loop → tie.After-y Inv-loop μ-loop
-both c = c .before .before
+-- from the turn to the record, and from there to the loop
+abbrev looked : tie.After-turn-arg2 Inv-loop μ-loop → tie.After-look-ahead Inv-loop μ-loop
+looked c = c .before .before .before .before .before
 
-abbrev owner : tie.After-y Inv-loop μ-loop → tie.After-seat2 Inv-loop μ-loop
-owner c = c .before .before
-
-abbrev subject : tie.After-seat2 Inv-loop μ-loop → tie.After-seat Inv-loop μ-loop
-subject c = c .before .before
-
-abbrev reader : tie.After-seat Inv-loop μ-loop → tie.After-read-record Inv-loop μ-loop
-reader c = c .before .before
-
-abbrev inside : tie.After-read-record Inv-loop μ-loop → tie.At-loop Inv-loop μ-loop
+abbrev inside : tie.After-look-ahead Inv-loop μ-loop → tie.At-loop Inv-loop μ-loop
 inside c = c .before .before
 
-abbrev first : tie.After-turn Inv-loop μ-loop → tie.After-seat Inv-loop μ-loop
-first c = subject (owner (both (c .before)))
+abbrev ahead : tie.After-turn Inv-loop μ-loop → tie.After-look-ahead Inv-loop μ-loop
+ahead c = looked (c .before)
 
 abbrev loop : tie.After-turn Inv-loop μ-loop → tie.At-loop Inv-loop μ-loop
-loop c = inside (reader (first c))
+loop c = inside (ahead c)
 
 abbrev some : tie.After-turn Inv-loop μ-loop → tie.In-loop Inv-loop μ-loop
-some c = reader (first c) .before
+some c = ahead c .before
 
 -- WHAT HOLDS THERE
 
--- the record's event, and the indices of its controllers
-event-is : (c : tie.After-read-record Inv-loop μ-loop) → c .read-record .result .event ≡ decode (inside c .loop .left .now)
-event-is c = event-read _ _ (c .read-record .ensures)
+-- the record, its event, and the indices of its controllers
+abbrev event : tie.After-look-ahead Inv-loop μ-loop → Event
+event c = c .look-ahead .result .found .event
 
-subject-at : (c : tie.After-seat Inv-loop μ-loop) → c .seat .result ≡ seatOf (subjectOf (reader c .read-record .result .event))
-subject-at c = c .seat .ensures ∙ ap seatOf (c .before .subject .ensures)
+found-is : (c : tie.After-look-ahead Inv-loop μ-loop) → c .look-ahead .result .found ≡ recordOf (inside c .loop .left .now)
+unfolding aheadOf
+found-is c = ap (λ (a : Ahead). a .found) (c .look-ahead .ensures)
 
-owner-at : (c : tie.After-seat2 Inv-loop μ-loop) → c .seat2 .result ≡ seatOf (ownerOf (reader (subject c) .read-record .result .event))
-owner-at c = c .seat2 .ensures ∙ ap seatOf (c .before .owner .ensures)
+event-is : (c : tie.After-look-ahead Inv-loop μ-loop) → event c ≡ decode (inside c .loop .left .now)
+event-is c = event-read _ _ (found-is c)
+
+subject-at : (c : tie.After-look-ahead Inv-loop μ-loop) → c .look-ahead .result .subject ≡ seatOf (subject (decode (inside c .loop .left .now)))
+unfolding aheadOf
+subject-at c = ap (λ (a : Ahead). a .subject) (c .look-ahead .ensures)
+
+owner-at : (c : tie.After-look-ahead Inv-loop μ-loop) → c .look-ahead .result .owner ≡ seatOf (ownerOf (decode (inside c .loop .left .now)))
+unfolding aheadOf
+owner-at c = ap (λ (a : Ahead). a .owner) (c .look-ahead .ensures)
 
 -- what the turn leaves of the subject, and the subject's index
-leaves : (c : tie.Else1 Inv-loop μ-loop)
-    → let d = turned c in
-    Leaves (loop d .loop .table) (reader (first d) .read-record .result .event) (d .turn .result .controller)
-leaves c = let d = turned c in turn-leaves (d .turn .ensures) (c .if1 .left) _ (event-is (reader (first d)))
+leaves : (c : tie.Else1 Inv-loop μ-loop) → let d = turned c in Leaves (loop d .loop .table) (event (ahead d)) (d .turn .result .controller)
+leaves c = let d = turned c in turn-leaves (d .turn .ensures) (c .if1 .left) _ (event-is (ahead d))
 
-seat : (c : tie.Else1 Inv-loop μ-loop) → let k = first (turned c) in k .seat .result ≡ subjectOf (reader k .read-record .result .event) - 1
-seat c = seat-is _ _ (subject-at (first (turned c))) (subject-seated _ _ (leaves c .0))
+seat : (c : tie.Else1 Inv-loop μ-loop) → let k = ahead (turned c) in k .look-ahead .result .subject ≡ subject (event k) - 1
+seat c =
+    let k = ahead (turned c) in
+    seat-is _ _ (subject-at k ∙ ap (λ (e : Event). seatOf (subject e)) (sym (event-is k))) (subject-seated _ _ (leaves c .0))
 
 sends : (c : tie.After-e Inv-loop μ-loop)
     → let d = turned (kept c .before) in
@@ -117,43 +120,26 @@ loop-holds c =
     let n = c .before .before in
     run-begins _ _ _ (n .before .before .before .before .pre) _ (n .byte-at .ensures) _ (c .before .opened .ensures) _ (c .behind .ensures)
 
-read-record-requires : tie.Need-read-record-requires Inv-loop μ-loop
-read-record-requires c κs = search needs
-
-subject-requires : tie.Need-subject-requires Inv-loop μ-loop
-subject-requires c κs = search needs
-
-seat-requires : tie.Need-seat-requires Inv-loop μ-loop
-seat-requires c κs = search needs
-
-owner-requires : tie.Need-owner-requires Inv-loop μ-loop
-owner-requires c κs = search needs
-
-seat-requires-2 : tie.Need-seat-requires-2 Inv-loop μ-loop
-seat-requires-2 c κs = search needs
+look-ahead-requires : tie.Need-look-ahead-requires Inv-loop μ-loop
+look-ahead-requires c κs = search needs
 
 mul-x : tie.Need-mul-x Inv-loop μ-loop
-mul-x c = omega (arith, seat-low _ _ (subject c .seat .ensures))
+mul-x c = omega (arith, seat-low _ _ (subject-at (c .before)))
 
 element-copy-out-x : tie.Need-element-copy-out-x Inv-loop μ-loop
-element-copy-out-x c = seat-low _ _ (subject c .seat .ensures)
+element-copy-out-x c = seat-low _ _ (subject-at (c .before))
 
 mul-y : tie.Need-mul-y Inv-loop μ-loop
-mul-y c = omega (arith, seat-low _ _ (c .before .seat2 .ensures))
+mul-y c = omega (arith, seat-low _ _ (owner-at (c .before .before)))
 
 element-copy-out-y : tie.Need-element-copy-out-y Inv-loop μ-loop
-element-copy-out-y c = seat-low _ _ (c .before .seat2 .ensures)
+element-copy-out-y c = seat-low _ _ (owner-at (c .before .before))
 
 turn-requires : tie.Need-turn-requires Inv-loop μ-loop
 turn-requires c κs =
-    let j = owner (both c) in
-    let i = subject j in
-    let d = reader i in (
-      run-before _ _ _ _ _ _ _ _ (inside d .loop .inv),
-      record {
-        record-is = d .read-record .ensures;
-        allowed = λ q. allowed-at _ _ q _ _ (subject-at i ∙ ap (λ (e : Event). seatOf (subjectOf e)) (event-is d)) (owner-at j ∙ ap (λ (e : Event). seatOf (ownerOf e)) (event-is d));
-      },
+    let k = looked c in (
+      run-before _ _ _ _ _ _ _ _ (inside k .loop .inv),
+      record { record-is = found-is k; allowed = λ q. allowed-at _ _ q _ _ (subject-at k) (owner-at k) },
     )
 
 behind-requires-2 : tie.Need-behind-requires-2 Inv-loop μ-loop
@@ -168,10 +154,10 @@ loop-again c =
     run-goes-on _ _ _ _ _ _ _ _ (loop d .loop .inv) (some d .loop-test .taken) _ _ _ (d .turn .ensures) _ (c .before .behind2 .ensures) _ (λ z. absurd (c .if1 .taken z)) (λ _. refl)
 
 mul-c : tie.Need-mul-c Inv-loop μ-loop
-mul-c c = omega (arith, seat-low _ _ (first (turned (c .before)) .seat .ensures))
+mul-c c = omega (arith, seat-low _ _ (subject-at (ahead (turned (c .before)))))
 
 element-set-from-c : tie.Need-element-set-from-c Inv-loop μ-loop
-element-set-from-c c = seat-low _ _ (first (turned (c .before)) .seat .ensures)
+element-set-from-c c = seat-low _ _ (subject-at (ahead (turned (c .before))))
 
 enum-known-e : tie.Need-enum-known-e Inv-loop μ-loop
 enum-known-e c = search needs
@@ -184,7 +170,7 @@ loop-again-2 c =
     let g = c .before .before in
     let d = turned g in
     run-goes-on _ _ _ _ _ _ _ _ (loop d .loop .inv) (some d .loop-test .taken) _ _ _ (d .turn .ensures) _ (g .before .behind2 .ensures) _
-    (λ _. stored-as-else _ _ _ _ _ (event-is (reader (first d))) (seat g) (c .match .keys2) (leaves g .1))
+    (λ _. stored-as-else _ _ _ _ _ (event-is (ahead d)) (seat g) (c .match .keys2) (leaves g .1))
     (λ n. absurd (n (g .if1 .left)))
 
 cast-of : tie.Need-cast-of Inv-loop μ-loop
@@ -196,8 +182,8 @@ of-requires c κs = search needs
 of-requires-2 : tie.Need-of-requires-2 Inv-loop μ-loop
 of-requires-2 c κs = search needs
 
-mul-t24 : tie.Need-mul-t24 Inv-loop μ-loop
-mul-t24 c = omega (arith, room c .slot)
+mul-t25 : tie.Need-mul-t25 Inv-loop μ-loop
+mul-t25 c = omega (arith, room c .slot)
 
 element-set-from-table : tie.Need-element-set-from-table Inv-loop μ-loop
 element-set-from-table c = room c .slot
@@ -214,7 +200,7 @@ loop-again-3 c =
     let g = kept k .before in
     let d = turned g in
     run-goes-on _ _ _ _ _ _ _ _ (loop d .loop .inv) (some d .loop-test .taken) _ _ _ (d .turn .ensures) _ (g .before .behind2 .ensures) _
-    (λ _. stored-as-send _ _ _ _ _ _ _ _ (event-is (reader (first d))) (seat g) (k .e .given .1) (sends k .1) (rw (c .before .of .ensures) at (c .of2 .ensures)))
+    (λ _. stored-as-send _ _ _ _ _ _ _ _ (event-is (ahead d)) (seat g) (k .e .given .1) (sends k .1) (rw (c .before .of .ensures) at (c .of2 .ensures)))
     (λ n. absurd (n (g .if1 .left)))
 
 same-length : tie.Need-same-length Inv-loop μ-loop
@@ -237,11 +223,7 @@ run-records-spec =
     opened-requires
     behind-requires
     loop-holds
-    read-record-requires
-    subject-requires
-    seat-requires
-    owner-requires
-    seat-requires-2
+    look-ahead-requires
     mul-x
     element-copy-out-x
     mul-y
@@ -258,7 +240,7 @@ run-records-spec =
     cast-of
     of-requires
     of-requires-2
-    mul-t24
+    mul-t25
     element-set-from-table
     add-table
     loop-less-3
