@@ -3,7 +3,6 @@ use mathlib.Core.Path.{_≡_, ap, _∙_}
 use mathlib.Core.List.{List}
 use Prim.Native.Nat.{ℕ}
 use lib.ListN.{length, drop}
-use Rattle.model.specs.Calls.{event}
 use Rattle.model.specs.declared.Table.{Table}
 use Rattle.events.specs.Stepped.{steppedOf, Steps}
 use Rattle.events.specs.declared.Stepped.{Stepped}
