@@ -6,6 +6,7 @@ use native.Mathlib.Omega.{arith}
 use lib.ListN.{length}
 use borrow.Author.Needs.{needs}
 use denote.Ref.{now}
+use Rattle.model.specs.Tables.{seats}
 use Rattle.model.specs.Events.{subject}
 use Rattle.model.specs.Records.{decode}
 use Rattle.model.specs.declared.Event.{Event}
@@ -80,6 +81,9 @@ owner-at : (c : tie.After-look-ahead Inv-loop μ-loop) → c .look-ahead .result
 unfolding aheadOf
 owner-at c = ap (λ (a : Ahead). a .owner) (c .look-ahead .ensures)
 
+indices : (c : tie.After-look-ahead Inv-loop μ-loop) → (c .look-ahead .result .subject < seats) × (c .look-ahead .result .owner < seats)
+indices c = (seat-low _ _ (subject-at c), seat-low _ _ (owner-at c))
+
 -- what the turn leaves of the subject, and the subject's index
 leaves : (c : tie.Else1 Inv-loop μ-loop) → let d = turned c in Leaves (loop d .loop .table) (event (ahead d)) (d .turn .result .controller)
 leaves c = let d = turned c in turn-leaves (d .turn .ensures) (c .if1 .left) _ (event-is (ahead d))
@@ -124,16 +128,16 @@ look-ahead-requires : tie.Need-look-ahead-requires Inv-loop μ-loop
 look-ahead-requires c κs = search needs
 
 mul-x : tie.Need-mul-x Inv-loop μ-loop
-mul-x c = omega (arith, seat-low _ _ (subject-at (c .before)))
+mul-x c = omega (arith, indices (c .before) .0)
 
 element-copy-out-x : tie.Need-element-copy-out-x Inv-loop μ-loop
-element-copy-out-x c = seat-low _ _ (subject-at (c .before))
+element-copy-out-x c = indices (c .before) .0
 
 mul-y : tie.Need-mul-y Inv-loop μ-loop
-mul-y c = omega (arith, seat-low _ _ (owner-at (c .before .before)))
+mul-y c = omega (arith, indices (c .before .before) .1)
 
 element-copy-out-y : tie.Need-element-copy-out-y Inv-loop μ-loop
-element-copy-out-y c = seat-low _ _ (owner-at (c .before .before))
+element-copy-out-y c = indices (c .before .before) .1
 
 turn-requires : tie.Need-turn-requires Inv-loop μ-loop
 turn-requires c κs =
@@ -154,10 +158,10 @@ loop-again c =
     run-goes-on _ _ _ _ _ _ _ _ (loop d .loop .inv) (some d .loop-test .taken) _ _ _ (d .turn .ensures) _ (c .before .behind2 .ensures) _ (λ z. absurd (c .if1 .taken z)) (λ _. refl)
 
 mul-c : tie.Need-mul-c Inv-loop μ-loop
-mul-c c = omega (arith, seat-low _ _ (subject-at (ahead (turned (c .before)))))
+mul-c c = let h = indices (ahead (turned (c .before))) in omega (arith, h .0, h .1)
 
 element-set-from-c : tie.Need-element-set-from-c Inv-loop μ-loop
-element-set-from-c c = seat-low _ _ (subject-at (ahead (turned (c .before))))
+element-set-from-c c = let h = indices (ahead (turned (c .before))) in omega (arith, h .0, h .1)
 
 enum-known-e : tie.Need-enum-known-e Inv-loop μ-loop
 enum-known-e c = search needs
