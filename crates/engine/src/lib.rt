@@ -28,12 +28,12 @@ pub extern "C" fn furnacejade_look(t: &model::Table, c: usize, answer: &mut mode
     *answer = events::look_at(*t, c);
 }
 
-// The fresh table of n controllers.
+// The fresh table of a version, of n controllers.
 #[no_mangle]
-pub extern "C" fn furnacejade_fresh(n: usize, answer: &mut model::FreshAnswer)
-    ensures { λ _. ⌜ now (answer .exit) ≡ freshTable n ⌝ }
+pub extern "C" fn furnacejade_fresh(version: usize, n: usize, answer: &mut model::FreshAnswer)
+    ensures { λ _. ⌜ now (answer .exit) ≡ freshTable version n ⌝ }
 {
-    *answer = events::fresh_table(n);
+    *answer = events::fresh_table(version, n);
 }
 
 // The run of a whole file.

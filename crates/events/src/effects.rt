@@ -3,8 +3,9 @@ ghost use mathlib.Core.Path.{_≡_};
 ghost use mathlib.Core.Bool.{true, cond};
 ghost use Prim.Native.Nat.{_+_, _≤_, _<_};
 ghost use lib.ListN.{length};
-ghost use Rattle.model.specs.Tables.{scratchSize, noPanel, unheld, withEntry, withMark, withStop};
-ghost use Rattle.model.specs.Events.{forward, deliver, subject, next, shown};
+ghost use lib.IntN.{pos};
+ghost use Rattle.model.specs.Tables.{scratchSize, unheld, withEntry, withMark, withStop};
+ghost use Rattle.model.specs.Events.{forward, deliver, subject, next, total};
 ghost use Rattle.model.specs.WellFormed.{wellFormed};
 ghost use Rattle.model.specs.declared.Event.the-variants.{Handover};
 ghost use Rattle.events.specs.Conditions.{Accepted, Receivable, OfRun};
@@ -18,7 +19,6 @@ use model::ForwardNumber;
 use model::Message;
 use model::MessageNumber;
 use model::Name;
-use model::Panel;
 use model::Pending;
 use model::Table;
 
@@ -224,29 +224,29 @@ pub(crate) fn no_set(number: u8) -> Answer
     Answer {
         number,
         finished: 0,
-        panel: Panel { total: 0 },
+        total: 0,
         size: 0,
         names: [none; 64],
     }
 }
 
-// What the panel of a controller shows that is not in the table yet.
-pub(crate) fn shown(t: Table, c: Controller) -> Panel
-    ensures { λ r. ⌜ r ≡ shown t c ⌝ }
+// The total of a controller that is not in the table yet.
+pub(crate) fn total(t: Table, c: Controller) -> i32
+    ensures { λ r. ⌜ r ≡ total t c ⌝ }
 {
     let messages = t.messages;
     let applied = c.applied;
-    totals::shown(t.count, messages, applied)
+    totals::total(t.count, messages, applied)
 }
 
-// A finished sync's answer, where the controller has applied its set; zeros where none is finished.
-fn sync_answer(t: Table, c: Controller, finished: bool) -> Panel
-    ensures { λ r. ⌜ r ≡ cond finished (shown t c) noPanel ⌝ }
+// A finished sync's answer, where the controller has applied its set; 0 where none is finished.
+fn sync_answer(t: Table, c: Controller, finished: bool) -> i32
+    ensures { λ r. ⌜ r ≡ cond finished (total t c) (pos 0) ⌝ }
 {
     if finished {
-        return shown(t, c);
+        return total(t, c);
     }
-    Panel { total: 0 }
+    0
 }
 
 // An entry is read; a set that is not empty is named and applied.
@@ -276,12 +276,12 @@ fn hand_over(
     let names = all.names;
     let finished = totals::finishes(t.count, messages, members, receiver);
     let after = delivered(t, c, members);
-    let panel = sync_answer(t, after, finished);
+    let total = sync_answer(t, after, finished);
     Effect {
         answer: Answer {
             number: 0,
             finished: numbers::flag(finished),
-            panel,
+            total,
             size,
             names,
         },

@@ -1,7 +1,7 @@
 // The file run: its records one after the other, each carried out, listed and stored in place, until the first refusal.
 ghost use mathlib.Core.Path.{_≡_};
 ghost use lib.ListN.{take};
-ghost use Rattle.model.specs.Events.{subject, shown};
+ghost use Rattle.model.specs.Events.{subject, total};
 ghost use Rattle.model.specs.Questions.{firstNo, fileQuestions};
 ghost use Rattle.model.specs.Runs.{lineOf};
 ghost use Rattle.listing.specs.Writing.{Wrote};
@@ -35,9 +35,9 @@ struct Advance {
     controller: Controller,
 }
 
-// Lists what an event applied; the panel is added up only where there is a line.
+// Lists what an event applied; the total is added up only where there is a line.
 fn list_line(tail: &mut [u8], event: usize, e: Event, t: Table, done: Effect) -> Put
-    ensures { λ r. ⌜ Wrote (lineOf event (subject e) (shown t (done .controller)) (take (done .answer .size) (done .answer .names))) (now (tail .entry)) (now (tail .exit)) r ⌝ }
+    ensures { λ r. ⌜ Wrote (lineOf event (subject e) (total t (done .controller)) (take (done .answer .size) (done .answer .names))) (now (tail .entry)) (now (tail .exit)) r ⌝ }
 {
     let answer = done.answer;
     let size = answer.size;
@@ -48,9 +48,9 @@ fn list_line(tail: &mut [u8], event: usize, e: Event, t: Table, done: Effect) ->
         };
     }
     let controller = done.controller;
-    let panel = effects::shown(t, controller);
+    let total = effects::total(t, controller);
     let names = answer.names;
-    listing::put_line(tail, event, effects::subject(e), panel, names, size)
+    listing::put_line(tail, event, effects::subject(e), total, names, size)
 }
 
 // The record that the bytes left begin with, and the indices of the controllers that its event reads.
@@ -60,10 +60,10 @@ struct Ahead {
     owner: usize,
 }
 
-fn look_ahead(left: &[u8]) -> Ahead
-    ensures { λ r. ⌜ r ≡ aheadOf (now (left .entry)) ⌝ }
+fn look_ahead(version: usize, left: &[u8]) -> Ahead
+    ensures { λ r. ⌜ r ≡ aheadOf version (now (left .entry)) ⌝ }
 {
-    let found = records::read_record(left);
+    let found = records::read_record(version, left);
     let e = found.event;
     Ahead {
         found,
@@ -136,8 +136,9 @@ fn run_records(bytes: &[u8], listing: &mut [u8], scratch: &mut [u8]) -> RunAnswe
     requires { ⌜ firstNo (fileQuestions (now bytes)) ≡ 0 ⌝ }
     ensures { λ r. ⌜ Ran (now (bytes .entry)) (now (listing .entry)) (now (scratch .entry)) r (now (listing .exit)) (now (scratch .exit)) ⌝ }
 {
+    let version = records::byte_at(bytes, 0) as usize;
     let n = records::byte_at(bytes, 1) as usize;
-    let mut table = Table::opened(refusal::ACCEPTED, n);
+    let mut table = Table::opened(refusal::ACCEPTED, version, n);
     let mut left = records::behind(bytes, 2);
     let mut cursor = Cursor {
         number: refusal::ACCEPTED,
@@ -145,7 +146,7 @@ fn run_records(bytes: &[u8], listing: &mut [u8], scratch: &mut [u8]) -> RunAnswe
         written: 0,
     };
     while 0 < left.len() {
-        let ahead = look_ahead(left);
+        let ahead = look_ahead(table.version, left);
         let found = ahead.found;
         let i = ahead.subject;
         let j = ahead.owner;
@@ -186,8 +187,8 @@ pub fn refusal_of(bytes: &[u8]) -> u8
     if !((2 <= size) & (size <= 65535)) {
         return refusal::FILE_LENGTH;
     }
-    let version = records::byte_at(bytes, 0);
-    if version != 1 {
+    let version = records::byte_at(bytes, 0) as usize;
+    if !Table::known(version) {
         return refusal::VERSION;
     }
     let n = records::byte_at(bytes, 1) as usize;
@@ -207,7 +208,7 @@ pub fn run(bytes: &[u8], listing: &mut [u8], scratch: &mut [u8]) -> RunAnswer
             number,
             events: 0,
             written: 0,
-            table: Table::opened(number, 0),
+            table: Table::opened(number, 0, 0),
         };
     }
     run_records(bytes, listing, scratch)

@@ -5,16 +5,10 @@ use mathlib.Core.Bool.{cond}
 use mathlib.Core.List.{List, [], _∷_}
 use lib.ListN.{length}
 use lib.Seq.{sets}
-use lib.IntN.{ℤ}
 use lib.Dec.{leb}
 use Rattle.lists.specs.Build.{overlay}
 use Rattle.model.specs.Questions.{firstNo, lineFits}
-use Rattle.model.specs.declared.Panel.{Panel}
 use Rattle.listing.specs.declared.Put.{Put}
-
--- the panel with this total
-abbrev pub showing : ℤ → Panel
-showing x = record { total = x }
 
 -- the number of question 16 for a line x and a tail of so many bytes, and the bytes written, 0 if refused
 unfoldable pub putAnswer : List ℕ → ℕ → Put

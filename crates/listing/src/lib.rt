@@ -112,8 +112,8 @@ fn store_line(
     names: [Name; 64],
     count: usize,
 ) -> usize
-    requires { ⌜ (count ≤ 64) × (length (line event controller (showing total) (take count names)) ≤ length (now buffer)) ⌝ }
-    ensures { λ r. ⌜ Stored (line event controller (showing total) (take count names)) (now (buffer .entry)) 0 (now (buffer .exit)) r ⌝ }
+    requires { ⌜ (count ≤ 64) × (length (line event controller total (take count names)) ≤ length (now buffer)) ⌝ }
+    ensures { λ r. ⌜ Stored (line event controller total (take count names)) (now (buffer .entry)) 0 (now (buffer .exit)) r ⌝ }
 {
     let after_event = put_number(buffer, 0, event);
     let after_controller = put_field(buffer, after_event, SPACE, controller as usize);
@@ -154,11 +154,11 @@ pub fn put_line(
     tail: &mut [u8],
     event: usize,
     controller: u8,
-    panel: Panel,
+    total: i32,
     names: [Name; 64],
     size: usize,
 ) -> Put
-    ensures { λ r. ⌜ Wrote (lineOf event controller panel (take size names)) (now (tail .entry)) (now (tail .exit)) r ⌝ }
+    ensures { λ r. ⌜ Wrote (lineOf event controller total (take size names)) (now (tail .entry)) (now (tail .exit)) r ⌝ }
 {
     let count = numbers::at_most(size, 64);
     if count == 0 {
@@ -167,7 +167,6 @@ pub fn put_line(
             written: 0,
         };
     }
-    let total = panel.total;
     let mut buffer = [0u8; LINE];
     let end = store_line(&mut buffer, event, controller, total, names, count);
     put_whole(tail, &buffer[..end])

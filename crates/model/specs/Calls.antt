@@ -3,15 +3,15 @@ use Prim.Native.Nat.{ℕ}
 use mathlib.Core.Bool.{Bool, false, cond}
 use mathlib.Core.List.{List, [], _∷_}
 use lib.ListN.{length, replicate}
+use lib.IntN.{ℤ, pos}
 use lib.Dec.{eqb}
 use Rattle.lists.specs.Build.{over, overlay}
 use Rattle.model.specs.Tables.{capacity, scratchSize, noName, noPanel, fresh, zeroTable}
 use Rattle.model.specs.Events.{subject, next, appliedBy, panelOf, namesOf, finishes}
 use Rattle.model.specs.Records.{behind, decode}
 use Rattle.model.specs.WellFormed.{named}
-use Rattle.model.specs.Questions.{ask, firstNo, controllerCount, lentTable, stepQuestions}
+use Rattle.model.specs.Questions.{ask, firstNo, versionKnown, controllerCount, lentTable, stepQuestions}
 use Rattle.model.specs.declared.Name.{Name}
-use Rattle.model.specs.declared.Panel.{Panel}
 use Rattle.model.specs.declared.Table.{Table}
 use Rattle.model.specs.declared.Answer.{Answer}
 use Rattle.model.specs.declared.FreshAnswer.{FreshAnswer}
@@ -20,12 +20,12 @@ use Rattle.model.specs.declared.LookAnswer.{LookAnswer}
 -- THE SINGLE EVENT
 
 -- The answer: the refusal number, 0 if accepted; the set applied, by sender and then number; whether a sync of the
--- receiver's own is in it, and then that sync's answer, what the panel shows after the set; the unread rest of the bytes.
+-- receiver's own is in it, and then that sync's answer, the total after the set; the unread rest of the bytes.
 pub record EventAnswer : Type 0 where
   pub number : ℕ
   pub names : List Name
   pub finished : Bool
-  pub panel : Panel
+  pub total : ℤ
   pub rest : List ℕ
 
 -- what an event call leaves besides
@@ -35,17 +35,17 @@ pub record Outcome : Type 0 where
 
 unfoldable pub accepted : Table → List ℕ → Outcome
 accepted t s =
-    let e = decode s in
+    let e = decode (t .version) s in
     let t′ = next t e in
     let S = appliedBy t e in
     let f = finishes t S (subject e) in
-    let p = panelOf t′ (subject e) in
+    let z = panelOf t′ (subject e) .total in
     record {
       answer = record {
         number = 0;
         names = namesOf t S;
         finished = f;
-        panel = cond f p noPanel;
+        total = cond f z (pos 0);
         rest = behind s;
       };
       table = t′;
@@ -53,7 +53,7 @@ accepted t s =
 
 unfoldable pub refused : Table → List ℕ → ℕ → Outcome
 refused t s k = record {
-  answer = record { number = k; names = []; finished = false; panel = noPanel; rest = s };
+  answer = record { number = k; names = []; finished = false; total = pos 0; rest = s };
   table = t;
 }
 
@@ -82,17 +82,17 @@ unfoldable pub answerOf : EventAnswer → Answer
 answerOf a = record {
   number = a .number;
   finished = cond (a .finished) 1 0;
-  panel = a .panel;
+  total = a .total;
   size = length (a .names);
   names = overlay (a .names) (replicate capacity noName);
 }
 
 -- THE FRESH TABLE
 
-unfoldable pub freshTable : ℕ → FreshAnswer
-freshTable n =
-    let k = firstNo (controllerCount n ∷ []) in
-    record { number = k; table = cond (eqb k 0) (fresh n) zeroTable }
+unfoldable pub freshTable : ℕ → ℕ → FreshAnswer
+freshTable v n =
+    let k = firstNo (versionKnown v ∷ controllerCount n ∷ []) in
+    record { number = k; table = cond (eqb k 0) (fresh v n) zeroTable }
 
 -- THE PANEL LOOK (a local read)
 

@@ -3,11 +3,11 @@ use Prim.Native.Nat.{ℕ, zero, suc, _+_, max}
 use mathlib.Core.Bool.{Bool, _&&_, _||_, cond}
 use mathlib.Core.List.{List, [], _∷_}
 use lib.ListN.{getD}
-use lib.IntN.{pos, _-ℤ_}
+use lib.IntN.{ℤ, pos, _-ℤ_}
 use lib.Dec.{eqb, leb, ltb}
 use Rattle.lists.specs.Below.{count, sum, greatest}
 use Rattle.lists.specs.Build.{tabulate}
-use Rattle.model.specs.Tables.{seats, capacity, messageNumber, messageOf, unheld, at, message, slotAt, place, entry, held, applied, highest, withController, withMessage, withEntry, withRead, withMark, withDelivered, withStop}
+use Rattle.model.specs.Tables.{seats, capacity, classCount, messageNumber, messageOf, unheld, at, message, slotAt, place, entry, held, applied, highest, withController, withMessage, withEntry, withRead, withMark, withDelivered, withStop}
 use Rattle.model.specs.Delivery.{Slots, has, applicable}
 use Rattle.model.specs.declared.Payload.{Payload}
 use Rattle.model.specs.declared.Message.{Message}
@@ -97,15 +97,27 @@ appliedBy t (Send c p) = []
 appliedBy t (Handover r o) = handoverSet t r o
 appliedBy t (Stop c k) = []
 
--- WHAT A PANEL SHOWS (a local read): the counter of Algorithm 4, widened to signed amounts
+-- WHAT A PANEL SHOWS (a local read): the counter of Algorithm 4, widened to signed amounts, of all messages and of each class
 
 -- the sum of a weight over what x has applied
 unfoldable pub weigh : (Payload → ℕ) → Table → Controller → ℕ
 weigh w t x = sum (t .count) (λ s. let v = w (message t s .payload) in cond (applied x s) v 0)
 
--- the panel of a controller that is x
+-- what x has applied of what was added, less what was withdrawn
+unfoldable pub total : Table → Controller → ℤ
+total t x = pos (weigh (λ p. p .added) t x) -ℤ pos (weigh (λ p. p .withdrawn) t x)
+
+-- a weight of the payloads of class k alone
+abbrev pub ofClass : ℕ → (Payload → ℕ) → Payload → ℕ
+ofClass k w p = cond (eqb (p .class) k) (w p) 0
+
+-- the same of class k
+unfoldable pub classTotal : Table → Controller → ℕ → ℤ
+classTotal t x k = pos (weigh (ofClass k (λ p. p .added)) t x) -ℤ pos (weigh (ofClass k (λ p. p .withdrawn)) t x)
+
+-- the panel of a controller that is x: the total, and that of each class from 0
 unfoldable pub shown : Table → Controller → Panel
-shown t x = record { total = pos (weigh (λ p. p .added) t x) -ℤ pos (weigh (λ p. p .withdrawn) t x) }
+shown t x = record { total = total t x; classes = tabulate classCount (classTotal t x) }
 
 -- the panel of controller c
 unfoldable pub panelOf : Table → ℕ → Panel

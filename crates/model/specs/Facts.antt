@@ -6,7 +6,7 @@ use mathlib.Core.Logic.{_⊎_}
 use Prim.Native.Nat.{ℕ, _≤_, _<_}
 pub use Rattle.model.specs.Tables.{Among}
 use Rattle.model.specs.Tables.{seats, capacity, absent, yes?, at, message, slotAt, place, entry, held, mark, applied, highest}
-use Rattle.model.specs.WellFormed.{inLog, greatestApplied, fairAmount}
+use Rattle.model.specs.WellFormed.{inLog, greatestApplied, fairAmount, fairClass, known}
 use Rattle.model.specs.declared.Controller.{Controller}
 use Rattle.model.specs.declared.Table.{Table}
 
@@ -35,7 +35,8 @@ pub record GoodController (t : Table) (i : ℕ) (c : Controller) : Type 0 where
   pub long : yes? (c .running) ≡ true → (s : ℕ) → s < t .count → message t s .sender ≡ i → message t s .number .0 ≤ c .length
 
 pub record WellFormed (t : Table) : Type 0 where
-  -- "n and the message count are in range"
+  -- the version is 1 or 2; "n and the message count are in range"
+  pub version : known (t .version) ≡ true
   pub some : 0 < t .n
   pub few : t .n ≤ seats
   pub counted : t .count ≤ capacity
@@ -45,4 +46,6 @@ pub record WellFormed (t : Table) : Type 0 where
   pub senders : (s : ℕ) → s < t .count → Among (t .n) (message t s .sender)
   pub numbers : (s : ℕ) → s < t .count → (0 < message t s .number .0) × (message t s .number .0 ≤ 64)
   pub amounts : (s : ℕ) → s < t .count → fairAmount (message t s .payload) ≡ true
+  -- and classes as in question 17
+  pub classes : (s : ℕ) → s < t .count → fairClass (t .version) (message t s .payload) ≡ true
   pub controllers : (c : ℕ) → Among (t .n) c → GoodController t c (at t c)

@@ -5,8 +5,8 @@ use Rattle.model.specs.declared.Message.{Message}
 use Rattle.model.specs.declared.Controller.{Controller}
 use Rattle.model.specs.declared.Table.{Table}
 
-abbrev pub whole : ℕ → ℕ → List Message → List Controller → Table
-whole n k M C = record { n = n; count = k; messages = M; controllers = C }
+abbrev pub whole : ℕ → ℕ → ℕ → List Message → List Controller → Table
+whole v n k M C = record { version = v; n = n; count = k; messages = M; controllers = C }
 
-abbrev pub part : ℕ → ℕ → List Message → Table
-part n k M = whole n k M []
+abbrev pub part : ℕ → ℕ → ℕ → List Message → Table
+part v n k M = whole v n k M []

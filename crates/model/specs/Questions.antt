@@ -7,7 +7,7 @@ use lib.Dec.{eqb, leb, ltb}
 use Rattle.lists.specs.Below.{count, all}
 use Rattle.model.specs.Tables.{seats, capacity, scratchSize, yes?, at, message, place, held}
 use Rattle.model.specs.Records.{byte, size, kind, sizeOf, decode}
-use Rattle.model.specs.WellFormed.{named, fairAmount, wellFormed}
+use Rattle.model.specs.WellFormed.{named, fairAmount, fairClass, known, wellFormed}
 use Rattle.model.specs.declared.Table.{Table}
 use Rattle.model.specs.declared.Event.{Event}
 use Rattle.model.specs.declared.Event.the-variants.{Send, Handover, Stop}
@@ -25,14 +25,17 @@ unfoldable pub firstNo : List Question → ℕ
 firstNo [] = 0
 firstNo (q ∷ qs) = let r = firstNo qs in cond (q .yes) r (q .number)
 
--- questions 1 to 3, put to a file; 3 also to a request for a fresh table
+-- questions 1 to 3, put to a file; 2 and 3 also to a request for a fresh table
+unfoldable pub versionKnown : ℕ → Question
+versionKnown v = ask 2 (known v)
+
 unfoldable pub controllerCount : ℕ → Question
 controllerCount n = ask 3 (ltb 0 n && leb n seats)
 
 unfoldable pub fileQuestions : List ℕ → List Question
 fileQuestions s =
     ask 1 (leb 2 (length s) && leb (length s) 65535)
-    ∷ ask 2 (eqb (byte s 0) 1)
+    ∷ versionKnown (byte s 0)
     ∷ controllerCount (byte s 1)
     ∷ []
 
@@ -40,16 +43,16 @@ fileQuestions s =
 unfoldable pub lentTable : Table → Question
 lentTable t = ask 4 (wellFormed t)
 
--- questions 6 and 7, of a record of this kind with so many bytes behind its length byte
-unfoldable pub kindQuestions : ℕ → ℕ → List Question
-kindQuestions n k =
+-- questions 6 and 7, in version v, of a record of this kind with so many bytes behind its length byte
+unfoldable pub kindQuestions : ℕ → ℕ → ℕ → List Question
+kindQuestions v n k =
     ask 6 (ltb 0 n && (ltb 0 k && leb k 4))
-    ∷ ask 7 (eqb n (sizeOf k))
+    ∷ ask 7 (eqb n (sizeOf v k))
     ∷ []
 
 -- questions 5 to 7, of the record that the bytes begin with
-unfoldable pub recordQuestions : List ℕ → List Question
-recordQuestions s = ask 5 (ltb (size s) (length s)) ∷ kindQuestions (size s) (kind s)
+unfoldable pub recordQuestions : ℕ → List ℕ → List Question
+recordQuestions v s = ask 5 (ltb (size s) (length s)) ∷ kindQuestions v (size s) (kind s)
 
 -- 11: c has a message of its own in its buffer
 unfoldable pub ownPending : Table → ℕ → Bool
@@ -63,11 +66,13 @@ unread t r o = ltb (place (at t r) o) (at t o .length)
 unfoldable pub keepable : Table → ℕ → ℕ → Bool
 keepable t c k = leb k (at t c .length) && all (t .n) (λ r. leb (place (at t (suc r)) c) k)
 
--- questions 8 to 14, by the kind of event
+-- questions 8 to 14 and 17, by the kind of event
 unfoldable pub eventQuestions : Table → Event → List Question
 eventQuestions t (Send c p) =
     ask 8 (named t c)
-    ∷ ask 9 (fairAmount p) ∷ ask 10 (yes? (at t c .running))
+    ∷ ask 9 (fairAmount p)
+    ∷ ask 17 (fairClass (t .version) p)
+    ∷ ask 10 (yes? (at t c .running))
     ∷ ask 11 (not (ownPending t c))
     ∷ ask 12 (ltb (t .count) capacity)
     ∷ []
@@ -86,9 +91,9 @@ eventQuestions t (Stop c k) =
 unfoldable pub scratchRoom : ℕ → Question
 scratchRoom room = ask 15 (leb scratchSize room)
 
--- questions 5 to 15
+-- questions 5 to 15 and 17, the record's bytes read as the table's version says
 unfoldable pub stepQuestions : Table → List ℕ → ℕ → List Question
-stepQuestions t s room = recordQuestions s ++ (eventQuestions t (decode s) ++ (scratchRoom room ∷ []))
+stepQuestions t s room = recordQuestions (t .version) s ++ (eventQuestions t (decode (t .version) s) ++ (scratchRoom room ∷ []))
 
 -- question 16: a line of so many bytes fits in what is left of the listing
 unfoldable pub lineFits : ℕ → ℕ → Question

@@ -12,7 +12,6 @@ use Rattle.model.specs.Records.{byte, behind, decode}
 use Rattle.model.specs.Questions.{ask, firstNo, fileQuestions, lineFits}
 use Rattle.model.specs.Calls.{step, cleared}
 use Rattle.model.specs.declared.Name.{Name}
-use Rattle.model.specs.declared.Panel.{Panel}
 use Rattle.model.specs.declared.Table.{Table}
 use Rattle.model.specs.declared.RunAnswer.{RunAnswer}
 
@@ -38,14 +37,14 @@ unfoldable pub nameFields : List Name → List ℕ
 nameFields [] = []
 nameFields (m ∷ ms) = (32 ∷ decimal (m .sender)) ++ ((46 ∷ decimal (m .number .0)) ++ nameFields ms)
 
--- the line of event number e, in which controller c applied a set and its panel then shows p
-unfoldable pub line : ℕ → ℕ → Panel → List Name → List ℕ
-line e c p ms = decimal e ++ ((32 ∷ decimal c) ++ ((32 ∷ signed (p .total)) ++ (nameFields ms ++ (10 ∷ []))))
+-- the line of event number e, in which controller c applied a set and its total is then z
+unfoldable pub line : ℕ → ℕ → ℤ → List Name → List ℕ
+line e c z ms = decimal e ++ ((32 ∷ decimal c) ++ ((32 ∷ signed z) ++ (nameFields ms ++ (10 ∷ []))))
 
 -- no line for an empty set
-unfoldable pub lineOf : ℕ → ℕ → Panel → List Name → List ℕ
-lineOf e c p [] = []
-lineOf e c p (m ∷ ms) = line e c p (m ∷ ms)
+unfoldable pub lineOf : ℕ → ℕ → ℤ → List Name → List ℕ
+lineOf e c z [] = []
+lineOf e c z (m ∷ ms) = line e c z (m ∷ ms)
 
 -- ONE RECORD OF A RUN. The scratch area has `room` bytes and the listing `space`.
 
@@ -60,8 +59,8 @@ pub record Progress : Type 0 where
 unfoldable pub lineAt : Progress → List ℕ → ℕ → List ℕ
 lineAt p s room =
     let o = step (p .table) s room in
-    let c = subject (decode s) in
-    lineOf (p .events + 1) c (panelOf (o .table) c) (o .answer .names)
+    let c = subject (decode (p .table .version) s) in
+    lineOf (p .events + 1) c (panelOf (o .table) c .total) (o .answer .names)
 
 -- its refusal number, question 16 put last
 unfoldable pub verdict : Progress → List ℕ → ℕ → ℕ → ℕ
@@ -93,12 +92,12 @@ records (suc f) p (b ∷ s) room space =
     let on = records f q (behind (b ∷ s)) room space in
     cond (eqb (q .number) 0) on q
 
-unfoldable pub begun : ℕ → Progress
-begun n = record { number = 0; events = 0; lines = []; table = fresh n }
+unfoldable pub begun : ℕ → ℕ → Progress
+begun v n = record { number = 0; events = 0; lines = []; table = fresh v n }
 
 -- the records of a whole file, of which there are fewer than bytes
 unfoldable pub progress : List ℕ → ℕ → ℕ → Progress
-progress s room space = records (length s) (begun (byte s 1)) (drop 2 s) room space
+progress s room space = records (length s) (begun (byte s 0) (byte s 1)) (drop 2 s) room space
 
 -- what a file run answers, and what it leaves
 pub record RunOutcome : Type 0 where

@@ -25,6 +25,13 @@ seats = 7
 abbrev pub capacity : ℕ
 capacity = 64
 
+-- weight classes: 1 XL, 2 L, 3 M, 4 S, and 0 for reports of version 1, which name none
+abbrev pub lastClass : ℕ
+lastClass = 4
+
+abbrev pub classCount : ℕ
+classCount = 5
+
 -- the scratch bytes that an event asks for
 abbrev pub scratchSize : ℕ
 scratchSize = 4096
@@ -44,11 +51,12 @@ yes? f = ltb 0 f
 
 -- MESSAGES
 
-abbrev pub report : ℕ → ℕ → Payload
-report a w = record { kind = 1; spare = 0; added = a; withdrawn = w }
+-- a report's class, what it adds and what it withdraws; class 0 is none
+abbrev pub report : ℕ → ℕ → ℕ → Payload
+report k a w = record { kind = 1; class = k; added = a; withdrawn = w }
 
 abbrev pub sync : Payload
-sync = record { kind = 2; spare = 0; added = 0; withdrawn = 0 }
+sync = record { kind = 2; class = 0; added = 0; withdrawn = 0 }
 
 -- a place in a log, and a sender's number: separate counters, each from 1
 abbrev pub forwardNumber : ℕ → ForwardNumber
@@ -69,11 +77,11 @@ abbrev pub noName : Name
 noName = record { sender = 0; number = none }
 
 abbrev pub noMessage : Message
-noMessage = record { sender = 0; number = none; payload = record { kind = 0; spare = 0; added = 0; withdrawn = 0 } }
+noMessage = record { sender = 0; number = none; payload = record { kind = 0; class = 0; added = 0; withdrawn = 0 } }
 
 -- a panel that shows nothing, as refusals answer it
 abbrev pub noPanel : Panel
-noPanel = record { total = pos 0 }
+noPanel = record { total = pos 0; classes = replicate classCount (pos 0) }
 
 abbrev pub noPending : Pending
 noPending = record { held = 0; marks = [] }
@@ -103,16 +111,16 @@ idle f m = record {
   running = f;
 }
 
-unfoldable pub start : ℕ → ℕ → ℕ → Table
-start n f m = record { n = n; count = 0; messages = replicate 64 noMessage; controllers = replicate 7 (idle f m) }
+unfoldable pub start : ℕ → ℕ → ℕ → ℕ → Table
+start v n f m = record { version = v; n = n; count = 0; messages = replicate 64 noMessage; controllers = replicate 7 (idle f m) }
 
--- all n controllers run
-unfoldable pub fresh : ℕ → Table
-fresh n = start n 1 absent
+-- of files of version v; all n controllers run
+unfoldable pub fresh : ℕ → ℕ → Table
+fresh v n = start v n 1 absent
 
 -- every field is zero
 unfoldable pub zeroTable : Table
-zeroTable = start 0 0 0
+zeroTable = start 0 0 0 0
 
 -- READS
 
@@ -154,11 +162,11 @@ highest c x = (getD (c .highest) (x - 1) none) .0
 -- REPLACEMENTS, one for each part that changes
 
 unfoldable pub withController : Table → ℕ → Controller → Table
-withController t c x = record { n = t .n; count = t .count; messages = t .messages; controllers = set (t .controllers) (c - 1) x }
+withController t c x = record { version = t .version; n = t .n; count = t .count; messages = t .messages; controllers = set (t .controllers) (c - 1) x }
 
 -- one message more, in the next slot
 unfoldable pub withMessage : Table → Message → Table
-withMessage t m = record { n = t .n; count = t .count + 1; messages = set (t .messages) (t .count) m; controllers = t .controllers }
+withMessage t m = record { version = t .version; n = t .n; count = t .count + 1; messages = set (t .messages) (t .count) m; controllers = t .controllers }
 
 -- a slot at the end of the log
 abbrev pub withEntry : Controller → ℕ → Controller

@@ -3,7 +3,7 @@ use Prim.Native.Nat.{ℕ, suc}
 use mathlib.Core.Bool.{Bool, not, _&&_, _||_, Bool·beq, cond}
 use lib.Dec.{eqb, leb, ltb}
 use Rattle.lists.specs.Below.{count, all, distinct, greatest}
-use Rattle.model.specs.Tables.{seats, capacity, absent, yes?, at, message, slotAt, place, entry, held, mark, applied, highest}
+use Rattle.model.specs.Tables.{seats, capacity, lastClass, absent, yes?, at, message, slotAt, place, entry, held, mark, applied, highest}
 use Rattle.model.specs.Events.{numberOf}
 use Rattle.model.specs.declared.Payload.{Payload}
 use Rattle.model.specs.declared.Message.{Message}
@@ -23,6 +23,10 @@ fairAmount p =
     eqb (p .kind) 1 && (fairMagnitude (p .added) && eqb (p .withdrawn) 0 || eqb (p .added) 0 && fairMagnitude (p .withdrawn))
     || eqb (p .kind) 2 && (eqb (p .added) 0 && eqb (p .withdrawn) 0)
 
+-- A report of version 2 has a class from 1 to 4; every other message has class 0.
+unfoldable pub fairClass : ℕ → Payload → Bool
+fairClass v p = cond (eqb v 2 && eqb (p .kind) 1) (ltb 0 (p .class) && leb (p .class) lastClass) (eqb (p .class) 0)
+
 unfoldable pub sameName : Message → Message → Bool
 sameName a b = eqb (a .sender) (b .sender) && eqb (a .number .0) (b .number .0)
 
@@ -34,13 +38,19 @@ inLog c s = ltb 0 (count (c .length) (λ k. eqb (slotAt c k) s))
 unfoldable pub greatestApplied : Table → Controller → ℕ → ℕ
 greatestApplied t c x = greatest (t .count) (λ s. let k = numberOf x (message t s) in cond (applied c s) k 0)
 
--- "n and the message count are in range"
-unfoldable pub inRange : Table → Bool
-inRange t = ltb 0 (t .n) && (leb (t .n) seats && leb (t .count) capacity)
+-- a version of run files
+unfoldable pub known : ℕ → Bool
+known v = eqb v 1 || eqb v 2
 
--- "messages have distinct names, senders 1 to n, numbers 1 to 64, and reports have amounts as in question 9"
+-- the version is 1 or 2; "n and the message count are in range"
+unfoldable pub inRange : Table → Bool
+inRange t = known (t .version) && (ltb 0 (t .n) && (leb (t .n) seats && leb (t .count) capacity))
+
+-- "messages have distinct names, senders 1 to n, numbers 1 to 64, and reports have amounts as in question 9", and classes as in 17
 unfoldable pub goodMessage : Table → Message → Bool
-goodMessage t m = named t (m .sender) && (ltb 0 (m .number .0) && (leb (m .number .0) 64 && fairAmount (m .payload)))
+goodMessage t m =
+    named t (m .sender)
+    && (ltb 0 (m .number .0) && (leb (m .number .0) 64 && (fairAmount (m .payload) && fairClass (t .version) (m .payload))))
 
 unfoldable pub goodMessages : Table → Bool
 goodMessages t =

@@ -2,8 +2,8 @@
 ghost use mathlib.Core.Path.{_≡_};
 ghost use mathlib.Core.Bool.{cond};
 ghost use lib.Dec.{eqb};
-ghost use Rattle.model.specs.WellFormed.{fairMagnitude, fairAmount};
-ghost use Rattle.model.specs.Tables.{report, sync, messageOf, forwardNumber, messageNumber, start, fresh, zeroTable};
+ghost use Rattle.model.specs.WellFormed.{fairMagnitude, fairAmount, fairClass, known};
+ghost use Rattle.model.specs.Tables.{report, sync, messageOf, forwardNumber, messageNumber, start, fresh, zeroTable, noPanel};
 
 pub mod refusal;
 
@@ -15,12 +15,12 @@ pub struct ForwardNumber(pub u8);
 #[repr(C)]
 pub struct MessageNumber(pub u8);
 
-// What a message says: kind 1 is a report and 2 a sync; the amount is two magnitudes, at most one of them not 0. The
-// spare byte fills the place of a hole: it is written 0, and neither tested nor used.
+// What a message says: kind 1 is a report and 2 a sync; a report's weight class, 0 for none; the amount is two magnitudes,
+// at most one of them not 0.
 #[repr(C)]
 pub struct Payload {
     pub kind: u8,
-    pub spare: u8,
+    pub class: u8,
     pub added: u16,
     pub withdrawn: u16,
 }
@@ -59,29 +59,31 @@ pub struct Controller {
     pub running: u8,
 }
 
-// The whole machine: how many controllers and messages there are, the messages in the order sent, the controllers. No
-// field of a table, or of what stands in it, has padding before or behind it.
+// The whole machine: the version that its records are read in, how many controllers and messages there are, the messages in
+// the order sent, the controllers. No field of a table, or of what stands in it, has padding before or behind it.
 #[repr(C)]
 pub struct Table {
+    pub version: usize,
     pub n: usize,
     pub count: usize,
     pub messages: [Message; 64],
     pub controllers: [Controller; 7],
 }
 
-// What a panel shows (a local read): the total of what its controller has applied.
+// What a panel shows (a local read): the total of what its controller has applied, and that of each class, from 0 for none.
 #[repr(C)]
 pub struct Panel {
     pub total: i32,
+    pub classes: [i32; 5],
 }
 
 // What the single-event call answers: the refusal number, 0 if accepted; whether a sync of the receiver's own is in the
-// set applied, and then its answer; how many messages are in the set, and their names, zeros behind them.
+// set applied, and then its answer, the total after the set; how many messages are in the set, and their names, zeros behind them.
 #[repr(C)]
 pub struct Answer {
     pub number: u8,
     pub finished: u8,
-    pub panel: Panel,
+    pub total: i32,
     pub size: usize,
     pub names: [Name; 64],
 }
@@ -145,12 +147,15 @@ impl Payload {
 
     pub const AMOUNT: u16 = 360;
 
-    pub fn report(added: u16, withdrawn: u16) -> Payload
-        ensures { λ r. ⌜ r ≡ report added withdrawn ⌝ }
+    // The weight classes are 1 XL, 2 L, 3 M, 4 S.
+    pub const LAST_CLASS: u8 = 4;
+
+    pub fn report(class: u8, added: u16, withdrawn: u16) -> Payload
+        ensures { λ r. ⌜ r ≡ report class added withdrawn ⌝ }
     {
         Payload {
             kind: Payload::REPORT,
-            spare: 0,
+            class,
             added,
             withdrawn,
         }
@@ -161,7 +166,7 @@ impl Payload {
     {
         Payload {
             kind: Payload::SYNC,
-            spare: 0,
+            class: 0,
             added: 0,
             withdrawn: 0,
         }
@@ -182,6 +187,28 @@ impl Payload {
         ((p.kind == Payload::REPORT) & (a | w))
             | ((p.kind == Payload::SYNC) & ((p.added == 0) & (p.withdrawn == 0)))
     }
+
+    // A report of version 2 has one of the weight classes; every other message has none.
+    pub fn fair_class(version: usize, p: Payload) -> bool
+        ensures { λ r. ⌜ r ≡ fairClass version p ⌝ }
+    {
+        if (version == Table::CLASSED) & (p.kind == Payload::REPORT) {
+            return (0 < p.class) & (p.class <= Payload::LAST_CLASS);
+        }
+        p.class == 0
+    }
+}
+
+impl Panel {
+    // The panel that shows nothing, which a refused look answers.
+    pub fn zero() -> Panel
+        ensures { λ r. ⌜ r ≡ noPanel ⌝ }
+    {
+        Panel {
+            total: 0,
+            classes: [0; 5],
+        }
+    }
 }
 
 impl Message {
@@ -197,22 +224,25 @@ impl Message {
 }
 
 impl Table {
+    // The version of files whose reports name a class, and the last version.
+    pub const CLASSED: usize = 2;
+
     pub const CONTROLLERS: usize = 7;
 
     pub const MESSAGES: usize = 64;
 
     pub const SCRATCH: usize = 4096;
 
-    // A table in which nothing was sent, of n controllers with this flag, every mark being `mark`.
-    fn start(n: usize, running: u8, mark: u8) -> Table
-        ensures { λ r. ⌜ r ≡ start n running mark ⌝ }
+    // A table of a version in which nothing was sent, of n controllers with this flag, every mark being `mark`.
+    fn start(version: usize, n: usize, running: u8, mark: u8) -> Table
+        ensures { λ r. ⌜ r ≡ start version n running mark ⌝ }
     {
         let none = Message {
             sender: 0,
             number: MessageNumber(MessageNumber::NONE),
             payload: Payload {
                 kind: 0,
-                spare: 0,
+                class: 0,
                 added: 0,
                 withdrawn: 0,
             },
@@ -231,6 +261,7 @@ impl Table {
             running,
         };
         Table {
+            version,
             n,
             count: 0,
             messages: [none; 64],
@@ -238,27 +269,34 @@ impl Table {
         }
     }
 
-    // A table of n controllers in which nothing was sent.
-    pub fn fresh(n: usize) -> Table
-        ensures { λ r. ⌜ r ≡ fresh n ⌝ }
+    // A table of a version, of n controllers, in which nothing was sent.
+    pub fn fresh(version: usize, n: usize) -> Table
+        ensures { λ r. ⌜ r ≡ fresh version n ⌝ }
     {
-        Table::start(n, 1, ForwardNumber::ABSENT)
+        Table::start(version, n, 1, ForwardNumber::ABSENT)
     }
 
     // The table with every field zero, which a refused request answers.
     pub fn zero() -> Table
         ensures { λ r. ⌜ r ≡ zeroTable ⌝ }
     {
-        Table::start(0, 0, 0)
+        Table::start(0, 0, 0, 0)
+    }
+
+    // A version of run files.
+    pub fn known(version: usize) -> bool
+        ensures { λ r. ⌜ r ≡ known version ⌝ }
+    {
+        (version == 1) | (version == Table::CLASSED)
     }
 
     // The table that a run begins with: fresh, or zero in every field where its file is refused.
-    pub fn opened(number: u8, n: usize) -> Table
-        ensures { λ r. ⌜ r ≡ cond (eqb number 0) (fresh n) zeroTable ⌝ }
+    pub fn opened(number: u8, version: usize, n: usize) -> Table
+        ensures { λ r. ⌜ r ≡ cond (eqb number 0) (fresh version n) zeroTable ⌝ }
     {
         if number != 0 {
-            return Table::start(0, 0, 0);
+            return Table::start(0, 0, 0, 0);
         }
-        Table::start(n, 1, ForwardNumber::ABSENT)
+        Table::start(version, n, 1, ForwardNumber::ABSENT)
     }
 }

@@ -6,7 +6,7 @@ pub const ACCEPTED: u8 = 0;
 // Has the file 2 to 65,535 bytes?
 pub const FILE_LENGTH: u8 = 1;
 
-// Is the version 1?
+// Is the version 1 or 2?
 pub const VERSION: u8 = 2;
 
 // Is the number of controllers from 1 to 7?
@@ -50,3 +50,6 @@ pub const SCRATCH_LENGTH: u8 = 15;
 
 // Does the line fit in what is left of the listing?
 pub const LISTING_LENGTH: u8 = 16;
+
+// Is the class of a report of version 2 from 1 to 4?
+pub const CLASS: u8 = 17;

@@ -1,4 +1,4 @@
-// Questions 8 to 14, on every table. Past the last controller the definitions read zeros; no value of the
+// Questions 8 to 14 and 17, on every table. Past the last controller the definitions read zeros; no value of the
 // type has empty arrays, so each function that reads a controller answers that case by itself. A function that indexes an
 // array of the table copies it, so a handover and a report have the controllers read in one function.
 ghost use mathlib.Core.Path.{_≡_};
@@ -47,6 +47,7 @@ fn room_refusal(count: usize, messages: [Message; 64], pending: [Pending; 64], c
 }
 
 fn send_refusal(
+    version: usize,
     n: usize,
     count: usize,
     messages: [Message; 64],
@@ -54,13 +55,16 @@ fn send_refusal(
     sender: u8,
     payload: Payload,
 ) -> u8
-    ensures { λ r. ⌜ r ≡ firstNo (eventQuestions (whole n count messages controllers) (Send sender payload)) ⌝ }
+    ensures { λ r. ⌜ r ≡ firstNo (eventQuestions (whole version n count messages controllers) (Send sender payload)) ⌝ }
 {
     if !named(n, sender) {
         return refusal::CONTROLLER;
     }
     if !Payload::fair(payload) {
         return refusal::AMOUNT;
+    }
+    if !Payload::fair_class(version, payload) {
+        return refusal::CLASS;
     }
     let i = sender as usize - 1;
     if Table::CONTROLLERS <= i {
@@ -78,7 +82,7 @@ fn send_refusal(
 // A HANDOVER
 
 fn handover_refusal(n: usize, controllers: [Controller; 7], receiver: u8, owner: u8) -> u8
-    ensures { λ r. ⌜ r ≡ firstNo (eventQuestions (whole n 0 [] controllers) (Handover receiver owner)) ⌝ }
+    ensures { λ r. ⌜ r ≡ firstNo (eventQuestions (whole 0 n 0 [] controllers) (Handover receiver owner)) ⌝ }
 {
     if !(named(n, receiver) & named(n, owner)) {
         return refusal::CONTROLLER;
@@ -131,7 +135,7 @@ fn pick(controllers: [Controller; 7], i: usize) -> Controller
 }
 
 fn stop_refusal(n: usize, controllers: [Controller; 7], controller: u8, kept: usize) -> u8
-    ensures { λ r. ⌜ r ≡ firstNo (eventQuestions (whole n 0 [] controllers) (Stop controller kept)) ⌝ }
+    ensures { λ r. ⌜ r ≡ firstNo (eventQuestions (whole 0 n 0 [] controllers) (Stop controller kept)) ⌝ }
 {
     if !named(n, controller) {
         return refusal::CONTROLLER;
@@ -155,7 +159,7 @@ fn stop_refusal(n: usize, controllers: [Controller; 7], controller: u8, kept: us
     refusal::ACCEPTED
 }
 
-// The first no of questions 8 to 14, in their order for each kind of event.
+// The first no of questions 8 to 14 and 17, in their order for each kind of event.
 pub fn refusal(t: Table, e: Event) -> u8
     ensures { λ r. ⌜ r ≡ firstNo (eventQuestions t e) ⌝ }
 {
@@ -163,7 +167,7 @@ pub fn refusal(t: Table, e: Event) -> u8
     match e {
         Event::Send { sender, payload } => {
             let messages = t.messages;
-            send_refusal(t.n, t.count, messages, controllers, sender, payload)
+            send_refusal(t.version, t.n, t.count, messages, controllers, sender, payload)
         }
         Event::Handover { receiver, owner } => handover_refusal(t.n, controllers, receiver, owner),
         Event::Stop { controller, kept } => stop_refusal(t.n, controllers, controller, kept),

@@ -1,13 +1,14 @@
 // The record cutter and the decoder: what the bytes of a run file say, before any table is asked.
 use model::Event;
 use model::Payload;
+use model::Table;
 use model::refusal;
 ghost use mathlib.Core.Path.{_≡_};
 ghost use Prim.Native.Nat.{_<_};
 ghost use mathlib.Core.Bool.{_&&_};
 ghost use lib.Dec.{leb, ltb};
 ghost use lib.ListN.{drop};
-ghost use Rattle.model.specs.Records.{byte, word, sizeOf, amount, decode};
+ghost use Rattle.model.specs.Records.{byte, word, sizeOf, classIn, reported, decode};
 ghost use Rattle.model.specs.Questions.{firstNo, kindQuestions};
 ghost use Rattle.records.specs.Cuts.{cut, found, recordOf};
 
@@ -57,13 +58,16 @@ pub fn behind(bytes: &[u8], used: usize) -> &[u8]
     &bytes[have..]
 }
 
-// The lengths of the kinds 1 report, 2 sync, 3 handover, 4 stop.
+// The lengths of the kinds 1 report, 2 sync, 3 handover, 4 stop in version 1.
 const SIZES: [usize; 5] = [0, 4, 2, 3, 4];
 
-// The length of a record of a kind; 0 for what is no kind.
-fn size_of_kind(kind: u8) -> usize
-    ensures { λ r. ⌜ r ≡ sizeOf kind ⌝ }
+// The length of a record of a kind, in files of a version; 0 for what is no kind. A report of version 2 has a class byte more.
+fn size_of_kind(version: usize, kind: u8) -> usize
+    ensures { λ r. ⌜ r ≡ sizeOf version kind ⌝ }
 {
+    if (version == Table::CLASSED) & (kind == Payload::REPORT) {
+        return 5;
+    }
     if kind < 5 {
         return SIZES[kind as usize];
     }
@@ -81,13 +85,13 @@ fn has_kind(size: usize, kind: u8) -> bool
 }
 
 // The first no of questions 6 and 7.
-fn kind_refusal(size: usize, kind: u8) -> u8
-    ensures { λ r. ⌜ r ≡ firstNo (kindQuestions size kind) ⌝ }
+fn kind_refusal(version: usize, size: usize, kind: u8) -> u8
+    ensures { λ r. ⌜ r ≡ firstNo (kindQuestions version size kind) ⌝ }
 {
     if !has_kind(size, kind) {
         return refusal::KIND;
     }
-    let due = size_of_kind(kind);
+    let due = size_of_kind(version, kind);
     if size == due {
         refusal::ACCEPTED
     } else {
@@ -105,28 +109,38 @@ fn word_at(bytes: &[u8], i: usize) -> u16
     high * 256 + low
 }
 
-// A report of the amount that two bytes in two's complement name.
-fn amount_of(x: u16) -> Payload
-    ensures { λ r. ⌜ r ≡ amount x ⌝ }
+// The class of a report: the byte after the amount in version 2, and 0 in version 1.
+fn class_of(version: usize, bytes: &[u8]) -> u8
+    ensures { λ r. ⌜ r ≡ classIn version (now (bytes .entry)) ⌝ }
+{
+    if version == Table::CLASSED {
+        return byte_at(bytes, 5);
+    }
+    0
+}
+
+// A report of a class and of the amount that two bytes in two's complement name.
+fn report_of(class: u8, x: u16) -> Payload
+    ensures { λ r. ⌜ r ≡ reported class x ⌝ }
 {
     if x < 32768 {
-        return Payload::report(x, 0);
+        return Payload::report(class, x, 0);
     }
-    Payload::report(0, 65535 - x + 1)
+    Payload::report(class, 0, 65535 - x + 1)
 }
 
 const HANDOVER: u8 = 3;
 
 // The event of a record of kind 1 to 4 and of that kind's length.
-fn decode_record(bytes: &[u8]) -> Event
-    ensures { λ r. ⌜ r ≡ decode (now (bytes .entry)) ⌝ }
+fn decode_record(version: usize, bytes: &[u8]) -> Event
+    ensures { λ r. ⌜ r ≡ decode version (now (bytes .entry)) ⌝ }
 {
     let kind = byte_at(bytes, 1);
     let first = byte_at(bytes, 2);
     if kind == Payload::REPORT {
         return Event::Send {
             sender: first,
-            payload: amount_of(word_at(bytes, 3)),
+            payload: report_of(class_of(version, bytes), word_at(bytes, 3)),
         };
     }
     if kind == Payload::SYNC {
@@ -147,11 +161,11 @@ fn decode_record(bytes: &[u8]) -> Event
     }
 }
 
-// Cuts off the record at the head of the bytes, puts questions 5 to 7 to it and decodes it.
-pub fn read_record(bytes: &[u8]) -> Record
-    ensures { λ r. ⌜ r ≡ recordOf (now (bytes .entry)) ⌝ }
+// Cuts off the record at the head of the bytes, puts questions 5 to 7 to it and decodes it, as files of a version have it.
+pub fn read_record(version: usize, bytes: &[u8]) -> Record
+    ensures { λ r. ⌜ r ≡ recordOf version (now (bytes .entry)) ⌝ }
 {
-    let event = decode_record(bytes);
+    let event = decode_record(version, bytes);
     let Cut::Whole(size) = cut_record(bytes) else {
         return Record {
             number: refusal::RECORD,
@@ -159,7 +173,7 @@ pub fn read_record(bytes: &[u8]) -> Record
             event,
         };
     };
-    let number = kind_refusal(size, byte_at(bytes, 1));
+    let number = kind_refusal(version, size, byte_at(bytes, 1));
     if number != 0 {
         return Record {
             number,

@@ -23,12 +23,13 @@ use model::Table;
 
 // MESSAGES
 
-fn good_message(n: usize, m: Message) -> bool
-    ensures { λ r. ⌜ r ≡ goodMessage (part n 0 []) m ⌝ }
+fn good_message(version: usize, n: usize, m: Message) -> bool
+    ensures { λ r. ⌜ r ≡ goodMessage (part version n 0 []) m ⌝ }
 {
     let number = m.number.0 as usize;
     let named = (0 < m.sender) & ((m.sender as usize) <= n);
-    named & ((0 < number) & ((number <= Table::MESSAGES) & Payload::fair(m.payload)))
+    let fair = Payload::fair(m.payload) & Payload::fair_class(version, m.payload);
+    named & ((0 < number) & ((number <= Table::MESSAGES) & fair))
 }
 
 // Senders and numbers count from 1, and 0 has a place too.
@@ -39,14 +40,14 @@ const NUMBERS: usize = Table::MESSAGES + 1;
 // A name has a code of its own, below this.
 const CODES: usize = SENDERS * NUMBERS;
 
-fn good_messages(n: usize, count: usize, messages: [Message; 64]) -> bool
+fn good_messages(version: usize, n: usize, count: usize, messages: [Message; 64]) -> bool
     requires { ⌜ (n ≤ 7) × (count ≤ 64) ⌝ }
-    ensures { λ r. ⌜ r ≡ goodMessages (part n count messages) ⌝ }
+    ensures { λ r. ⌜ r ≡ goodMessages (part version n count messages) ⌝ }
 {
     let mut seen = [false; CODES];
     for s in 0..count {
         let m = messages[s];
-        if !good_message(n, m) {
+        if !good_message(version, n, m) {
             return false;
         }
         let code = (m.sender as usize) * NUMBERS + (m.number.0 as usize);
@@ -232,7 +233,7 @@ fn good_controller(
     c: Controller,
 ) -> bool
     requires { ⌜ (n ≤ 7) × (count ≤ 64) × Seated count messages × (now allowed ≡ tabulate 256 goodMark) ⌝ }
-    ensures { λ r. ⌜ r ≡ goodAlone (part n count messages) sent c ⌝ }
+    ensures { λ r. ⌜ r ≡ goodAlone (part 0 n count messages) sent c ⌝ }
 {
     let length = c.length;
     if Table::MESSAGES < length {
@@ -274,7 +275,7 @@ fn each_controller(
     controllers: [Controller; 7],
 ) -> bool
     requires { ⌜ (n ≤ 7) × (count ≤ 64) × Seated count messages ⌝ }
-    ensures { λ r. ⌜ r ≡ all n (λ i. goodController (whole n count messages controllers) (suc i) (at (whole n count messages controllers) (suc i))) ⌝ }
+    ensures { λ r. ⌜ r ≡ all n (λ i. goodController (whole 0 n count messages controllers) (suc i) (at (whole 0 n count messages controllers) (suc i))) ⌝ }
 {
     let ends = lengths(controllers);
     let every: [u8; 64] = [1; Table::MESSAGES];
@@ -295,13 +296,15 @@ fn each_controller(
 pub fn well_formed(t: Table) -> bool
     ensures { λ r. ⌜ r ≡ wellFormed t ⌝ }
 {
+    let version = t.version;
     let n = t.n;
     let count = t.count;
-    if !((0 < n) & ((n <= Table::CONTROLLERS) & (count <= Table::MESSAGES))) {
+    let some = (0 < n) & ((n <= Table::CONTROLLERS) & (count <= Table::MESSAGES));
+    if !(Table::known(version) & some) {
         return false;
     }
     let messages = t.messages;
-    if !good_messages(n, count, messages) {
+    if !good_messages(version, n, count, messages) {
         return false;
     }
     let controllers = t.controllers;
