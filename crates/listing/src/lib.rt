@@ -1,6 +1,5 @@
 // The lines of a listing, each written into the tail of the listing behind the line before.
 use model::Name;
-use model::Panel;
 use model::refusal;
 ghost use mathlib.Core.Path.{_≡_};
 ghost use mathlib.Core.List.{[], _∷_};
@@ -8,7 +7,7 @@ ghost use Prim.Native.Nat.{_+_, _≤_, _<_, min};
 ghost use lib.ListN.{length, take};
 ghost use lib.IntN.{natAbs};
 ghost use Rattle.model.specs.Runs.{decimal, signed, nameFields, line, lineOf, header, footer};
-ghost use Rattle.listing.specs.Writing.{showing, Wrote, Stored};
+ghost use Rattle.listing.specs.Writing.{Wrote, Stored};
 
 // What a writer answers: the refusal number, 0 if the line fits, and the bytes written.
 pub struct Put {

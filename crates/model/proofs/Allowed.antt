@@ -13,8 +13,8 @@ use Rattle.lists.proofs.Below.{count-pos}
 use Rattle.model.specs.Tables.{seats, capacity, yes?, at, message, place, held}
 use Rattle.model.specs.Events.{subject}
 use Rattle.model.specs.Records.{byte, decode}
-use Rattle.model.specs.WellFormed.{named, fairAmount}
-use Rattle.model.specs.Questions.{Question, ask, firstNo, controllerCount, fileQuestions, kindQuestions, recordQuestions, ownPending, unread, keepable, eventQuestions, scratchRoom, stepQuestions, lineFits}
+use Rattle.model.specs.WellFormed.{named, fairAmount, fairClass, known}
+use Rattle.model.specs.Questions.{Question, ask, firstNo, versionKnown, controllerCount, fileQuestions, kindQuestions, recordQuestions, ownPending, unread, keepable, eventQuestions, scratchRoom, stepQuestions, lineFits}
 use Rattle.model.specs.declared.Payload.{Payload}
 use Rattle.model.specs.declared.Table.{Table}
 use Rattle.model.specs.declared.Event.{Event}
@@ -43,21 +43,22 @@ no-no-append (more {k = k} {b = b} {qs = qs} n) rs e =
 
 pub event-numbered : (t : Table) (e : Event) → Numbered (eventQuestions t e)
 unfolding eventQuestions
-event-numbered t (Send c p) = more (more (more (more (more none))))
+event-numbered t (Send c p) = more (more (more (more (more (more none)))))
 event-numbered t (Handover r o) = more (more (more none))
 event-numbered t (Stop c k) = more (more (more none))
 
-pub record-numbered : (s : List ℕ) → Numbered (recordQuestions s)
+pub record-numbered : (v : ℕ) (s : List ℕ) → Numbered (recordQuestions v s)
 unfolding recordQuestions kindQuestions
-record-numbered s = more (more (more none))
+record-numbered v s = more (more (more none))
 
 -- the questions of a step: of the record, of the event, and of the scratch area
 pub step-asked : (t : Table) (s : List ℕ) (room : ℕ) → firstNo (stepQuestions t s room) ≡ 0
-    → (firstNo (recordQuestions s) ≡ 0) × (firstNo (eventQuestions t (decode s)) ≡ 0) × (firstNo (scratchRoom room ∷ []) ≡ 0)
+    → (firstNo (recordQuestions (t .version) s) ≡ 0) × (firstNo (eventQuestions t (decode (t .version) s)) ≡ 0) × (firstNo (scratchRoom room ∷ []) ≡ 0)
 unfolding stepQuestions
 step-asked t s room e =
-    let q = no-no-append (record-numbered s) (eventQuestions t (decode s) ++ (scratchRoom room ∷ [])) e in
-    let r = no-no-append (event-numbered t (decode s)) (scratchRoom room ∷ []) (q .1) in
+    let d = decode (t .version) s in
+    let q = no-no-append (record-numbered (t .version) s) (eventQuestions t d ++ (scratchRoom room ∷ [])) e in
+    let r = no-no-append (event-numbered t d) (scratchRoom room ∷ []) (q .1) in
     (q .0, r .0, r .1)
 
 -- a step's number, and question 16 of its line
@@ -67,34 +68,44 @@ line-asked k line left =
     cond-case (λ n. n ≡ 0 → (k ≡ 0) × (line ≤ left)) (eqb k 0) _ _
     (λ q v. (eqb-true k 0 q, leb-true line left (no-no 15 (leb line left) [] v .0))) (λ q v. absurd (eqb-false k 0 q v))
 
--- question 3, of a file or of a request for a fresh table
+-- questions 2 and 3, of a file or of a request for a fresh table
 pub count-asked : (n : ℕ) → firstNo (controllerCount n ∷ []) ≡ 0 → (0 < n) × (n ≤ seats)
 unfolding controllerCount
 count-asked n e =
     let a = no-no 2 (ltb 0 n && leb n seats) [] e .0 in
     (ltb-true 0 n (and-left (ltb 0 n) (leb n seats) a), leb-true n seats (and-right (ltb 0 n) (leb n seats) a))
 
+pub record FreshAllowed (v n : ℕ) : Type 0 where
+  pub version : known v ≡ true
+  pub some : 0 < n
+  pub few : n ≤ seats
+
+pub fresh-allowed : (v n : ℕ) → firstNo (versionKnown v ∷ controllerCount n ∷ []) ≡ 0 → FreshAllowed v n
+unfolding versionKnown
+fresh-allowed v n e =
+    let q2 = no-no 1 (known v) _ e in
+    let q3 = count-asked n (q2 .1) in
+    record { version = q2 .0; some = q3 .0; few = q3 .1 }
+
 pub record FileAllowed (s : List ℕ) : Type 0 where
   pub long : 2 ≤ length s
   pub short : length s ≤ 65535
-  pub some : 0 < byte s 1
-  pub few : byte s 1 ≤ seats
+  pub fresh : FreshAllowed (byte s 0) (byte s 1)
 
 pub file-allowed : (s : List ℕ) → firstNo (fileQuestions s) ≡ 0 → FileAllowed s
 unfolding fileQuestions
 file-allowed s e =
     let q1 = no-no 0 (leb 2 (length s) && leb (length s) 65535) _ e in
-    let q3 = count-asked (byte s 1) (no-no 1 _ _ (q1 .1) .1) in
     record {
       long = leb-true 2 (length s) (and-left (leb 2 (length s)) (leb (length s) 65535) (q1 .0));
       short = leb-true (length s) 65535 (and-right (leb 2 (length s)) (leb (length s) 65535) (q1 .0));
-      some = q3 .0;
-      few = q3 .1;
+      fresh = fresh-allowed (byte s 0) (byte s 1) (q1 .1);
     }
 
 pub record SendAllowed (t : Table) (c : ℕ) (p : Payload) : Type 0 where
   pub sender : Among (t .n) c
   pub amount : fairAmount p ≡ true
+  pub class : fairClass (t .version) p ≡ true
   pub running : yes? (at t c .running) ≡ true
   pub none-pending : (s : ℕ) → s < t .count → held (at t c) s ≡ true → message t s .sender ≡ c → ⊥
   pub room : t .count < capacity
@@ -116,12 +127,14 @@ unfolding eventQuestions ownPending
 send-allowed t c p e =
     let q8 = no-no _ _ _ e in
     let q9 = no-no _ _ _ (q8 .1) in
-    let q10 = no-no _ _ _ (q9 .1) in
+    let q17 = no-no _ _ _ (q9 .1) in
+    let q10 = no-no _ _ _ (q17 .1) in
     let q11 = no-no _ _ _ (q10 .1) in
     let q12 = no-no _ _ _ (q11 .1) in
     record {
       sender = named-at t c (q8 .0);
       amount = q9 .0;
+      class = q17 .0;
       running = q10 .0;
       none-pending = λ s h p q. omega (
         arith,

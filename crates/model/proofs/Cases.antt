@@ -7,10 +7,11 @@ use mathlib.Core.Bool.{cond}
 use mathlib.Core.List.{List, [], _∷_, _++_, map}
 use lib.Dec.{eqb}
 use lib.IntN.{ℤ, pos, negsuc}
-use Rattle.model.specs.Tables.{fresh}
+use Rattle.model.specs.Tables.{noPanel, fresh}
 use Rattle.model.specs.Calls.{EventAnswer, step, event, freshTable, look}
 use Rattle.model.specs.Runs.{progress, fileRun}
 use Rattle.model.specs.declared.Name.{Name}
+use Rattle.model.specs.declared.Panel.{Panel}
 use Rattle.model.specs.declared.Table.{Table}
 use Rattle.model.proofs.Computed.{computed}
 
@@ -18,6 +19,10 @@ use Rattle.model.proofs.Computed.{computed}
 
 report : ℕ → ℕ → List ℕ
 report c x = 4 ∷ 1 ∷ c ∷ x / 256 ∷ x % 256 ∷ []
+
+-- of version 2, with its class
+classed : ℕ → ℕ → ℕ → List ℕ
+classed c x k = 5 ∷ 1 ∷ c ∷ x / 256 ∷ x % 256 ∷ k ∷ []
 
 sync : ℕ → List ℕ
 sync c = 2 ∷ 2 ∷ c ∷ []
@@ -35,7 +40,7 @@ times : ℕ → List (List ℕ) → List (List ℕ)
 times zero xs = []
 times (suc k) xs = xs ++ times k xs
 
--- CASES: n controllers; the records of accepted events; then a call
+-- CASES: a version and n controllers; the records of accepted events; then a call
 
 data Call : Type 0 where
   -- the single event: its bytes, and how many bytes of scratch
@@ -44,19 +49,19 @@ data Call : Type 0 where
   panel : ℕ → Call
 
 data Case : Type 0 where
-  events : ℕ → List (List ℕ) → Call → Case
+  events : ℕ → ℕ → List (List ℕ) → Call → Case
   -- a request for a fresh table
-  request : ℕ → Case
+  request : ℕ → ℕ → Case
   -- a file, with no bytes lent
   file : List ℕ → Case
   -- the records of a file past question 3, and how many bytes of scratch and of listing
   run : List ℕ → ℕ → ℕ → Case
 
--- the number; the set of each accepted event, a message as 100 times its sender plus its number; and the total that a look shows
+-- the number; the set of each accepted event, a message as 100 times its sender plus its number; and what a look shows
 record Given : Type 0 where
   number : ℕ
   sets : List (List ℕ)
-  shown : ℤ
+  shown : Panel
 
 abbrev coded : Name → ℕ
 coded m = m .sender * 100 + m .number .0
@@ -68,8 +73,8 @@ setOf a = cond (eqb (a .number) 0) (map coded (a .names)) ((1000 + a .number) �
 called : Table → Call → Given
 called t (single s room) =
     let a = event t s room .answer in
-    record { number = a .number; sets = cond (eqb (a .number) 0) (map coded (a .names) ∷ []) []; shown = pos 0 }
-called t (panel c) = let a = look t c in record { number = a .number; sets = []; shown = a .panel .total }
+    record { number = a .number; sets = cond (eqb (a .number) 0) (map coded (a .names) ∷ []) []; shown = noPanel }
+called t (panel c) = let a = look t c in record { number = a .number; sets = []; shown = a .panel }
 
 played : Table → List (List ℕ) → Call → Given
 played t [] c = called t c
@@ -79,28 +84,35 @@ played t (r ∷ rs) c =
     record { number = g .number; sets = setOf (o .answer) ∷ g .sets; shown = g .shown }
 
 given : Case → Given
-given (events n rs c) = played (fresh n) rs c
-given (request n) = record { number = freshTable n .number; sets = []; shown = pos 0 }
-given (file s) = record { number = fileRun s [] [] .answer .number; sets = []; shown = pos 0 }
-given (run s room space) = record { number = progress s room space .number; sets = []; shown = pos 0 }
+given (events v n rs c) = played (fresh v n) rs c
+given (request v n) = record { number = freshTable v n .number; sets = []; shown = noPanel }
+given (file s) = record { number = fileRun s [] [] .answer .number; sets = []; shown = noPanel }
+given (run s room space) = record { number = progress s room space .number; sets = []; shown = noPanel }
 
 record Row : Type 0 where
   of : Case
   gives : Given
 
 abbrev row : Case → ℕ → List (List ℕ) → Row
-row c k ss = record { of = c; gives = record { number = k; sets = ss; shown = pos 0 } }
+row c k ss = record { of = c; gives = record { number = k; sets = ss; shown = noPanel } }
 
 -- accepted events before a single event, and their sets
 abbrev case : ℕ → List (List ℕ) → List ℕ → ℕ → ℕ → List (List ℕ) → Row
-case n rs s room k ss = row (events n rs (single s room)) k ss
+case n rs s room k ss = row (events 1 n rs (single s room)) k ss
 
--- no event applies anything, and j are accepted
+-- no event applies anything, and j are accepted; in version 1, and in version 2
 abbrev quiet : ℕ → List (List ℕ) → List ℕ → ℕ → ℕ → ℕ → Row
 quiet n rs s room k j = case n rs s room k (times j ([] ∷ []))
 
-abbrev shows : ℕ → List (List ℕ) → ℕ → List (List ℕ) → ℤ → Row
-shows n rs c ss x = record { of = events n rs (panel c); gives = record { number = 0; sets = ss; shown = x } }
+abbrev quiet₂ : ℕ → List (List ℕ) → List ℕ → ℕ → ℕ → ℕ → Row
+quiet₂ n rs s room k j = row (events 2 n rs (single s room)) k (times j ([] ∷ []))
+
+-- a look shows a total, and that of each class
+abbrev shows : ℕ → ℕ → List (List ℕ) → ℕ → List (List ℕ) → ℤ → List ℤ → Row
+shows v n rs c ss x xs = record { of = events v n rs (panel c); gives = record { number = 0; sets = ss; shown = record { total = x; classes = xs } } }
+
+none : ℤ
+none = pos 0
 
 -- the run of RULES.md, section 19 (The worked run), but for its last record
 worked : List (List ℕ)
@@ -123,7 +135,7 @@ each zero x = []
 each (suc k) x = [] ∷ (x ∷ []) ∷ each k (suc x)
 
 table : List Row
-unfolding report sync handover stop minus times worked three full each
+unfolding report classed sync handover stop minus times worked three full each none
 table =
     -- P: the sets of the worked run; event 10 applies nothing
     case 3 worked (handover 3 1) 4096 0 ([] ∷ [] ∷ [] ∷ (101 ∷ []) ∷ [] ∷ [] ∷ (101 ∷ []) ∷ (301 ∷ []) ∷ [] ∷ [] ∷ (101 ∷ 301 ∷ []) ∷ [])
@@ -138,6 +150,19 @@ table =
     ∷ quiet 1 [] (report 1 0) 4096 9 0
     ∷ quiet 1 [] (report 1 (minus 360)) 4096 0 1
     ∷ quiet 1 [] (report 1 (minus 361)) 4096 9 0
+    -- P: of version 2, classes 1 to 4; a report of version 1 has none, whatever stands behind it
+    ∷ quiet₂ 1 [] (classed 1 360 1) 4096 0 1
+    ∷ quiet₂ 1 [] (classed 1 360 4) 4096 0 1
+    ∷ quiet₂ 1 [] (classed 1 360 0) 4096 17 0
+    ∷ quiet₂ 1 [] (classed 1 360 5) 4096 17 0
+    ∷ quiet₂ 1 [] (classed 1 360 255) 4096 17 0
+    ∷ quiet 1 [] (report 1 360 ++ (5 ∷ [])) 4096 0 1
+    -- P: the length of a report goes by the table's version; those of the other kinds do not
+    ∷ quiet 1 [] (classed 1 360 1) 4096 7 0
+    ∷ quiet₂ 1 [] (report 1 360 ++ (1 ∷ [])) 4096 7 0
+    ∷ quiet₂ 1 [] (sync 1) 4096 0 1
+    ∷ quiet₂ 1 [] (stop 1 0) 4096 0 1
+    ∷ quiet₂ 2 (classed 2 1 1 ∷ []) (handover 1 2) 4096 0 2
     -- P: the second report while the first is pending
     ∷ quiet 2 (report 1 1 ∷ []) (report 1 1) 4096 11 1
     -- P: a stop at log length 3, highest read position 2
@@ -147,6 +172,8 @@ table =
     ∷ quiet 4 three (stop 1 4) 4096 14 7
     -- an event: 4 before 5 before 6 before 7 before 8
     ∷ quiet 0 [] [] 0 4 0
+    ∷ row (events 0 1 [] (single [] 0)) 4 []
+    ∷ row (events 3 1 [] (single [] 0)) 4 []
     ∷ quiet 1 [] [] 0 5 0
     ∷ quiet 1 [] (3 ∷ 9 ∷ 1 ∷ []) 0 5 0
     ∷ quiet 1 [] (0 ∷ 1 ∷ []) 0 6 0
@@ -156,6 +183,11 @@ table =
     ∷ quiet 1 [] (report 2 361) 0 8 0
     ∷ quiet 2 (stop 1 0 ∷ []) (report 1 361) 0 9 1
     ∷ quiet 2 (report 1 1 ∷ stop 1 1 ∷ []) (report 1 360) 0 10 2
+    -- of version 2: 7 before 8, and 9 before 17 before 10
+    ∷ quiet₂ 1 [] (report 2 361) 0 7 0
+    ∷ quiet₂ 2 (stop 1 0 ∷ []) (classed 1 361 5) 0 9 1
+    ∷ quiet₂ 2 (stop 1 0 ∷ []) (classed 1 360 5) 0 17 1
+    ∷ quiet₂ 2 (stop 1 0 ∷ []) (classed 1 360 4) 0 10 1
     -- P: the 64th message is accepted, and the next gives 11 while it is pending
     ∷ case 1 (full 63 ++ (report 1 1 ∷ [])) (report 1 1) 0 11 (each 63 101 ++ ([] ∷ []))
     -- P: the 65th message gives 12
@@ -181,27 +213,44 @@ table =
     ∷ quiet 2 [] (stop 1 0) 4095 15 0
     -- a file: 1 before 2 before 3 before 5; 16 where a line does not fit, which only an accepted event has
     ∷ row (file (1 ∷ [])) 1 []
-    ∷ row (file (2 ∷ [])) 1 []
-    ∷ row (file (2 ∷ 8 ∷ [])) 2 []
+    ∷ row (file (3 ∷ [])) 1 []
+    ∷ row (file (0 ∷ 8 ∷ [])) 2 []
+    ∷ row (file (3 ∷ 8 ∷ [])) 2 []
+    ∷ row (file (2 ∷ 8 ∷ [])) 3 []
     ∷ row (file (1 ∷ 8 ∷ [])) 3 []
     ∷ row (file (1 ∷ 8 ∷ 9 ∷ [])) 3 []
     ∷ row (file (1 ∷ 0 ∷ [])) 3 []
     ∷ row (file (1 ∷ 3 ∷ [])) 0 []
+    ∷ row (file (2 ∷ 3 ∷ [])) 0 []
     ∷ row (file (1 ∷ 1 ∷ 9 ∷ [])) 5 []
     ∷ row (run (1 ∷ 1 ∷ report 1 5 ++ handover 1 1) 4095 0) 15 []
     ∷ row (run (1 ∷ 1 ∷ report 1 5 ++ handover 1 1) 4096 9) 16 []
     ∷ row (run (1 ∷ 1 ∷ report 1 5 ++ handover 1 1) 4096 10) 0 []
-    -- a fresh table: 1 to 7 controllers
-    ∷ row (request 0) 3 []
-    ∷ row (request 1) 0 []
-    ∷ row (request 7) 0 []
-    ∷ row (request 8) 3 []
-    -- a look: 4 before 8; the total of the worked run, and a negative one
-    ∷ row (events 0 [] (panel 1)) 4 []
-    ∷ row (events 2 [] (panel 0)) 8 []
-    ∷ row (events 2 [] (panel 3)) 8 []
-    ∷ shows 3 worked 2 ([] ∷ [] ∷ [] ∷ (101 ∷ []) ∷ [] ∷ [] ∷ (101 ∷ []) ∷ (301 ∷ []) ∷ [] ∷ [] ∷ []) (pos 28)
-    ∷ shows 1 (report 1 (minus 7) ∷ handover 1 1 ∷ stop 1 1 ∷ []) 1 ([] ∷ (101 ∷ []) ∷ [] ∷ []) (negsuc 6)
+    -- the length of a record goes by the file's version
+    ∷ row (run (2 ∷ 1 ∷ classed 1 5 2 ++ handover 1 1) 4096 10) 0 []
+    ∷ row (run (2 ∷ 1 ∷ report 1 5 ++ handover 1 1) 4096 10) 7 []
+    ∷ row (run (1 ∷ 1 ∷ classed 1 5 2 ++ handover 1 1) 4096 10) 7 []
+    -- a fresh table: 2 before 3; versions 1 and 2, 1 to 7 controllers
+    ∷ row (request 0 8) 2 []
+    ∷ row (request 3 8) 2 []
+    ∷ row (request 0 7) 2 []
+    ∷ row (request 3 7) 2 []
+    ∷ row (request 1 0) 3 []
+    ∷ row (request 1 1) 0 []
+    ∷ row (request 1 7) 0 []
+    ∷ row (request 1 8) 3 []
+    ∷ row (request 2 0) 3 []
+    ∷ row (request 2 1) 0 []
+    ∷ row (request 2 7) 0 []
+    ∷ row (request 2 8) 3 []
+    -- a look: 4 before 8; the total of the worked run, and a negative one; and each class
+    ∷ row (events 1 0 [] (panel 1)) 4 []
+    ∷ row (events 1 2 [] (panel 0)) 8 []
+    ∷ row (events 1 2 [] (panel 3)) 8 []
+    ∷ shows 1 3 worked 2 ([] ∷ [] ∷ [] ∷ (101 ∷ []) ∷ [] ∷ [] ∷ (101 ∷ []) ∷ (301 ∷ []) ∷ [] ∷ [] ∷ []) (pos 28) (pos 28 ∷ none ∷ none ∷ none ∷ none ∷ [])
+    ∷ shows 1 1 (report 1 (minus 7) ∷ handover 1 1 ∷ stop 1 1 ∷ []) 1 ([] ∷ (101 ∷ []) ∷ [] ∷ []) (negsuc 6) (negsuc 6 ∷ none ∷ none ∷ none ∷ none ∷ [])
+    ∷ shows 2 1 (classed 1 30 2 ∷ handover 1 1 ∷ classed 1 (minus 7) 4 ∷ handover 1 1 ∷ classed 1 5 2 ∷ handover 1 1 ∷ []) 1 (each 3 101) (pos 28)
+        (none ∷ none ∷ pos 35 ∷ none ∷ negsuc 6 ∷ [])
     ∷ []
 
 results : List Row → List Given
@@ -216,5 +265,5 @@ pub record AllCases : Type 0 where
   hold : results table ≡ expected table
 
 pub all-cases : AllCases
-unfolding computed results expected table called played given report sync handover stop minus times worked three full each
+unfolding computed results expected table called played given report classed sync handover stop minus times worked three full each none
 all-cases = record { hold = refl }

@@ -10,7 +10,6 @@ use Rattle.lists.proofs.Every.{Every}
 use Rattle.model.specs.Events.{earlier, insert, namesBelow, namesOf}
 use Rattle.model.specs.Runs.{decimal, signed, nameFields, line, header, footer}
 use Rattle.model.specs.declared.Name.{Name}
-use Rattle.model.specs.declared.Panel.{Panel}
 use Rattle.model.specs.declared.Table.{Table}
 use Rattle.model.proofs.Decimals.{decimal-bound}
 
@@ -57,15 +56,15 @@ names-bound (m ∷ ms) h =
       names-bound ms (h .1),
     )
 
-pub length-line : (e c : ℕ) (p : Panel) (ms : List Name)
-    → length (line e c p ms) ≡ length (decimal e) + length (decimal c) + length (signed (p .total)) + length (nameFields ms) + 3
+pub length-line : (e c : ℕ) (z : ℤ) (ms : List Name)
+    → length (line e c z ms) ≡ length (decimal e) + length (decimal c) + length (signed z) + length (nameFields ms) + 3
 unfolding line
-length-line e c p ms =
+length-line e c z ms =
     omega (
       arith,
-      length-append (decimal e) ((32 ∷ decimal c) ++ ((32 ∷ signed (p .total)) ++ (nameFields ms ++ (10 ∷ [])))),
-      length-append (32 ∷ decimal c) ((32 ∷ signed (p .total)) ++ (nameFields ms ++ (10 ∷ []))),
-      length-append (32 ∷ signed (p .total)) (nameFields ms ++ (10 ∷ [])),
+      length-append (decimal e) ((32 ∷ decimal c) ++ ((32 ∷ signed z) ++ (nameFields ms ++ (10 ∷ [])))),
+      length-append (32 ∷ decimal c) ((32 ∷ signed z) ++ (nameFields ms ++ (10 ∷ []))),
+      length-append (32 ∷ signed z) (nameFields ms ++ (10 ∷ [])),
       length-append (nameFields ms) (10 ∷ []),
     )
 

@@ -65,7 +65,7 @@ controller-sized c vs g =
 
 pub table-sized : (t : Table) (vs : List Val) → Is (row table.the-type) t vs → Sized t
 table-sized t vs g =
-    let messages = g .1 .1 .1 .1 in
+    let messages = g .1 .1 .1 .1 .1 in
     let controllers = messages .1 in
     record {
       messages = array-length message.the-field capacity (t .messages) _ (messages .0);

@@ -50,7 +50,7 @@ module _ (t : Table) (s : List ℕ) (room : ℕ) where
     pub accepted-asked : firstNo (stepQuestions t s room) ≡ 0
     accepted-asked = sym step-number ∙ z
 
-    pub accepted-table : step t s room .table ≡ next t (decode s)
+    pub accepted-table : step t s room .table ≡ next t (decode (t .version) s)
     unfolding accepted
     accepted-table = ap (λ (o : Outcome). o .table) (step-is-accepted accepted-asked)
 

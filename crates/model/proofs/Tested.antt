@@ -11,7 +11,7 @@ use Rattle.lists.specs.Below.{all, distinct}
 use Rattle.lists.proofs.Tests.{and-left, and-right, both, or-cases, or-left, or-right, implies-at, implies-of, not-both, not-both-of, contradiction, beq-eq, eq-beq}
 use Rattle.lists.proofs.Below.{all-at, all-of, distinct-at, distinct-of}
 use Rattle.model.specs.Tables.{seats, capacity, absent, yes?, at, message, slotAt, place, entry, held, mark, applied, highest}
-use Rattle.model.specs.WellFormed.{named, fairAmount, sameName, goodMark, inLog, greatestApplied, inRange, goodMessage, goodMessages, goodLog, goodPlaces, goodMarks, goodBuffer, goodHighest, goodRunning, goodController, wellFormed}
+use Rattle.model.specs.WellFormed.{named, fairAmount, fairClass, known, sameName, goodMark, inLog, greatestApplied, inRange, goodMessage, goodMessages, goodLog, goodPlaces, goodMarks, goodBuffer, goodHighest, goodRunning, goodController, wellFormed}
 use Rattle.model.specs.declared.Message.{Message}
 use Rattle.model.specs.declared.Controller.{Controller}
 use Rattle.model.specs.declared.Table.{Table}
@@ -126,14 +126,16 @@ unfolding sameName
 same-name a b p q = both (eq-eqb (a .sender) (b .sender) p) (eq-eqb (a .number .0) (b .number .0) q)
 
 message-facts : (t : Table) (m : Message) → goodMessage t m ≡ true
-    → Among (t .n) (m .sender) × ((0 < m .number .0) × (m .number .0 ≤ 64)) × (fairAmount (m .payload) ≡ true)
+    → Among (t .n) (m .sender) × ((0 < m .number .0) × (m .number .0 ≤ 64)) × (fairAmount (m .payload) ≡ true) × (fairClass (t .version) (m .payload) ≡ true)
 unfolding goodMessage
 message-facts t m e =
     let e₁ = and-right (named t (m .sender)) _ e in
-    let e₂ = and-right (ltb 0 (m .number .0)) _ e₁ in (
+    let e₂ = and-right (ltb 0 (m .number .0)) _ e₁ in
+    let e₃ = and-right (leb (m .number .0) 64) _ e₂ in (
       named-at t (m .sender) (and-left _ _ e),
       (ltb-true 0 (m .number .0) (and-left _ _ e₁), leb-true (m .number .0) 64 (and-left _ _ e₂)),
-      and-right (leb (m .number .0) 64) _ e₂,
+      and-left _ _ e₃,
+      and-right (fairAmount (m .payload)) _ e₃,
     )
 
 pub facts : (t : Table) → wellFormed t ≡ true → WellFormed t
@@ -142,10 +144,12 @@ facts t e =
     let range = and-left (inRange t) _ e in
     let e₁ = and-right (inRange t) _ e in
     let messages = and-left (goodMessages t) _ e₁ in
-    let few-counted = and-right (ltb 0 (t .n)) _ range in
+    let some-few = and-right (known (t .version)) _ range in
+    let few-counted = and-right (ltb 0 (t .n)) _ some-few in
     let each : (s : ℕ) → s < t .count → goodMessage t (message t s) ≡ true = all-at (t .count) _ (and-right (distinct (t .count) (λ i j. sameName (message t i) (message t j))) _ messages) in
     record {
-      some = ltb-true 0 (t .n) (and-left (ltb 0 (t .n)) _ range);
+      version = and-left _ _ range;
+      some = ltb-true 0 (t .n) (and-left (ltb 0 (t .n)) _ some-few);
       few = leb-true (t .n) seats (and-left _ _ few-counted);
       counted = leb-true (t .count) capacity (and-right (leb (t .n) seats) _ few-counted);
       names = λ i j hi hj p q.
@@ -153,18 +157,19 @@ facts t e =
       senders = λ s h. message-facts t (message t s) (each s h) .0;
       numbers = λ s h. message-facts t (message t s) (each s h) .1;
       amounts = λ s h. message-facts t (message t s) (each s h) .2;
+      classes = λ s h. message-facts t (message t s) (each s h) .3;
       controllers = λ c h. controller-facts t c (at t c) (all-named (t .n) (λ i. goodController t i (at t i)) (and-right (goodMessages t) _ e₁) c h);
     }
 
 pub tested : (t : Table) → WellFormed t → wellFormed t ≡ true
 unfolding wellFormed inRange goodMessages goodMessage sameName
 tested t w =
-    both (both (lt-ltb 0 (t .n) (w .some)) (both (le-leb (t .n) seats (w .few)) (le-leb (t .count) capacity (w .counted))))
+    both (both (w .version) (both (lt-ltb 0 (t .n) (w .some)) (both (le-leb (t .n) seats (w .few)) (le-leb (t .count) capacity (w .counted)))))
     (both (both (distinct-of (t .count) _ (λ i j hi l. not-true (sameName (message t i) (message t j))
     (not-both-of (eqb (message t i .sender) (message t j .sender)) _ (λ p q.
     omega (arith, w .names i j hi (omega arith) (eqb-true _ _ p) (eqb-true _ _ q))))))
     (all-of (t .count) _ (λ s h.
     both (named-of t (message t s .sender) (w .senders s h))
     (both (lt-ltb 0 (message t s .number .0) (w .numbers s h .0))
-    (both (le-leb (message t s .number .0) 64 (w .numbers s h .1)) (w .amounts s h))))))
+    (both (le-leb (message t s .number .0) 64 (w .numbers s h .1)) (both (w .amounts s h) (w .classes s h)))))))
     (all-named-of (t .n) (λ i. goodController t i (at t i)) (λ c h. controller-tested t c (at t c) (w .controllers c h))))

@@ -192,10 +192,12 @@ impl Payload {
     pub fn fair_class(version: usize, p: Payload) -> bool
         ensures { λ r. ⌜ r ≡ fairClass version p ⌝ }
     {
-        if (version == Table::CLASSED) & (p.kind == Payload::REPORT) {
-            return (0 < p.class) & (p.class <= Payload::LAST_CLASS);
+        let kind = p.kind;
+        let class = p.class;
+        if (version == Table::CLASSED) & (kind == Payload::REPORT) {
+            return (0 < class) & (class <= Payload::LAST_CLASS);
         }
-        p.class == 0
+        class == 0
     }
 }
 

@@ -27,8 +27,8 @@ unfoldable pub found : Cut → Found
 found (Whole k) = record { number = 0; size = k }
 found Short = record { number = 5; size = 0 }
 
--- the record that the bytes begin with: asked, how many bytes it takes, and decoded
-unfoldable pub recordOf : List ℕ → Record
-recordOf s =
-    let k = firstNo (recordQuestions s) in
-    record { number = k; used = cond (eqb k 0) (size s + 1) 0; event = decode s }
+-- the record that the bytes of a file of version v begin with: asked, how many bytes it takes, and decoded
+unfoldable pub recordOf : ℕ → List ℕ → Record
+recordOf v s =
+    let k = firstNo (recordQuestions v s) in
+    record { number = k; used = cond (eqb k 0) (size s + 1) 0; event = decode v s }
