@@ -87,17 +87,6 @@ unfolding Balanced tabulateFrom
 balanced-tabulate f e i zero = tt
 balanced-tabulate f e i (suc n) = (e i, balanced-tabulate f e (suc i) n)
 
-interchange : (a b c d : ℤ) → (a +ℤ b) +ℤ (c +ℤ d) ≡ (a +ℤ c) +ℤ (b +ℤ d)
-interchange a b c d =
-    +ℤ-assoc a b (c +ℤ d)
-    ∙ ap (λ x. a +ℤ x) (sym (+ℤ-assoc b c d) ∙ ap (λ x. x +ℤ d) (+ℤ-comm b c) ∙ +ℤ-assoc c b d)
-    ∙ sym (+ℤ-assoc a c (b +ℤ d))
-
-differences : (a b c d : ℕ) → (pos a -ℤ pos b) +ℤ (pos c -ℤ pos d) ≡ pos (a + c) -ℤ pos (b + d)
-differences a b c d =
-    interchange (pos a) (negℤ (pos b)) (pos c) (negℤ (pos d))
-    ∙ ap₂ _+ℤ_ (pos-+ℤ-pos a c) (sym (negℤ-+ℤ (pos b) (pos d)) ∙ ap negℤ (pos-+ℤ-pos b d))
-
 amount-balance : (xs : List Sent) → Balanced xs → (m : Name) → amountOf xs m ≡ pos (weightOf (λ p. p .added) xs m) -ℤ pos (weightOf (λ p. p .withdrawn) xs m)
 unfolding Balanced amountOf weightOf
 amount-balance [] b m = refl

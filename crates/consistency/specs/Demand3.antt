@@ -9,13 +9,15 @@ use lib.ListN.{length, getD, take, drop}
 use lib.IntN.{ℤ, pos, _+ℤ_, _-ℤ_}
 use lib.Dec.{eqb, ltb}
 use Rattle.lists.specs.Below.{count}
-use Rattle.model.specs.Tables.{messageNumber, noName, Among}
+use Rattle.lists.specs.Build.{tabulate}
+use Rattle.model.specs.Tables.{classCount, messageNumber, noName, Among}
 use Rattle.model.specs.Records.{byte, kind, word, behind, decode}
 use Rattle.model.specs.Questions.{firstNo, fileQuestions}
 use Rattle.model.specs.Calls.{EventAnswer, event, freshTable, look}
 use Rattle.model.specs.Runs.{RunOutcome, fileRun}
 use Rattle.model.specs.declared.Name.{Name}
 use Rattle.model.specs.declared.Payload.{Payload}
+use Rattle.model.specs.declared.Panel.{Panel}
 use Rattle.model.specs.declared.Table.{Table}
 use Rattle.model.specs.declared.Event.{Event}
 use Rattle.model.specs.declared.Event.the-variants.{Send, Handover, Stop}
@@ -76,27 +78,47 @@ unfoldable pub transcript : Table → List Call → List Entry
 transcript t [] = []
 transcript t (c ∷ cs) = entry t c ∷ transcript (left t c) cs
 
--- a step of Algorithm 1: an event carried out, with the bytes of its record and the set that was answered
-pub data Step : Type 0 where
-  carried : (bytes : List ℕ) → Event → (set : List Name) → Step
+-- what a record says of a message: its amount, and its class
+pub record Said : Type 0 where
+  pub amount : ℤ
+  pub class : ℕ
 
--- "A call is accepted when its number is 0; a refused one moves nothing here."
-unfoldable pub steps : Entry → List Step
-steps (answered s w a) = cond (eqb (a .number) 0) (carried s (decode s) (a .names) ∷ []) []
-steps (looked c a) = []
-steps (listed s ms) = carried s (decode s) ms ∷ []
+-- "its amount is the one in the record of a report, and 0 for every message that is no report": two's complement
+unfoldable pub twos : ℕ → ℤ
+twos x = cond (ltb x 32768) (pos x) (pos x -ℤ pos 65536)
+
+unfoldable pub amountIn : List ℕ → ℤ
+amountIn s = cond (eqb (kind s) 1) (twos (word s 3)) (pos 0)
+
+-- its class is the byte after the amount in the record of a report if the head's version v is 2, and 0 otherwise
+unfoldable pub classIn : ℕ → List ℕ → ℕ
+classIn v s = cond (eqb (kind s) 1 && eqb v 2) (byte s 5) 0
+
+unfoldable pub said : ℕ → List ℕ → Said
+said v s = record { amount = amountIn s; class = classIn v s }
+
+-- a step of Algorithm 1: an event carried out, with what its record says and the set that was answered
+pub data Step : Type 0 where
+  carried : Said → Event → (set : List Name) → Step
+
+-- "A call is accepted when its number is 0; a refused one moves nothing here." The head's version is v.
+unfoldable pub steps : ℕ → Entry → List Step
+steps v (answered s w a) = cond (eqb (a .number) 0) (carried (said v s) (decode v s) (a .names) ∷ []) []
+steps v (looked c a) = []
+steps v (listed s ms) = carried (said v s) (decode v s) ms ∷ []
 
 -- what entries did
-abbrev pub did : List Entry → List Step
-did es = flatMap steps es
+abbrev pub did : ℕ → List Entry → List Step
+did v es = flatMap (steps v) es
 
 -- THE LEDGER
 
--- a message sent: its name, what it says, and its amount
+-- a message sent: its name, its payload, its amount and its class
 pub record Sent : Type 0 where
   pub name : Name
   pub payload : Payload
   pub amount : ℤ
+  pub class : ℕ
 
 -- Logs; the place of each receiver in each log; who runs; what was sent and what was cut off; and for each controller the
 -- sets that the accepted handovers to it answered.
@@ -116,28 +138,21 @@ start = record { log = λ c. []; place = λ r o. 0; runs = λ c. true; sent = []
 unfoldable pub put : {A : Type 0} → (ℕ → A) → ℕ → A → ℕ → A
 put f x v y = cond (eqb y x) v (f y)
 
--- "its amount is the one in the record of a report, and 0 for every message that is no report": two's complement
-unfoldable pub twos : ℕ → ℤ
-twos x = cond (ltb x 32768) (pos x) (pos x -ℤ pos 65536)
-
-unfoldable pub amountIn : List ℕ → ℤ
-amountIn s = cond (eqb (kind s) 1) (twos (word s 3)) (pos 0)
-
 unfoldable pub moved : Ledger → Step → Ledger
 -- "An accepted report or sync of c puts c.k at the end of c's log, k being the length before plus one. That message is then sent"
-moved l (carried s (Send c p) ms) =
+moved l (carried r (Send c p) ms) =
     let m = name c (length (l .log c) + 1) in
     record {
       log = put (l .log) c (l .log c ++ (m ∷ []));
       place = l .place;
       runs = l .runs;
-      sent = l .sent ++ (record { name = m; payload = p; amount = amountIn s } ∷ []);
+      sent = l .sent ++ (record { name = m; payload = p; amount = r .amount; class = r .class } ∷ []);
       cut = l .cut;
       sets = l .sets;
     }
 -- "An accepted handover to r from o moves r's place in o's log, 0 at first, on by one. If r's log lacks the message there, it goes
 -- to the end of r's log."
-moved l (carried s (Handover r o) ms) =
+moved l (carried _ (Handover r o) ms) =
     let m = getD (l .log o) (l .place r o) noName in
     record {
       log = put (l .log) r (cond (has m (l .log r)) (l .log r) (l .log r ++ (m ∷ [])));
@@ -149,7 +164,7 @@ moved l (carried s (Handover r o) ms) =
     }
 -- "An accepted stop of c cuts c's log to the length kept that its record names. Until then c runs. A message is cut off when its
 -- entry in its sender's log went with that cut."
-moved l (carried s (Stop c k) ms) = record {
+moved l (carried _ (Stop c k) ms) = record {
   log = put (l .log) c (take k (l .log c));
   place = l .place;
   runs = put (l .runs) c false;
@@ -172,14 +187,25 @@ sentNames l = map (λ m. m .name) (l .sent)
 abbrev pub remaining : Ledger → List Name
 remaining l = less (sentNames l) (l .cut)
 
--- the sum of the amounts of messages
-unfoldable pub amountOf : List Sent → Name → ℤ
-amountOf [] m = pos 0
-amountOf (x ∷ xs) m = cond (same m (x .name)) (x .amount) (amountOf xs m)
+-- a figure of a message: its amount; or its amount if it is of class k, and else 0
+abbrev pub amountOf : Sent → ℤ
+amountOf x = x .amount
 
-unfoldable pub amounts : List Sent → List Name → ℤ
-amounts xs [] = pos 0
-amounts xs (m ∷ ms) = amountOf xs m +ℤ amounts xs ms
+abbrev pub amountInClass : ℕ → Sent → ℤ
+amountInClass k x = cond (eqb (x .class) k) (x .amount) (pos 0)
+
+-- the sum of a figure of messages
+unfoldable pub figureOf : (Sent → ℤ) → List Sent → Name → ℤ
+figureOf f [] m = pos 0
+figureOf f (x ∷ xs) m = cond (same m (x .name)) (f x) (figureOf f xs m)
+
+unfoldable pub figures : (Sent → ℤ) → List Sent → List Name → ℤ
+figures f xs [] = pos 0
+figures f xs (m ∷ ms) = figureOf f xs m +ℤ figures f xs ms
+
+-- the panel of messages: the sum of their amounts, and for each class of the amounts of that class
+unfoldable pub showing : List Sent → List Name → Panel
+showing xs ms = record { total = figures amountOf xs ms; classes = tabulate classCount (λ k. figures (amountInClass k) xs ms) }
 
 -- THE LINES OF A FILE RUN
 
@@ -225,26 +251,31 @@ fileEntries s o = recordEntries (o .answer .events) 1 (drop 2 s) (split 10 (take
 -- "The list starts from the table that an accepted request for a fresh table gave." "A file run past question 3 may head a list in
 -- place of that request"
 pub data Head : Type 0 where
-  request : (controllers : ℕ) → Head
+  request : (version controllers : ℕ) → Head
   file : (bytes listing scratch : List ℕ) → Head
 
 -- accepted; past question 3: every question put to a file was answered yes
 unfoldable pub Heads : Head → Type 0
-Heads (request n) = freshTable n .number ≡ 0
+Heads (request v n) = freshTable v n .number ≡ 0
 Heads (file s listing scratch) = firstNo (fileQuestions s) ≡ 0
 
+-- the head's version: "the fresh request's argument, or the file's byte 0"
+unfoldable pub version : Head → ℕ
+version (request v n) = v
+version (file s listing scratch) = byte s 0
+
 unfoldable pub controllers : Head → ℕ
-controllers (request n) = n
+controllers (request v n) = n
 controllers (file s listing scratch) = byte s 1
 
 -- what it puts first in the list
 unfoldable pub opening : Head → List Entry
-opening (request n) = []
+opening (request v n) = []
 opening (file s listing scratch) = fileEntries s (fileRun s listing scratch)
 
 -- "the next call, if any, gets its last table"
 unfoldable pub given : Head → Table
-given (request n) = freshTable n .table
+given (request v n) = freshTable v n .table
 given (file s listing scratch) = fileRun s listing scratch .answer .table
 
 -- the list: what the head puts first, and then the calls, from its table on
@@ -253,7 +284,7 @@ entries h calls = opening h ++ transcript (given h) calls
 
 -- "A moment is its start or the end of one of its calls."
 abbrev pub moment : Head → List Call → ℕ → Ledger
-moment h calls i = ledger (did (take i (entries h calls)))
+moment h calls i = ledger (did (version h) (take i (entries h calls)))
 
 -- THE CLAIM
 
@@ -274,12 +305,12 @@ pub record ReadOut (n : ℕ) (l : Ledger) : Type 0 where
   -- "A log is read to its end when the reader's place equals its length."
   pub to-end : (r o : ℕ) → Runs n l r → Among n o → l .place r o ≡ length (l .log o)
 
--- a look at r behind these calls, and what it is answered: it is not refused, and its panel shows this total
-pub record LookShows (h : Head) (calls : List Call) (r : ℕ) (total : ℤ) : Type 0 where
+-- a look at r behind these calls, and what it is answered: it is not refused, and shows this panel
+pub record LookShows (h : Head) (calls : List Call) (r : ℕ) (panel : Panel) : Type 0 where
   pub answer : LookAnswer
   pub last : entries h (calls ++ (panelLook r ∷ [])) ≡ entries h calls ++ (looked r answer ∷ [])
   pub accepted : answer .number ≡ 0
-  pub shown : answer .panel .total ≡ total
+  pub shown : answer .panel ≡ panel
 
 -- "Demand 3 is a single claim about the whole list, and not one for each call."
 pub record Consistent (h : Head) (calls : List Call) : Type 0 where
@@ -290,22 +321,24 @@ pub record Consistent (h : Head) (calls : List Call) : Type 0 where
       let k = moment h calls j in
       Contains (applied l c) (applied k d) ⊎ Contains (applied k d) (applied l c)
   -- "Each applied message was sent earlier in the list"
-  pub sent : (before after : List Step) (s : List ℕ) (e : Event) (ms : List Name)
-      → did (entries h calls) ≡ before ++ (carried s e ms ∷ after) → Contains (sentNames (ledger before)) ms
+  pub sent : (before after : List Step) (r : Said) (e : Event) (ms : List Name)
+      → did (version h) (entries h calls) ≡ before ++ (carried r e ms ∷ after) → Contains (sentNames (ledger before)) ms
   -- "and no controller applies it twice": "in two of them, or twice in one"
   pub once : (i c : ℕ) → Distinct (applied (moment h calls i) c)
-  -- "Each look that is not refused shows the sum of the amounts that its controller has applied."
+  -- "Each look that is not refused shows the sum of the amounts that its controller has applied", and for each class of those of
+  -- that class
   pub looks : (i c : ℕ) (a : LookAnswer) (after : List Entry) → drop i (entries h calls) ≡ looked c a ∷ after
       → let l = moment h calls i in
-      a .number ≡ 0 → a .panel .total ≡ amounts (l .sent) (applied l c)
+      a .number ≡ 0 → a .panel ≡ showing (l .sent) (applied l c)
   -- "Whenever more than half of all controllers run and each of these has read every log to its end, each of these has applied
   -- exactly the messages sent, less those cut off with a stopped sender's log"
   pub ending : (i r : ℕ)
       → let l = moment h calls i in
       ReadOut (controllers h) l → Runs (controllers h) l r → Exactly (applied l r) (remaining l)
-  -- "and a look at it shows the sum of their amounts": the list up to a moment, extended by that look
+  -- "and a look at it shows the sum of their amounts", and each class comes out as the whole does: the list up to a moment, extended
+  -- by that look
   pub ending-look : (i r : ℕ)
       → let now = take i calls in
-      let l = ledger (did (entries h now)) in
+      let l = ledger (did (version h) (entries h now)) in
       ReadOut (controllers h) l → Runs (controllers h) l r
-      → LookShows h now r (amounts (l .sent) (remaining l))
+      → LookShows h now r (showing (l .sent) (remaining l))

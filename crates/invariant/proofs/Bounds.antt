@@ -12,7 +12,7 @@ use borrow.Author.Tests.{leb-true, eqb-true, le-leb}
 use Rattle.lists.proofs.Tests.{and-left, and-right, or-cases, cond-case}
 use Rattle.lists.proofs.Below.{sum-bound}
 use Rattle.model.specs.Tables.{message, applied}
-use Rattle.model.specs.Events.{weigh, shown}
+use Rattle.model.specs.Events.{weigh, total, shown}
 use Rattle.model.specs.WellFormed.{fairMagnitude, fairAmount}
 use Rattle.model.specs.declared.Payload.{Payload}
 use Rattle.model.specs.declared.Controller.{Controller}
@@ -71,7 +71,7 @@ difference-high k a (suc b) h =
     cond-case (λ x. leZ x (pos k) ≡ true) (ltb a (suc b)) (negsuc (suc b - suc a)) (pos (a - suc b)) (λ _. refl) (λ _. le-leb (a - suc b) k (omega arith))
 
 pub total-bounds : (t : Table) → WellFormed t → (x : Controller) → (leZ (negsuc 23039) (shown t x .total) ≡ true) × (leZ (shown t x .total) (pos 23040) ≡ true)
-unfolding shown
+unfolding shown total
 total-bounds t w x = (
   difference-low 23039 (weigh (λ p. p .added) t x) (weigh (λ p. p .withdrawn) t x) (withdrawn-bound t w x),
   difference-high 23040 (weigh (λ p. p .added) t x) (weigh (λ p. p .withdrawn) t x) (added-bound t w x),

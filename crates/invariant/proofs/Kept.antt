@@ -22,7 +22,7 @@ use Rattle.model.specs.declared.Event.{Event}
 use Rattle.model.specs.declared.Event.the-variants.{Send, Handover, Stop}
 use Rattle.model.specs.Facts.{Among, GoodController, WellFormed}
 use Rattle.model.proofs.Tested.{facts, tested}
-use Rattle.model.proofs.Allowed.{step-asked, send-allowed, handover-allowed, stop-allowed}
+use Rattle.model.proofs.Allowed.{FreshAllowed, step-asked, send-allowed, handover-allowed, stop-allowed}
 use Rattle.model.proofs.Steps.{step-case, event-number-step}
 use Rattle.invariant.proofs.Sizes.{next-sized}
 use Rattle.invariant.proofs.Sending.{send-well-formed}
@@ -31,13 +31,13 @@ use Rattle.invariant.proofs.Stopping.{stop-well-formed}
 
 -- THE FRESH TABLE
 
-pub at-fresh : (n c : ℕ) → Among seats c → at (fresh n) c ≡ idle 1 absent
+pub at-fresh : (v n c : ℕ) → Among seats c → at (fresh v n) c ≡ idle 1 absent
 unfolding at fresh start
-at-fresh n c h = getD-replicate seats (c - 1) (idle 1 absent) noController (omega arith)
+at-fresh v n c h = getD-replicate seats (c - 1) (idle 1 absent) noController (omega arith)
 
-idle-good : (n i : ℕ) → n ≤ seats → GoodController (fresh n) i (idle 1 absent)
+idle-good : (v n i : ℕ) → n ≤ seats → GoodController (fresh v n) i (idle 1 absent)
 unfolding fresh start idle greatestApplied greatest
-idle-good n i l = record {
+idle-good v n i l = record {
   log-room = omega arith;
   log-run = λ k h. absurd (not-suc-le-zero h);
   log-once = λ j k h. absurd (not-suc-le-zero h);
@@ -51,17 +51,19 @@ idle-good n i l = record {
   long = λ r s h. absurd (not-suc-le-zero h);
 }
 
-pub fresh-well-formed : (n : ℕ) → 0 < n → n ≤ seats → WellFormed (fresh n)
+pub fresh-well-formed : {v n : ℕ} → FreshAllowed v n → WellFormed (fresh v n)
 unfolding fresh start
-fresh-well-formed n low high = record {
-  some = low;
-  few = high;
+fresh-well-formed {v} {n} a = record {
+  version = a .version;
+  some = a .some;
+  few = a .few;
   counted = omega arith;
   names = λ i j h. absurd (not-suc-le-zero h);
   senders = λ s h. absurd (not-suc-le-zero h);
   numbers = λ s h. absurd (not-suc-le-zero h);
   amounts = λ s h. absurd (not-suc-le-zero h);
-  controllers = λ c h. rw (at-fresh n c (omega arith)) (idle-good n c high);
+  classes = λ s h. absurd (not-suc-le-zero h);
+  controllers = λ c h. rw (at-fresh v n c (omega (arith, a .few))) (idle-good v n c (a .few));
 }
 
 -- EVENTS
@@ -78,7 +80,9 @@ pub step-kept : (t : Table) (s : List ℕ) (room : ℕ) → Sized t → wellForm
 unfolding accepted refused
 step-kept t s room z w =
     step-case t s room (λ (o : Outcome). Sized (o .table) × (wellFormed (o .table) ≡ true))
-    (λ e. (next-sized t (decode s) z, tested (next t (decode s)) (next-well-formed t (decode s) z (facts t w) (step-asked t s room e .1))))
+    (λ e.
+    let d = decode (t .version) s in
+    (next-sized t d z, tested (next t d) (next-well-formed t d z (facts t w) (step-asked t s room e .1))))
     (λ _. (z, w))
 
 pub event-kept : (t : Table) (s : List ℕ) (room : ℕ) → Sized t → wellFormed t ≡ true → Sized (event t s room .table) × (wellFormed (event t s room .table) ≡ true)

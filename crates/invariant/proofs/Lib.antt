@@ -13,3 +13,4 @@ pub mod Counter
 pub mod Bounds
 pub mod Refusals
 pub mod Listing
+pub mod Classes

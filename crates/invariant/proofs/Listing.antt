@@ -25,7 +25,6 @@ use Rattle.model.specs.Questions.{firstNo, fileQuestions, eventQuestions, lineF
 use Rattle.model.specs.Calls.{accepted, step}
 use Rattle.model.specs.Runs.{line, lineOf, Progress, lineAt, verdict, records, begun, progress}
 use Rattle.model.specs.declared.Name.{Name}
-use Rattle.model.specs.declared.Panel.{Panel}
 use Rattle.model.specs.declared.Table.{Table}
 use Rattle.model.specs.declared.Event.{Event}
 use Rattle.model.specs.Facts.{Among, WellFormed}
@@ -43,27 +42,27 @@ use Rattle.invariant.proofs.Bounds.{total-bounds}
 -- LINES
 
 -- what a line is written for, in numbers that are small enough
-record SmallLine (e c : ℕ) (p : Panel) (ms : List Name) : Type 0 where
+record SmallLine (e c : ℕ) (z : ℤ) (ms : List Name) : Type 0 where
   event : e < 100000
   controller : c < 100000
-  total : natAbs (p .total) < 100000
+  total : natAbs z < 100000
   names : Every SmallName ms
 
-line-length : (e c : ℕ) (p : Panel) (ms : List Name) → SmallLine e c p ms → length (line e c p ms) ≤ 19 + 8 * length ms
-line-length e c p ms h =
+line-length : (e c : ℕ) (z : ℤ) (ms : List Name) → SmallLine e c z ms → length (line e c z ms) ≤ 19 + 8 * length ms
+line-length e c z ms h =
     omega (
       arith,
-      length-line e c p ms,
+      length-line e c z ms,
       decimal-bound 4 e (h .event),
       decimal-bound 4 c (h .controller),
-      signed-bound 4 (p .total) (h .total),
+      signed-bound 4 z (h .total),
       names-bound ms (h .names),
     )
 
-lineOf-length : (e c : ℕ) (p : Panel) (ms : List Name) → SmallLine e c p ms → length (lineOf e c p ms) ≤ 31 * length ms
+lineOf-length : (e c : ℕ) (z : ℤ) (ms : List Name) → SmallLine e c z ms → length (lineOf e c z ms) ≤ 31 * length ms
 unfolding lineOf
-lineOf-length e c p [] h = omega arith
-lineOf-length e c p (m ∷ ms) h = omega (arith, line-length e c p (m ∷ ms) h)
+lineOf-length e c z [] h = omega arith
+lineOf-length e c z (m ∷ ms) h = omega (arith, line-length e c z (m ∷ ms) h)
 
 -- THE NUMBERS OF A LINE
 
@@ -86,7 +85,7 @@ small-total (negsuc x) l h = omega (arith, leb-true x 23039 l)
 
 -- of an event that no question refuses
 small-line : (t : Table) (e : Event) → Sized t → WellFormed t → firstNo (eventQuestions t e) ≡ 0 → (k : ℕ) → k < 100000
-    → SmallLine k (subject e) (panelOf (next t e) (subject e)) (namesOf t (appliedBy t e))
+    → SmallLine k (subject e) (panelOf (next t e) (subject e) .total) (namesOf t (appliedBy t e))
 unfolding panelOf namesOf
 small-line t e z w q k h =
     let b = total-bounds (next t e) (next-well-formed t e z w q) (at (next t e) (subject e)) in
@@ -169,19 +168,20 @@ module _ (p : Progress) (s : List ℕ) (room space f : ℕ) (h : Listed (suc f) 
       let t = p .table in
       let a = accepted-asked t s room e in
       let q = step-asked t s room a .1 in
-      let ms = namesOf t (appliedBy t (decode s)) in
+      let d = decode (t .version) s in
+      let ms = namesOf t (appliedBy t d) in
       rw (step-is-accepted t s room a) (record {
         going = refl;
         few = omega (arith, h .few);
-        sized = next-sized t (decode s) (h .sized);
-        formed = next-well-formed t (decode s) (h .sized) (h .formed) q;
+        sized = next-sized t d (h .sized);
+        formed = next-well-formed t d (h .sized) (h .formed) q;
         lines = omega (
           arith,
           h .lines,
-          deliveries-next t (decode s) (h .sized) (h .formed) q,
-          length-append (p .lines) (lineOf (p .events + 1) (subject (decode s)) (panelOf (next t (decode s)) (subject (decode s))) ms),
-          lineOf-length (p .events + 1) (subject (decode s)) (panelOf (next t (decode s)) (subject (decode s))) ms
-              (small-line t (decode s) (h .sized) (h .formed) q (p .events + 1) (omega (arith, h .few))),
+          deliveries-next t d (h .sized) (h .formed) q,
+          length-append (p .lines) (lineOf (p .events + 1) (subject d) (panelOf (next t d) (subject d) .total) ms),
+          lineOf-length (p .events + 1) (subject d) (panelOf (next t d) (subject d) .total) ms
+              (small-line t d (h .sized) (h .formed) q (p .events + 1) (omega (arith, h .few))),
         );
       })
 
@@ -223,7 +223,6 @@ pub listing-fits : (s : List ℕ) (room space : ℕ) → firstNo (fileQuestions 
 unfolding progress begun
 listing-fits s room space q h =
     let a = file-allowed s q in
-    let n = byte s 1 in
-    let r = records-fit (length s) (begun n) (drop 2 s) room space h
-    (record { going = refl; few = omega (arith, a .short); sized = fresh-sized n; formed = fresh-well-formed n (a .some) (a .few); lines = omega arith }) in
+    let r = records-fit (length s) (begun (byte s 0) (byte s 1)) (drop 2 s) room space h
+    (record { going = refl; few = omega (arith, a .short); sized = fresh-sized (byte s 0) (byte s 1); formed = fresh-well-formed (a .fresh); lines = omega arith }) in
     (r .not-16, r .short)

@@ -1,6 +1,6 @@
--- The numbers that a step can give: 0, or 5 to 15. Assumes nothing.
+-- The numbers that a step can give: 0, 5 to 15, or 17. Assumes nothing.
 use mathlib.Core.Path.{_≡_, refl}
-use mathlib.Core.Logic.{_⊎_, inl, inr}
+use mathlib.Core.Logic.{_≢_, _⊎_, inl, inr}
 use mathlib.Core.List.{List, [], _∷_, _++_}
 use Prim.Native.Nat.{ℕ, _≤_}
 use native.Mathlib.Omega.{arith}
@@ -12,7 +12,7 @@ use Rattle.model.specs.declared.Event.{Event}
 use Rattle.model.specs.declared.Event.the-variants.{Send, Handover, Stop}
 
 abbrev pub StepNumber : ℕ → Type 0
-StepNumber k = (5 ≤ k) × (k ≤ 15)
+StepNumber k = (5 ≤ k) × (k ≤ 17) × (k ≢ 16)
 
 -- every question has such a number
 abbrev Numbers : List Question → Type 0
@@ -24,12 +24,12 @@ unfolding firstNo
 first-number [] w = inl refl
 first-number (q ∷ qs) w = cond-case (λ k. (k ≡ 0) ⊎ StepNumber k) (q .yes) (firstNo qs) (q .number) (λ _. first-number qs (w .1)) (λ _. inr (w .0))
 
-step-numbers : (t : Table) (s : List ℕ) (room : ℕ) (e : Event) → Numbers (recordQuestions s ++ (eventQuestions t e ++ (scratchRoom room ∷ [])))
+step-numbers : (t : Table) (v : ℕ) (s : List ℕ) (room : ℕ) (e : Event) → Numbers (recordQuestions v s ++ (eventQuestions t e ++ (scratchRoom room ∷ [])))
 unfolding recordQuestions kindQuestions eventQuestions scratchRoom
-step-numbers t s room (Send c p) = omega arith
-step-numbers t s room (Handover r o) = omega arith
-step-numbers t s room (Stop c k) = omega arith
+step-numbers t v s room (Send c p) = omega arith
+step-numbers t v s room (Handover r o) = omega arith
+step-numbers t v s room (Stop c k) = omega arith
 
 pub step-number-range : (t : Table) (s : List ℕ) (room : ℕ) → (firstNo (stepQuestions t s room) ≡ 0) ⊎ StepNumber (firstNo (stepQuestions t s room))
 unfolding stepQuestions
-step-number-range t s room = first-number _ (step-numbers t s room (decode s))
+step-number-range t s room = first-number _ (step-numbers t (t .version) s room (decode (t .version) s))

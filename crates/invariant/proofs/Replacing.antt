@@ -7,7 +7,7 @@ use Prim.Native.Nat.{ℕ, _≤_, _<_}
 use native.Mathlib.Decide.{ℕ-discrete}
 use Rattle.model.specs.Tables.{seats, capacity, at, message, place, withController}
 use Rattle.model.specs.Sized.{Sized}
-use Rattle.model.specs.WellFormed.{fairAmount, greatestApplied}
+use Rattle.model.specs.WellFormed.{known, fairAmount, fairClass, greatestApplied}
 use Rattle.model.specs.declared.Controller.{Controller}
 use Rattle.model.specs.declared.Table.{Table}
 use Rattle.model.specs.Facts.{Among, GoodController, WellFormed}
@@ -15,6 +15,7 @@ use Rattle.invariant.proofs.Stores.{seated, at-same, at-other}
 
 -- well formed, but perhaps for controller c
 pub record WellFormedBut (t : Table) (c : ℕ) : Type 0 where
+  pub version : known (t .version) ≡ true
   pub some : 0 < t .n
   pub few : t .n ≤ seats
   pub counted : t .count ≤ capacity
@@ -23,10 +24,12 @@ pub record WellFormedBut (t : Table) (c : ℕ) : Type 0 where
   pub senders : (s : ℕ) → s < t .count → Among (t .n) (message t s .sender)
   pub numbers : (s : ℕ) → s < t .count → (0 < message t s .number .0) × (message t s .number .0 ≤ 64)
   pub amounts : (s : ℕ) → s < t .count → fairAmount (message t s .payload) ≡ true
+  pub classes : (s : ℕ) → s < t .count → fairClass (t .version) (message t s .payload) ≡ true
   pub controllers : (d : ℕ) → Among (t .n) d → d ≢ c → GoodController t d (at t d)
 
 pub but-one : (t : Table) (c : ℕ) → WellFormed t → WellFormedBut t c
 but-one t c w = record {
+  version = w .version;
   some = w .some;
   few = w .few;
   counted = w .counted;
@@ -34,6 +37,7 @@ but-one t c w = record {
   senders = w .senders;
   numbers = w .numbers;
   amounts = w .amounts;
+  classes = w .classes;
   controllers = λ d h _. w .controllers d h;
 }
 
@@ -60,6 +64,7 @@ pub replaced : (t : Table) (c : ℕ) (x : Controller) → Sized t → WellFormed
     → WellFormed (withController t c x)
 unfolding withController message
 replaced t c x z w hc g own others = record {
+  version = w .version;
   some = w .some;
   few = w .few;
   counted = w .counted;
@@ -67,6 +72,7 @@ replaced t c x z w hc g own others = record {
   senders = w .senders;
   numbers = w .numbers;
   amounts = w .amounts;
+  classes = w .classes;
   controllers = λ d h. good d h (ℕ-discrete d c);
 }
   where

@@ -10,7 +10,7 @@ use Rattle.lists.proofs.Below.{greatest-ext, greatest-last}
 use Rattle.model.specs.Tables.{capacity, yes?, at, message, held, applied, unheld, withController, withMessage}
 use Rattle.model.specs.Events.{numberOf, sentMessage, sent}
 use Rattle.model.specs.Sized.{Sized}
-use Rattle.model.specs.WellFormed.{inLog, fairAmount, greatestApplied}
+use Rattle.model.specs.WellFormed.{inLog, fairAmount, fairClass, greatestApplied}
 use Rattle.model.specs.declared.Message.{Message}
 use Rattle.model.specs.declared.Payload.{Payload}
 use Rattle.model.specs.declared.Controller.{Controller}
@@ -127,6 +127,7 @@ module _ (t : Table) (w : WellFormed t) (z : Sized t) (c : ℕ) (p : Payload) (a
   but-sender : WellFormedBut (withMessage t (sentMessage t c p)) c
   unfolding withMessage at sentMessage
   but-sender = record {
+    version = w .version;
     some = w .some;
     few = w .few;
     counted = omega (arith, a .room);
@@ -134,6 +135,7 @@ module _ (t : Table) (w : WellFormed t) (z : Sized t) (c : ℕ) (p : Payload) (a
     senders = added-each t (sentMessage t c p) (λ m. Among (t .n) (m .sender)) z (a .room) (a .sender) (w .senders);
     numbers = added-each t (sentMessage t c p) (λ m. (0 < m .number .0) × (m .number .0 ≤ 64)) z (a .room) (omega arith, omega (arith, a .room, log-room)) (w .numbers);
     amounts = added-each t (sentMessage t c p) (λ m. fairAmount (m .payload) ≡ true) z (a .room) (a .amount) (w .amounts);
+    classes = added-each t (sentMessage t c p) (λ m. fairClass (t .version) (m .payload) ≡ true) z (a .room) (a .class) (w .classes);
     controllers = λ d h n. added-good t (sentMessage t c p) z (a .room) d (at t d) (w .controllers d h) n;
   }
     where

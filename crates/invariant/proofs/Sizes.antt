@@ -161,9 +161,9 @@ next-n t (Stop c k) = refl
 
 -- THE FRESH TABLE
 
-pub fresh-sized : (n : ℕ) → Sized (fresh n)
+pub fresh-sized : (v n : ℕ) → Sized (fresh v n)
 unfolding fresh start idle
-fresh-sized n = record {
+fresh-sized v n = record {
   messages = refl;
   controllers = refl;
   each = λ i h. rw (getD-replicate seats i (idle 1 absent) noController h) (record {

@@ -250,7 +250,7 @@ table =
     ∷ shows 1 3 worked 2 ([] ∷ [] ∷ [] ∷ (101 ∷ []) ∷ [] ∷ [] ∷ (101 ∷ []) ∷ (301 ∷ []) ∷ [] ∷ [] ∷ []) (pos 28) (pos 28 ∷ none ∷ none ∷ none ∷ none ∷ [])
     ∷ shows 1 1 (report 1 (minus 7) ∷ handover 1 1 ∷ stop 1 1 ∷ []) 1 ([] ∷ (101 ∷ []) ∷ [] ∷ []) (negsuc 6) (negsuc 6 ∷ none ∷ none ∷ none ∷ none ∷ [])
     ∷ shows 2 1 (classed 1 30 2 ∷ handover 1 1 ∷ classed 1 (minus 7) 4 ∷ handover 1 1 ∷ classed 1 5 2 ∷ handover 1 1 ∷ []) 1 (each 3 101) (pos 28)
-        (none ∷ none ∷ pos 35 ∷ none ∷ negsuc 6 ∷ [])
+    (none ∷ none ∷ pos 35 ∷ none ∷ negsuc 6 ∷ [])
     ∷ []
 
 results : List Row → List Given

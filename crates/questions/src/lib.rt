@@ -167,7 +167,15 @@ pub fn refusal(t: Table, e: Event) -> u8
     match e {
         Event::Send { sender, payload } => {
             let messages = t.messages;
-            send_refusal(t.version, t.n, t.count, messages, controllers, sender, payload)
+            send_refusal(
+                t.version,
+                t.n,
+                t.count,
+                messages,
+                controllers,
+                sender,
+                payload,
+            )
         }
         Event::Handover { receiver, owner } => handover_refusal(t.n, controllers, receiver, owner),
         Event::Stop { controller, kept } => stop_refusal(t.n, controllers, controller, kept),

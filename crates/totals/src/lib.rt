@@ -63,8 +63,7 @@ pub fn total(count: usize, messages: [Message; 64], applied: [u8; 64]) -> i32
 }
 
 // Sums of classes, with amounts more in one of them; of a class that there is none of nothing changes.
-fn with_amounts(sums: [Amounts; 5], class: usize, added: u32, withdrawn: u32) -> [Amounts; 5]
-{
+fn with_amounts(sums: [Amounts; 5], class: usize, added: u32, withdrawn: u32) -> [Amounts; 5] {
     if CLASSES <= class {
         return sums;
     }
@@ -78,8 +77,7 @@ fn with_amounts(sums: [Amounts; 5], class: usize, added: u32, withdrawn: u32) ->
 }
 
 // The sums of each class.
-fn classed(count: usize, messages: [Message; 64], applied: [u8; 64]) -> [Amounts; 5]
-{
+fn classed(count: usize, messages: [Message; 64], applied: [u8; 64]) -> [Amounts; 5] {
     let none = Amounts {
         added: 0,
         withdrawn: 0,
@@ -88,14 +86,18 @@ fn classed(count: usize, messages: [Message; 64], applied: [u8; 64]) -> [Amounts
     for s in 0..numbers::at_most(count, Table::MESSAGES) {
         let flag = applied[s];
         let p = messages[s].payload;
-        sums = with_amounts(sums, p.class as usize, counted(flag, p.added), counted(flag, p.withdrawn));
+        sums = with_amounts(
+            sums,
+            p.class as usize,
+            counted(flag, p.added),
+            counted(flag, p.withdrawn),
+        );
     }
     sums
 }
 
 // The total of each class.
-fn differences(sums: [Amounts; 5]) -> [i32; 5]
-{
+fn differences(sums: [Amounts; 5]) -> [i32; 5] {
     let mut totals: [i32; 5] = [0; CLASSES];
     for k in 0..CLASSES {
         totals[k] = difference(sums[k]);
