@@ -1,13 +1,15 @@
 -- Laws of questions 6 and 7 and of the decoder, by the tests of the code. Assumes nothing.
-use mathlib.Core.Path.{_≡_, sym, _∙_}
-use mathlib.Core.Bool.{Bool, true, false, _&&_}
-use mathlib.Core.List.{List}
+use mathlib.Core.Path.{_≡_, refl, sym, _∙_}
+use mathlib.Core.Bool.{Bool, true, false, _&&_, cond, true≢false}
+use mathlib.Core.List.{List, [], _∷_}
 use mathlib.Core.Logic.{_≢_}
-use Prim.Native.Nat.{ℕ, _+_}
-use borrow.Author.Tests.{eq-eqb, ne-eqb}
-use lib.Dec.{ltb, leb}
+use Prim.Native.Nat.{ℕ, zero, suc, _+_}
+use borrow.Author.Tests.{eqb-true, eq-eqb, ne-eqb}
+use lib.Dec.{eqb, ltb, leb}
+use lib.ListN.{getD}
+use Rattle.lists.proofs.Tests.{and-left, and-right}
 use Rattle.model.specs.Tables.{sync}
-use Rattle.model.specs.Records.{byte, size, kind, word, sizeOf, amount, decode}
+use Rattle.model.specs.Records.{byte, size, kind, word, sizeOf, classIn, reported, decode}
 use Rattle.model.specs.Questions.{firstNo, kindQuestions, recordQuestions}
 use Rattle.model.specs.declared.Event.{Event}
 use Rattle.model.specs.declared.Event.the-variants.{Send, Handover, Stop}
@@ -15,60 +17,77 @@ use Rattle.records.specs.declared.Record.{Record}
 use Rattle.records.specs.Cuts.{whole, recordOf}
 use Rattle.records.proofs.Cuts.{IsWhole}
 
+-- THE LENGTH OF A KIND
+
+-- a report of version 2 alone has another length than in version 1
+pub size-classed : (v k : ℕ) → (eqb v 2 && eqb k 1) ≡ true → 5 ≡ sizeOf v k
+unfolding sizeOf
+size-classed v k e = rw (eqb-true k 1 (and-right (eqb v 2) _ e), and-left (eqb v 2) _ e)
+
+pub size-other : (v k : ℕ) → (eqb v 2 && eqb k 1) ≡ false → getD (0 ∷ 4 ∷ 2 ∷ 3 ∷ 4 ∷ []) k 0 ≡ sizeOf v k
+unfolding sizeOf
+size-other v zero e = refl
+size-other v (suc zero) e = go (eqb v 2) e
+  where
+    go : (b : Bool) → (b && true) ≡ false → _≡_ {A = ℕ} 4 (cond b 5 4)
+    go true f = absurd (true≢false f)
+    go false f = refl
+size-other v (suc (suc k)) e = refl
+
 -- THE FIRST NO
 
 -- question 6, as the code puts it
 abbrev pub hasKind : ℕ → ℕ → Bool
 hasKind n k = ltb 0 n && (ltb 0 k && leb k 4)
 
-pub refused-five : (s : List ℕ) → whole s ≡ false → 5 ≡ firstNo (recordQuestions s)
+pub refused-five : (v : ℕ) (s : List ℕ) → whole s ≡ false → 5 ≡ firstNo (recordQuestions v s)
 unfolding whole firstNo recordQuestions
-refused-five s e = rw e
+refused-five v s e = rw e
 
-pub refused-six : (n k : ℕ) → hasKind n k ≡ false → 6 ≡ firstNo (kindQuestions n k)
+pub refused-six : (v n k : ℕ) → hasKind n k ≡ false → 6 ≡ firstNo (kindQuestions v n k)
 unfolding firstNo kindQuestions
-refused-six n k f = rw f
+refused-six v n k f = rw f
 
-pub refused-seven : (n k d : ℕ) → hasKind n k ≡ true → d ≡ sizeOf k → (n ≡ d → ⊥) → 7 ≡ firstNo (kindQuestions n k)
+pub refused-seven : (v n k d : ℕ) → hasKind n k ≡ true → d ≡ sizeOf v k → (n ≡ d → ⊥) → 7 ≡ firstNo (kindQuestions v n k)
 unfolding firstNo kindQuestions
-refused-seven n k d f g h = rw (f, ← g, ne-eqb n d h)
+refused-seven v n k d f g h = rw (f, ← g, ne-eqb n d h)
 
-pub shaped : (n k d : ℕ) → hasKind n k ≡ true → d ≡ sizeOf k → n ≡ d → 0 ≡ firstNo (kindQuestions n k)
+pub shaped : (v n k d : ℕ) → hasKind n k ≡ true → d ≡ sizeOf v k → n ≡ d → 0 ≡ firstNo (kindQuestions v n k)
 unfolding firstNo kindQuestions
-shaped n k d f g h = rw (f, ← g, eq-eqb n d h)
+shaped v n k d f g h = rw (f, ← g, eq-eqb n d h)
 
 -- of a record that is there whole, questions 6 and 7 are left
-pub kind-left : (s : List ℕ) (n k : ℕ) → IsWhole s n → k ≡ kind s → firstNo (kindQuestions n k) ≡ firstNo (recordQuestions s)
+pub kind-left : (v : ℕ) (s : List ℕ) (n k : ℕ) → IsWhole s n → k ≡ kind s → firstNo (kindQuestions v n k) ≡ firstNo (recordQuestions v s)
 unfolding whole firstNo recordQuestions
-kind-left s n k w e = rw (w .test, ← w .counted, ← e)
+kind-left v s n k w e = rw (w .test, ← w .counted, ← e)
 
 -- THE RECORD
 
-pub record-refused : (s : List ℕ) (k : ℕ) (e : Event) → k ≡ firstNo (recordQuestions s) → k ≢ 0 → e ≡ decode s
-    → record { number = k; used = 0; event = e } ≡ recordOf s
+pub record-refused : (v : ℕ) (s : List ℕ) (k : ℕ) (e : Event) → k ≡ firstNo (recordQuestions v s) → k ≢ 0 → e ≡ decode v s
+    → record { number = k; used = 0; event = e } ≡ recordOf v s
 unfolding recordOf
-record-refused s k e q n d = rw (← q, ne-eqb k 0 n, d)
+record-refused v s k e q n d = rw (← q, ne-eqb k 0 n, d)
 
-pub record-read : (s : List ℕ) (k n : ℕ) (e : Event) → k ≡ firstNo (recordQuestions s) → k ≡ 0 → n ≡ size s → e ≡ decode s
-    → record { number = k; used = n + 1; event = e } ≡ recordOf s
+pub record-read : (v : ℕ) (s : List ℕ) (k n : ℕ) (e : Event) → k ≡ firstNo (recordQuestions v s) → k ≡ 0 → n ≡ size s → e ≡ decode v s
+    → record { number = k; used = n + 1; event = e } ≡ recordOf v s
 unfolding recordOf
-record-read s k n e q z m d = rw (← q, eq-eqb k 0 z, m, d)
+record-read v s k n e q z m d = rw (← q, eq-eqb k 0 z, m, d)
 
 -- THE EVENT
 
-module _ (s : List ℕ) (k : ℕ) (e : k ≡ kind s) where
-  pub decode-report : k ≡ 1 → Send (byte s 2) (amount (word s 3)) ≡ decode s
+module _ (v : ℕ) (s : List ℕ) (k : ℕ) (e : k ≡ kind s) where
+  pub decode-report : k ≡ 1 → Send (byte s 2) (reported (classIn v s) (word s 3)) ≡ decode v s
   unfolding decode
   decode-report h = rw (eq-eqb (kind s) 1 (sym e ∙ h))
 
-  pub decode-sync : k ≡ 2 → Send (byte s 2) sync ≡ decode s
+  pub decode-sync : k ≡ 2 → Send (byte s 2) sync ≡ decode v s
   unfolding decode
   decode-sync h = rw (sym e ∙ h)
 
-  pub decode-handover : k ≡ 3 → Handover (byte s 2) (byte s 3) ≡ decode s
+  pub decode-handover : k ≡ 3 → Handover (byte s 2) (byte s 3) ≡ decode v s
   unfolding decode
   decode-handover h = rw (sym e ∙ h)
 
-  pub decode-stop : (k ≡ 1 → ⊥) → (k ≡ 2 → ⊥) → (k ≡ 3 → ⊥) → Stop (byte s 2) (word s 3) ≡ decode s
+  pub decode-stop : (k ≡ 1 → ⊥) → (k ≡ 2 → ⊥) → (k ≡ 3 → ⊥) → Stop (byte s 2) (word s 3) ≡ decode v s
   unfolding decode
   decode-stop a b c = rw (← e, ne-eqb k 1 a, ne-eqb k 2 b, ne-eqb k 3 c)

@@ -72,19 +72,19 @@ module _ (n k : ℕ) (c : Controller) (fits : k ≤ 64) (logged : (j : ℕ) → 
       good s h (yes l) = both (f .apart s l) (both (or-left _ (lt-ltb s k l)) (implies-of (yes? (c .running)) _ (λ q. eq-beq _ _ (f .exactly q s l))))
       good s h (no l) = rw (f .outside s h (omega arith) .0, f .outside s h (omega arith) .1, unnamed s (omega arith), le-ltb s k (omega arith)) (or-right (not (yes? (c .running))) refl)
 
-  of-clauses : (goodMarks (part n k []) c && (goodBuffer (part n k []) c && exact)) ≡ true → Facts
+  of-clauses : (goodMarks (part 0 n k []) c && (goodBuffer (part 0 n k []) c && exact)) ≡ true → Facts
   unfolding goodMarks goodBuffer goodEntry
   of-clauses e = record {
     marks = all-at k _ (and-left _ _ e);
     apart = all-at k _ (and-left _ _ buffer);
     outside = λ s h l. neither (held c s) (applied c s) (elsewhere (ltb s k) _ (le-ltb s k l) (all-at 64 _ (and-right (all k (λ s. not (held c s && applied c s))) _ buffer) s h));
-    exactly = λ q s h. beq-eq _ _ (all-at k _ (implies-at (yes? (c .running)) _ (and-right (goodBuffer (part n k []) c) _ (and-right (goodMarks (part n k []) c) _ e)) q) s h);
+    exactly = λ q s h. beq-eq _ _ (all-at k _ (implies-at (yes? (c .running)) _ (and-right (goodBuffer (part 0 n k []) c) _ (and-right (goodMarks (part 0 n k []) c) _ e)) q) s h);
   }
     where
-      buffer : goodBuffer (part n k []) c ≡ true
-      buffer = and-left _ _ (and-right (goodMarks (part n k []) c) _ e)
+      buffer : goodBuffer (part 0 n k []) c ≡ true
+      buffer = and-left _ _ (and-right (goodMarks (part 0 n k []) c) _ e)
 
-  to-clauses : Facts → (goodMarks (part n k []) c && (goodBuffer (part n k []) c && exact)) ≡ true
+  to-clauses : Facts → (goodMarks (part 0 n k []) c && (goodBuffer (part 0 n k []) c && exact)) ≡ true
   unfolding goodMarks goodBuffer goodEntry
   to-clauses f =
       both (all-of k _ (f .marks))
@@ -95,7 +95,7 @@ module _ (n k : ℕ) (c : Controller) (fits : k ≤ 64) (logged : (j : ℕ) → 
       beyond s h (yes l) = or-left _ (lt-ltb s k l)
       beyond s h (no l) = let o = f .outside s h (omega arith) in or-right (ltb s k) (both (ap not (o .0)) (ap not (o .1)))
 
-  pub slots-are : (all 64 (λ s. goodEntry n (entry (c .pending) s)) && all 64 slot) ≡ (goodMarks (part n k []) c && (goodBuffer (part n k []) c && exact))
+  pub slots-are : (all 64 (λ s. goodEntry n (entry (c .pending) s)) && all 64 slot) ≡ (goodMarks (part 0 n k []) c && (goodBuffer (part 0 n k []) c && exact))
   slots-are =
       bool-eq _ _
       (λ e. to-clauses (of-slots (and-left _ _ e) (and-right (all 64 (λ s. goodEntry n (entry (c .pending) s))) _ e)))

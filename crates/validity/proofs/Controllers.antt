@@ -15,7 +15,7 @@ use Rattle.lists.proofs.Tests.{and-left, and-right}
 use Rattle.lists.proofs.Below.{all-at}
 use Rattle.lists.proofs.Build.{getD-tabulate}
 use Rattle.model.specs.Tables.{none, noController, at, message, yes?, slotAt, place, held, applied, highest}
-use Rattle.model.specs.WellFormed.{inLog, greatestApplied, inRange, named, goodMark, goodMessage, goodMessages, goodLog, goodPlaces, goodMarks, goodBuffer, goodHighest, goodRunning, goodController, wellFormed}
+use Rattle.model.specs.WellFormed.{inLog, greatestApplied, known, inRange, named, goodMark, goodMessage, goodMessages, goodLog, goodPlaces, goodMarks, goodBuffer, goodHighest, goodRunning, goodController, wellFormed}
 use Rattle.model.specs.declared.Message.{Message}
 use Rattle.model.specs.declared.Controller.{Controller}
 use Rattle.model.specs.declared.Table.{Table}
@@ -35,11 +35,11 @@ all-ext (suc n) p q f = ap₂ _&&_ (f n (omega arith)) (all-ext n p q (λ k h. f
 -- ONE CONTROLLER
 
 module _ (n k : ℕ) (M : List Message) (sent : ℕ) (c : Controller) where
-  pub long-log : 64 < c .length → false ≡ goodAlone (part n k M) sent c
+  pub long-log : 64 < c .length → false ≡ goodAlone (part 0 n k M) sent c
   unfolding goodAlone goodLog
   long-log h = rw (lt-leb (c .length) 64 h)
 
-  pub bad-log : c .length ≤ 64 → goodEntries k (c .length) (c .log) ≡ false → false ≡ goodAlone (part n k M) sent c
+  pub bad-log : c .length ≤ 64 → goodEntries k (c .length) (c .log) ≡ false → false ≡ goodAlone (part 0 n k M) sent c
   unfolding goodAlone goodLog goodEntries
   bad-log h e = rw (le-leb (c .length) 64 h, e)
 
@@ -60,7 +60,7 @@ module _ (n k : ℕ) (M : List Message) (sent : ℕ) (c : Controller) where
         ap₂ (λ x y. goodSlot (ltb s k) (yes? (c .running)) x (applied c s) y)
         (rw (buffered .held) (getD-tabulate 64 (λ s. held c s) false s h)) (rw (reads .named good) (getD-tabulate 64 (taken (λ j. slotAt c j) (c .length)) false s h)))
 
-    highest-read : all n (λ x. eqb (getD (c .highest) x none .0) (getD G (x + 1) 0)) ≡ goodHighest (part n k M) c
+    highest-read : all n (λ x. eqb (getD (c .highest) x none .0) (getD G (x + 1) 0)) ≡ goodHighest (part 0 n k M) c
     unfolding goodHighest greatestApplied greatestOf message
     highest-read = all-ext n _ _ (λ x h.
         ap₂ eqb (ap (λ j. getD (c .highest) j none .0) (omega arith))
@@ -75,20 +75,20 @@ module _ (n k : ℕ) (M : List Message) (sent : ℕ) (c : Controller) where
     regroup true true false false false l = refl
 
     logged-alone :
-        (goodMarks (part n k []) c && (goodBuffer (part n k []) c && (goodHighest (part n k M) c
+        (goodMarks (part 0 n k []) c && (goodBuffer (part 0 n k []) c && (goodHighest (part 0 n k M) c
         && (not (yes? (c .running)) || (all k (λ s. Bool·beq (inLog c s) (held c s || applied c s)) && leb sent (c .length))))))
-        ≡ goodAlone (part n k M) sent c
+        ≡ goodAlone (part 0 n k M) sent c
     unfolding goodAlone goodLog goodEntries goodMarks goodBuffer
     logged-alone = rw (le-leb (c .length) 64 short, entries)
 
     pub alone-is : (slots highest : Bool)
         → slots ≡ all 64 (slotTest k (yes? (c .running)) (b .held) (c .applied) (e .named))
         → highest ≡ all n (λ x. eqb (getD (c .highest) x none .0) (getD G (x + 1) 0))
-        → ((b .good && slots) && (highest && (not (yes? (c .running)) || leb sent (c .length)))) ≡ goodAlone (part n k M) sent c
+        → ((b .good && slots) && (highest && (not (yes? (c .running)) || leb sent (c .length)))) ≡ goodAlone (part 0 n k M) sent c
     alone-is slots highest s h =
         ap₂ (λ x y. x && (y && (not (yes? (c .running)) || leb sent (c .length))))
         (ap₂ _&&_ (buffered .good) (s ∙ slots-read) ∙ slots-are n k c fits logged) (h ∙ highest-read)
-        ∙ regroup (goodMarks (part n k []) c) (goodBuffer (part n k []) c) (goodHighest (part n k M) c) (not (yes? (c .running))) _ _ ∙ logged-alone
+        ∙ regroup (goodMarks (part 0 n k []) c) (goodBuffer (part 0 n k []) c) (goodHighest (part 0 n k M) c) (not (yes? (c .running))) _ _ ∙ logged-alone
 
 -- ITS READ POSITIONS AND WHAT IT SENT
 
@@ -105,11 +105,11 @@ place-next : (c : Controller) (o : ℕ) → getD (c .read) o 0 ≡ place c (suc 
 place-next c o = ap (λ j. getD (c .read) j 0) (omega arith)
 
 module _ (n k : ℕ) (M : List Message) (C : List Controller) (few : n ≤ 7) (fits : k ≤ 64) where
-  places-are : (c : Controller) → all n (λ o. leb (getD (c .read) o 0) (getD (logEnds C) o 0)) ≡ goodPlaces (whole n k M C) c
+  places-are : (c : Controller) → all n (λ o. leb (getD (c .read) o 0) (getD (logEnds C) o 0)) ≡ goodPlaces (whole 0 n k M C) c
   unfolding goodPlaces
   places-are c =
       all-ext n _ _
-      (λ o h. ap₂ leb (place-next c o) (getD-tabulate 7 _ 0 o (omega arith) ∙ ap (λ d. d .length) (at-next (whole n k M C) o)))
+      (λ o h. ap₂ leb (place-next c o) (getD-tabulate 7 _ 0 o (omega arith) ∙ ap (λ d. d .length) (at-next (whole 0 n k M C) o)))
 
   swap : (p l r : Bool) → (p && (l && r)) ≡ (l && (p && r))
   swap true l r = refl
@@ -117,9 +117,9 @@ module _ (n k : ℕ) (M : List Message) (C : List Controller) (few : n ≤ 7) (f
   swap false false r = refl
 
   joined : (i : ℕ) (c : Controller)
-      → (goodPlaces (whole n k M C) c && goodAlone (part n k M) (greatestOf k M (replicate 64 1) i) c) ≡ goodController (whole n k M C) i c
+      → (goodPlaces (whole 0 n k M C) c && goodAlone (part 0 n k M) (greatestOf k M (replicate 64 1) i) c) ≡ goodController (whole 0 n k M C) i c
   unfolding goodAlone goodController goodLog goodMarks goodBuffer goodHighest greatestApplied goodRunning message
-  joined i c = rw (long-enough k M i (c .length) fits) (swap (goodPlaces (whole n k M C) c) (goodLog (whole n k M C) c) _)
+  joined i c = rw (long-enough k M i (c .length) fits) (swap (goodPlaces (whole 0 n k M C) c) (goodLog (whole 0 n k M C) c) _)
 
 -- what is known when the controllers before place i are tested
 pub record Tested (n k : ℕ) (M : List Message) (C : List Controller) (ends sent : List ℕ) (allowed : List Bool) (i : ℕ) : Type 0 where
@@ -130,22 +130,22 @@ pub record Tested (n k : ℕ) (M : List Message) (C : List Controller) (ends sen
   pub ends-are : ends ≡ logEnds C
   pub sent-are : sent ≡ tabulate 8 (greatestOf k M (replicate 64 1))
   pub allowed-are : allowed ≡ tabulate 256 goodMark
-  pub good : true ≡ all i (λ j. goodController (whole n k M C) (suc j) (at (whole n k M C) (suc j)))
+  pub good : true ≡ all i (λ j. goodController (whole 0 n k M C) (suc j) (at (whole 0 n k M C) (suc j)))
 
 pub controller-is : (n k : ℕ) (M : List Message) (C : List Controller) (ends sent : List ℕ) (allowed : List Bool) (i : ℕ) (places alone : Bool)
     → Tested n k M C ends sent allowed i → i < n
     → places ≡ all n (λ o. leb (getD (getD C i noController .read) o 0) (getD ends o 0))
-    → alone ≡ goodAlone (part n k M) (getD sent (i + 1) 0) (getD C i noController)
-    → (places && alone) ≡ goodController (whole n k M C) (suc i) (at (whole n k M C) (suc i))
+    → alone ≡ goodAlone (part 0 n k M) (getD sent (i + 1) 0) (getD C i noController)
+    → (places && alone) ≡ goodController (whole 0 n k M C) (suc i) (at (whole 0 n k M C) (suc i))
 controller-is n k M C ends sent allowed i places alone t h p a =
     rw (p, t .ends-are, a, t .sent-are, getD-tabulate 8 (greatestOf k M (replicate 64 1)) 0 (i + 1) (omega (arith, t .few)), add-one i, places-are n k M C (t .few) (t .fits) (getD C i noController))
-    (joined n k M C (t .few) (t .fits) (suc i) (getD C i noController) ∙ ap (goodController (whole n k M C) (suc i)) (at-next (whole n k M C) i))
+    (joined n k M C (t .few) (t .fits) (suc i) (getD C i noController) ∙ ap (goodController (whole 0 n k M C) (suc i)) (at-next (whole 0 n k M C) i))
 
 -- THE WHOLE TEST
 
 module _ (t : Table) where
   abbrev pub inBounds : Bool
-  inBounds = ltb 0 (t .n) && (leb (t .n) 7 && leb (t .count) 64)
+  inBounds = known (t .version) && (ltb 0 (t .n) && (leb (t .n) 7 && leb (t .count) 64))
 
   pub out-of-range : not inBounds ≡ true → false ≡ wellFormed t
   unfolding wellFormed inRange
@@ -153,7 +153,7 @@ module _ (t : Table) where
 
   module _ (e : not inBounds ≡ false) where
     sizes : (leb (t .n) 7 && leb (t .count) 64) ≡ true
-    sizes = and-right (ltb 0 (t .n)) _ (not-false inBounds e)
+    sizes = and-right (ltb 0 (t .n)) _ (and-right (known (t .version)) _ (not-false inBounds e))
 
     pub few : t .n ≤ 7
     few = leb-true (t .n) 7 (and-left _ _ sizes)
@@ -161,15 +161,23 @@ module _ (t : Table) where
     pub fits : t .count ≤ 64
     fits = leb-true (t .count) 64 (and-right (leb (t .n) 7) _ sizes)
 
-    whole-messages : goodMessages (part (t .n) (t .count) (t .messages)) ≡ goodMessages t
+    whole-messages : goodMessages (part (t .version) (t .n) (t .count) (t .messages)) ≡ goodMessages t
     unfolding goodMessages goodMessage named message
     whole-messages = refl
 
-    pub bad-messages : goodMessages (part (t .n) (t .count) (t .messages)) ≡ false → false ≡ wellFormed t
+    pub bad-messages : goodMessages (part (t .version) (t .n) (t .count) (t .messages)) ≡ false → false ≡ wellFormed t
     unfolding wellFormed inRange
     bad-messages m = rw (not-false inBounds e, sym whole-messages ∙ m)
 
-    pub tested : goodMessages (part (t .n) (t .count) (t .messages)) ≡ true → (controllers : Bool)
-        → controllers ≡ all (t .n) (λ i. goodController t (suc i) (at t (suc i))) → controllers ≡ wellFormed t
+    -- no clause of a controller reads the version
+    abbrev unversioned : Table
+    unversioned = whole 0 (t .n) (t .count) (t .messages) (t .controllers)
+
+    all-alike : all (t .n) (λ i. goodController unversioned (suc i) (at unversioned (suc i))) ≡ all (t .n) (λ i. goodController t (suc i) (at t (suc i)))
+    unfolding goodController goodLog goodPlaces goodMarks goodBuffer goodHighest goodRunning greatestApplied at message
+    all-alike = refl
+
+    pub tested : goodMessages (part (t .version) (t .n) (t .count) (t .messages)) ≡ true → (controllers : Bool)
+        → controllers ≡ all (t .n) (λ i. goodController unversioned (suc i) (at unversioned (suc i))) → controllers ≡ wellFormed t
     unfolding wellFormed inRange
-    tested m controllers c = rw (not-false inBounds e, sym whole-messages ∙ m) c
+    tested m controllers c = rw (not-false inBounds e, sym whole-messages ∙ m) (c ∙ all-alike)

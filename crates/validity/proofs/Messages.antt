@@ -29,9 +29,9 @@ pub record Coded (m : Message) : Type 0 where
   pub sender : m .sender ≤ 7
   pub number : m .number .0 ≤ 64
 
-pub good-coded : (n : ℕ) (m : Message) → n ≤ 7 → goodMessage (part n 0 []) m ≡ true → Coded m
+pub good-coded : (v n : ℕ) (m : Message) → n ≤ 7 → goodMessage (part v n 0 []) m ≡ true → Coded m
 unfolding goodMessage named
-good-coded n m few e =
+good-coded v n m few e =
     let numbers = and-right (ltb 0 (m .sender) && leb (m .sender) n) _ e in
     let sender = leb-true (m .sender) n (and-right (ltb 0 (m .sender)) _ (and-left (ltb 0 (m .sender) && leb (m .sender) n) _ e)) in
     record { sender = omega arith; number = leb-true (m .number .0) 64 (and-left (leb (m .number .0) 64) _ (and-right (ltb 0 (m .number .0)) _ numbers)) }
@@ -54,12 +54,12 @@ code-alike a b ha hb =
 
 -- THE PASS
 
-module _ (n : ℕ) (M : List Message) where
+module _ (v n : ℕ) (M : List Message) where
   abbrev code : ℕ → ℕ
   code s = nameCode (getD M s noMessage)
 
   abbrev pub Good : ℕ → Type 0
-  Good s = goodMessage (part n 0 []) (getD M s noMessage) ≡ true
+  Good s = goodMessage (part v n 0 []) (getD M s noMessage) ≡ true
 
   abbrev alike : ℕ → ℕ → Bool
   alike i j = sameName (getD M i noMessage) (getD M j noMessage)
@@ -73,20 +73,20 @@ module _ (n : ℕ) (M : List Message) where
   pub none-read : Read 0 (replicate 520 false)
   none-read = record { flags = none-taken code 520; good = λ j h. absurd (omega arith); apart = distinct-of 0 alike (λ i j h. absurd (omega arith)) }
 
-  pub bad-message : (k s : ℕ) → s < k → goodMessage (part n 0 []) (getD M s noMessage) ≡ false → false ≡ goodMessages (part n k M)
+  pub bad-message : (k s : ℕ) → s < k → goodMessage (part v n 0 []) (getD M s noMessage) ≡ false → false ≡ goodMessages (part v n k M)
   unfolding goodMessages goodMessage named message
-  bad-message k s h e = rw (← all-failed k (λ s. goodMessage (part n 0 []) (getD M s noMessage)) s h e) (sym (and-false (distinct k alike)))
+  bad-message k s h e = rw (← all-failed k (λ s. goodMessage (part v n 0 []) (getD M s noMessage)) s h e) (sym (and-false (distinct k alike)))
 
-  pub all-read : (k : ℕ) (seen : List Bool) → Read k seen → true ≡ goodMessages (part n k M)
+  pub all-read : (k : ℕ) (seen : List Bool) → Read k seen → true ≡ goodMessages (part v n k M)
   unfolding goodMessages goodMessage named message
   all-read k seen r = sym (both (r .apart) (all-of k _ (r .good)))
 
   module _ (few : n ≤ 7) (s : ℕ) (seen : List Bool) (r : Read s seen) (good : Good s) where
     coded : Coded (getD M s noMessage)
-    coded = good-coded n (getD M s noMessage) few good
+    coded = good-coded v n (getD M s noMessage) few good
 
     told : (i : ℕ) → i < s → alike s i ≡ eqb (code s) (code i)
-    told i h = code-alike (getD M s noMessage) (getD M i noMessage) coded (good-coded n (getD M i noMessage) few (r .good i h))
+    told i h = code-alike (getD M s noMessage) (getD M i noMessage) coded (good-coded v n (getD M i noMessage) few (r .good i h))
 
     flag : getD seen (code s) false ≡ taken code s (code s)
     flag = flag-read code 520 s (code s) seen (code-small _ coded) (r .flags)
@@ -98,11 +98,11 @@ module _ (n : ℕ) (M : List Message) where
       apart = apart code alike s told (sym flag ∙ e) (r .apart);
     }
 
-    pub name-twice : (k : ℕ) → s < k → getD seen (code s) false ≡ true → false ≡ goodMessages (part n k M)
+    pub name-twice : (k : ℕ) → s < k → getD seen (code s) false ≡ true → false ≡ goodMessages (part v n k M)
     unfolding goodMessages message
     name-twice k h e = rw (again code alike s told k h (sym flag ∙ e))
 
 -- good messages have no sender above 7
-pub seated : (n k : ℕ) (M : List Message) → n ≤ 7 → goodMessages (part n k M) ≡ true → Seated k M
+pub seated : (v n k : ℕ) (M : List Message) → n ≤ 7 → goodMessages (part v n k M) ≡ true → Seated k M
 unfolding goodMessages goodMessage named message
-seated n k M few e s h = good-coded n (getD M s noMessage) few (all-at k _ (and-right (distinct k (alike n M)) _ e) s h) .sender
+seated v n k M few e s h = good-coded v n (getD M s noMessage) few (all-at k _ (and-right (distinct k (alike v n M)) _ e) s h) .sender

@@ -29,7 +29,7 @@ runs c = c .before .before .before
 
 -- the table that the questions are put to
 abbrev asked : tie.Else1 → Table
-asked c = whole (entered c .args .n) 0 [] (entered c .args .t2)
+asked c = whole 0 (entered c .args .n) 0 [] (entered c .args .t2)
 
 long : (c : tie.Else1) → length (entered c .args .t2) ≡ seats
 long c = entered c .good .1 .0 .1 .0 .1

@@ -1,11 +1,13 @@
 -- The questions of a report or sync, in order. Assumes nothing.
 use mathlib.Core.Path.{_≡_}
 use mathlib.Core.Bool.{true}
+use mathlib.Core.List.{List, _∷_}
+use Prim.Native.Nat.{ℕ}
 use lib.ListN.{length}
 use borrow.Author.Needs.{needs}
 use Rattle.model.specs.Tables.{seats, yes?, at, message}
-use Rattle.model.specs.WellFormed.{named, fairAmount}
-use Rattle.model.specs.Questions.{ownPending, eventQuestions}
+use Rattle.model.specs.WellFormed.{named, fairAmount, fairClass}
+use Rattle.model.specs.Questions.{Question, ask, firstNo, ownPending, eventQuestions}
 use Rattle.model.specs.Parts.{whole}
 use Rattle.model.specs.declared.Table.{Table}
 use Rattle.model.proofs.Tested.{named-at}
@@ -15,25 +17,28 @@ use Rattle.questions.proofs.Controllers.{flagged, stopped-past}
 use Rattle.questions.proofs.send_refusal.Statement.{statement}
 use Rattle.questions.proofs.send_refusal.Tie as tie
 
--- from behind question 8 to the entry, from behind 9 to 8, from behind 10 to 9, and from the end to 10
+-- from behind question 8 to the entry, from behind 9 to 8, from behind 17 to 9, from behind 10 to 17, and from the end to 10
 abbrev entered : tie.Else1 → tie.Start
 entered c = c .before .before
 
 abbrev known : tie.Else2 → tie.Else1
 known c = c .before .before
 
-abbrev fair : tie.Else4 → tie.Else2
-fair c = c .before .before .before
+abbrev fair : tie.Else3 → tie.Else2
+fair c = c .before .before
 
-abbrev runs : tie.After-room-refusal → tie.Else4
+abbrev classed : tie.Else5 → tie.Else3
+classed c = c .before .before .before
+
+abbrev runs : tie.After-room-refusal → tie.Else5
 runs c = c .before .before
 
 -- the table that the questions are put to
 abbrev asked : tie.Else1 → Table
-asked c = let s = entered c .args in whole (s .n) (s .count) (s .messages) (s .t4)
+asked c = let s = entered c .args in whole (s .version) (s .n) (s .count) (s .messages) (s .t5)
 
-long : (c : tie.Else1) → length (entered c .args .t4) ≡ seats
-long c = entered c .good .1 .1 .1 .0 .1 .0 .1
+long : (c : tie.Else1) → length (entered c .args .t5) ≡ seats
+long c = entered c .good .1 .1 .1 .1 .0 .1 .0 .1
 
 -- WHAT WAS ANSWERED YES
 
@@ -44,9 +49,19 @@ sender-named c = seen-yes (c .before .named .ensures) (c .if1 .left)
 amount-fair : (c : tie.Else2) → fairAmount (entered (known c) .args .payload) ≡ true
 amount-fair c = seen-yes (c .before .fair .ensures) (c .if2 .left)
 
-sender-runs : (c : tie.Else4) → let k = known (fair c) in yes? (at (asked k) (entered k .args .sender) .running) ≡ true
+class-fair : (c : tie.Else3) → let k = known (fair c) in fairClass (entered k .args .version) (entered k .args .payload) ≡ true
+class-fair c = seen-yes (c .before .fair-class .ensures) (c .if3 .left)
+
+-- so to questions 8, 9 and 17
+passed : (c : tie.Else3) {r : ℕ} (qs : List Question)
+    → let k = known (fair c) in
+    let s = entered k .args in
+    r ≡ firstNo qs → r ≡ firstNo (ask 8 (named (asked k) (s .sender)) ∷ ask 9 (fairAmount (s .payload)) ∷ ask 17 (fairClass (s .version) (s .payload)) ∷ qs)
+passed c qs e = answered _ _ (sender-named (known (fair c))) (answered _ _ (amount-fair (fair c)) (answered _ _ (class-fair c) e))
+
+sender-runs : (c : tie.Else5) → let k = known (fair (classed c)) in yes? (at (asked k) (entered k .args .sender) .running) ≡ true
 unfolding at
-sender-runs c = flagged (c .if4 .left)
+sender-runs c = flagged (c .if5 .left)
 
 -- NEEDS
 
@@ -64,14 +79,23 @@ returns-2 : tie.Need-returns-2
 unfolding eventQuestions
 returns-2 c = answered _ _ (sender-named (c .before .before)) (refused _ _ (seen-no (c .before .fair .ensures) (c .if2 .taken)))
 
-sub-i : tie.Need-sub-i
-sub-i c = named-at (asked (known c)) _ (sender-named (known c)) .low
+fair-class-requires : tie.Need-fair-class-requires
+fair-class-requires c κs = search needs
 
 returns-3 : tie.Need-returns-3
 unfolding eventQuestions
 returns-3 c =
-    let k = c .before in
-    answered _ _ (sender-named (known k)) (answered _ _ (amount-fair k) (refused _ _ (stopped-past (asked (known k)) (long (known k)) _ (c .if3 .taken))))
+    let k = c .before .before in
+    answered _ _ (sender-named (known k)) (answered _ _ (amount-fair k) (refused _ _ (seen-no (c .before .fair-class .ensures) (c .if3 .taken))))
+
+sub-i : tie.Need-sub-i
+sub-i c = named-at (asked (known (fair c))) _ (sender-named (known (fair c))) .low
+
+returns-4 : tie.Need-returns-4
+unfolding eventQuestions
+returns-4 c =
+    let k = known (fair (c .before)) in
+    passed (c .before) _ (refused _ _ (stopped-past (asked k) (long k) _ (c .if4 .taken)))
 
 mul-x : tie.Need-mul-x
 mul-x c = search needs
@@ -79,20 +103,16 @@ mul-x c = search needs
 array-copy-out-x : tie.Need-array-copy-out-x
 array-copy-out-x c = search needs
 
-returns-4 : tie.Need-returns-4
+returns-5 : tie.Need-returns-5
 unfolding eventQuestions at
-returns-4 c =
-    let k = c .before .before .before in
-    answered _ _ (sender-named (known k)) (answered _ _ (amount-fair k) (refused _ _ (rw (c .if4 .taken))))
+returns-5 c = passed (c .before .before .before) _ (refused _ _ (rw (c .if5 .taken)))
 
 room-refusal-requires : tie.Need-room-refusal-requires
 room-refusal-requires c κs = search needs
 
-returns-5 : tie.Need-returns-5
+returns-6 : tie.Need-returns-6
 unfolding eventQuestions ownPending roomQuestions ownAmong at message
-returns-5 c =
-    let x = runs c in
-    answered _ _ (sender-named (known (fair x))) (answered _ _ (amount-fair (fair x)) (answered _ _ (sender-runs x) (c .room-refusal .ensures)))
+returns-6 c = let x = runs c in passed (classed x) _ (answered _ _ (sender-runs x) (c .room-refusal .ensures))
 
 pub send-refusal-spec : {M : Type 1} → statement M
 send-refusal-spec =
@@ -102,10 +122,12 @@ send-refusal-spec =
     returns
     fair-requires
     returns-2
-    sub-i
+    fair-class-requires
     returns-3
+    sub-i
+    returns-4
     mul-x
     array-copy-out-x
-    returns-4
+    returns-5
     room-refusal-requires
-    returns-5)
+    returns-6)

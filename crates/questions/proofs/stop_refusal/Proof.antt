@@ -27,7 +27,7 @@ runs c = c .before .before
 
 -- the table that the questions are put to
 abbrev asked : tie.Else1 → Table
-asked c = whole (entered c .args .n) 0 [] (entered c .args .controllers)
+asked c = whole 0 (entered c .args .n) 0 [] (entered c .args .controllers)
 
 long : (c : tie.Else1) → length (entered c .args .controllers) ≡ seats
 long c = entered c .good .1 .0 .1 .0 .1

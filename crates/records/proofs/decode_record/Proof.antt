@@ -8,41 +8,48 @@ use Rattle.records.proofs.decode_record.Tie as tie
 abbrev kind : tie.Else1 → tie.After-byte-at
 kind c = c .before .before
 
+-- from behind a report's payload to behind the first test
+abbrev reported : tie.After-report-of → tie.Then1
+reported c = c .before .before .before
+
 byte-at-requires : tie.Need-byte-at-requires
 byte-at-requires c κs = search needs
 
 byte-at-requires-2 : tie.Need-byte-at-requires-2
 byte-at-requires-2 c κs = search needs
 
+class-of-requires : tie.Need-class-of-requires
+class-of-requires c κs = search needs
+
 word-at-requires : tie.Need-word-at-requires
 word-at-requires c κs = search needs
 
-amount-of-requires : tie.Need-amount-of-requires
-amount-of-requires c κs = search needs
+report-of-requires : tie.Need-report-of-requires
+report-of-requires c κs = search needs
 
 returns : tie.Need-returns
-returns c = cc (decode-report _ _ (c .before .before .before .before .byte-at .ensures) (c .before .before .if1 .taken))
+returns c = cc (decode-report _ _ _ (reported c .before .before .byte-at .ensures) (reported c .if1 .taken))
 
 sync-requires : tie.Need-sync-requires
 sync-requires c κs = search needs
 
 returns-2 : tie.Need-returns-2
-returns-2 c = cc (decode-sync _ _ (kind (c .before .before) .byte-at .ensures) (c .before .if2 .taken))
+returns-2 c = cc (decode-sync _ _ _ (kind (c .before .before) .byte-at .ensures) (c .before .if2 .taken))
 
 byte-at-requires-3 : tie.Need-byte-at-requires-3
 byte-at-requires-3 c κs = search needs
 
 returns-3 : tie.Need-returns-3
-returns-3 c = cc (decode-handover _ _ (kind (c .before .before .before) .byte-at .ensures) (c .before .if3 .taken))
+returns-3 c = cc (decode-handover _ _ _ (kind (c .before .before .before) .byte-at .ensures) (c .before .if3 .taken))
 
 word-at-requires-2 : tie.Need-word-at-requires-2
 word-at-requires-2 c κs = search needs
 
-cast-t10 : tie.Need-cast-t10
-cast-t10 c = search needs
+cast-t12 : tie.Need-cast-t12
+cast-t12 c = search needs
 
 returns-4 : tie.Need-returns-4
-returns-4 c = cc (decode-stop _ _ (kind (c .before .before .before) .byte-at .ensures) (c .before .before .before .if1 .left) (c .before .before .if2 .left) (c .before .if3 .left))
+returns-4 c = cc (decode-stop _ _ _ (kind (c .before .before .before) .byte-at .ensures) (c .before .before .before .if1 .left) (c .before .before .if2 .left) (c .before .if3 .left))
 
 pub decode-record-spec : {M : Type 1} → statement M
 decode-record-spec =
@@ -50,13 +57,14 @@ decode-record-spec =
     (tie.spec
     byte-at-requires
     byte-at-requires-2
+    class-of-requires
     word-at-requires
-    amount-of-requires
+    report-of-requires
     returns
     sync-requires
     returns-2
     byte-at-requires-3
     returns-3
     word-at-requires-2
-    cast-t10
+    cast-t12
     returns-4)

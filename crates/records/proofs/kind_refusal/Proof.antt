@@ -11,7 +11,7 @@ has-kind-requires : tie.Need-has-kind-requires
 has-kind-requires c κs = search needs
 
 returns : tie.Need-returns
-returns c = refused-six _ _ (sym (c .before .has-kind .ensures) ∙ not-true _ (c .if1 .taken))
+returns c = refused-six _ _ _ (sym (c .before .has-kind .ensures) ∙ not-true _ (c .if1 .taken))
 
 -- past question 6
 kinded : (c : tie.Else1) → hasKind (c .before .before .args .size) (c .before .before .args .kind) ≡ true
@@ -21,10 +21,10 @@ size-of-kind-requires : tie.Need-size-of-kind-requires
 size-of-kind-requires c κs = search needs
 
 returns-2 : tie.Need-returns-2
-returns-2 c = shaped _ _ _ (kinded (c .before .before)) (c .before .size-of-kind .ensures) (c .if2 .taken)
+returns-2 c = shaped _ _ _ _ (kinded (c .before .before)) (c .before .size-of-kind .ensures) (c .if2 .taken)
 
 returns-3 : tie.Need-returns-3
-returns-3 c = refused-seven _ _ _ (kinded (c .before .before)) (c .before .size-of-kind .ensures) (c .if2 .left)
+returns-3 c = refused-seven _ _ _ _ (kinded (c .before .before)) (c .before .size-of-kind .ensures) (c .if2 .left)
 
 pub kind-refusal-spec : {M : Type 1} → statement M
 kind-refusal-spec =

@@ -27,7 +27,7 @@ turn c = c .before .before .before .before .before
 
 -- the table, and what the turn tests of it
 abbrev table : tie.After-good-controller Inv-loop μ-loop → Table
-table c = let a = turn (c .before) .before .before .before .before .args in whole (a .n) (a .count) (a .messages) (a .t4)
+table c = let a = turn (c .before) .before .before .before .before .args in whole 0 (a .n) (a .count) (a .messages) (a .t4)
 
 tested : (c : tie.After-good-controller Inv-loop μ-loop)
     → (c .before .before .good-places .result && c .good-controller .result) ≡ goodController (table c) (suc (turn (c .before) .loop .i)) (at (table c) (suc (turn (c .before) .loop .i)))

@@ -13,9 +13,12 @@ cast-named c = search needs
 fair-requires : tie.Need-fair-requires
 fair-requires c κs = search needs
 
+fair-class-requires : tie.Need-fair-class-requires
+fair-class-requires c κs = search needs
+
 returns : tie.Need-returns
 unfolding named goodMessage
-returns c = rw (c .fair .ensures)
+returns c = rw (c .before .fair .ensures, c .fair-class .ensures)
 
 pub good-message-spec : {M : Type 1} → statement M
-good-message-spec = tie.close (tie.spec cast-number cast-named fair-requires returns)
+good-message-spec = tie.close (tie.spec cast-number cast-named fair-requires fair-class-requires returns)

@@ -11,23 +11,23 @@ use Rattle.validity.proofs.good_messages.Statement.{statement}
 use Rattle.validity.proofs.good_messages.Tie as tie
 
 abbrev Inv-loop : tie.InvT-loop
-Inv-loop n count messages seen₀ s₀ seen s = (s ≤ count) × (n ≤ 7) × (count ≤ 64) × Read n messages s seen
+Inv-loop version n count messages seen₀ s₀ seen s = (s ≤ count) × (n ≤ 7) × (count ≤ 64) × Read version n messages s seen
 
 abbrev μ-loop : tie.MeasureT-loop
-μ-loop n count messages seen₀ s₀ seen s = count - s
+μ-loop version n count messages seen₀ s₀ seen s = count - s
 
 -- where the turn began, from behind the test of the message, which is good
 abbrev turn : tie.Else1 Inv-loop μ-loop → tie.At-loop Inv-loop μ-loop
 turn c = c .before .before .before .before
 
-good : (c : tie.Else1 Inv-loop μ-loop) → Good (turn c .before .args .n) (turn c .before .args .t3) (turn c .loop .s)
+good : (c : tie.Else1 Inv-loop μ-loop) → Good (turn c .before .args .version) (turn c .before .args .n) (turn c .before .args .t4) (turn c .loop .s)
 good c = sym (c .before .good-message .ensures) ∙ not-false _ (c .if1 .left)
 
-coded : (c : tie.Else1 Inv-loop μ-loop) → Coded (getD (turn c .before .args .t3) (turn c .loop .s) noMessage)
-coded c = good-coded _ _ (turn c .loop .inv .1) (good c)
+coded : (c : tie.Else1 Inv-loop μ-loop) → Coded (getD (turn c .before .args .t4) (turn c .loop .s) noMessage)
+coded c = good-coded _ _ _ (turn c .loop .inv .1) (good c)
 
 loop-holds : tie.Need-loop-holds Inv-loop μ-loop
-loop-holds c = (search needs, search needs, search needs, none-read _ _)
+loop-holds c = (search needs, search needs, search needs, none-read _ _ _)
 
 mul-m : tie.Need-mul-m Inv-loop μ-loop
 mul-m c = search needs
@@ -39,7 +39,7 @@ good-message-requires : tie.Need-good-message-requires Inv-loop μ-loop
 good-message-requires c κs = search needs
 
 returns : tie.Need-returns Inv-loop μ-loop
-returns c = bad-message _ _ _ _ (search needs) (sym (c .before .good-message .ensures) ∙ not-true _ (c .if1 .taken))
+returns c = bad-message _ _ _ _ _ (search needs) (sym (c .before .good-message .ensures) ∙ not-true _ (c .if1 .taken))
 
 cast-code : tie.Need-cast-code Inv-loop μ-loop
 cast-code c = omega (arith, coded (c .before) .sender)
@@ -59,7 +59,7 @@ array-read-if2 c = code-small _ (coded (c .before .before))
 returns-2 : tie.Need-returns-2 Inv-loop μ-loop
 returns-2 c =
     let e = c .before .before .before in
-    name-twice _ _ (turn e .loop .inv .1) _ _ (turn e .loop .inv .3) (good e) _ (search needs) (c .if2 .taken)
+    name-twice _ _ _ (turn e .loop .inv .1) _ _ (turn e .loop .inv .3) (good e) _ (search needs) (c .if2 .taken)
 
 array-write-seen : tie.Need-array-write-seen Inv-loop μ-loop
 array-write-seen c = code-small _ (coded (c .before .before .before))
@@ -73,10 +73,10 @@ loop-less c = search needs
 loop-again : tie.Need-loop-again Inv-loop μ-loop
 loop-again c =
     let e = c .before .before .before in
-    (search needs, search needs, search needs, next-read _ _ (turn e .loop .inv .1) _ _ (turn e .loop .inv .3) (good e) (c .if2 .left))
+    (search needs, search needs, search needs, next-read _ _ _ (turn e .loop .inv .1) _ _ (turn e .loop .inv .3) (good e) (c .if2 .left))
 
 returns-3 : tie.Need-returns-3 Inv-loop μ-loop
-returns-3 c = let e : c .before .loop .s ≡ c .before .before .args .count = omega arith in all-read _ _ _ _ (rw e at (c .before .loop .inv .3))
+returns-3 c = let e : c .before .loop .s ≡ c .before .before .args .count = omega arith in all-read _ _ _ _ _ (rw e at (c .before .loop .inv .3))
 
 pub good-messages-spec : {M : Type 1} → statement M
 good-messages-spec =

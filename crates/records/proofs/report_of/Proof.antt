@@ -1,18 +1,18 @@
--- `amount_of` reads two's complement. Assumes nothing.
+-- `report_of` reads two's complement. Assumes nothing.
 use mathlib.Core.Path.{ap, _∙_}
 use native.Mathlib.Omega.{arith}
 use borrow.Author.Needs.{needs}
 use borrow.Author.Tests.{lt-ltb, le-ltb}
 use Rattle.model.specs.Tables.{report}
-use Rattle.model.specs.Records.{amount}
-use Rattle.records.proofs.amount_of.Statement.{statement}
-use Rattle.records.proofs.amount_of.Tie as tie
+use Rattle.model.specs.Records.{reported}
+use Rattle.records.proofs.report_of.Statement.{statement}
+use Rattle.records.proofs.report_of.Tie as tie
 
 report-requires : tie.Need-report-requires
 report-requires c κs = search needs
 
 returns : tie.Need-returns
-unfolding amount
+unfolding reported
 returns c = rw (lt-ltb (c .before .before .args .x) 32768 (c .before .if1 .taken)) (c .report .ensures)
 
 sub-report : tie.Need-sub-report
@@ -25,9 +25,9 @@ report-requires-2 : tie.Need-report-requires-2
 report-requires-2 c κs = search needs
 
 returns-2 : tie.Need-returns-2
-unfolding amount
-returns-2 c = rw (le-ltb (c .before .before .args .x) 32768 (c .before .if1 .left)) (c .report2 .ensures ∙ ap (report 0) (omega arith))
+unfolding reported
+returns-2 c = rw (le-ltb (c .before .before .args .x) 32768 (c .before .if1 .left)) (c .report2 .ensures ∙ ap (report (c .before .before .args .class) 0) (omega arith))
 
-pub amount-of-spec : {M : Type 1} → statement M
-amount-of-spec =
+pub report-of-spec : {M : Type 1} → statement M
+report-of-spec =
     tie.close (tie.spec report-requires returns sub-report add-report report-requires-2 returns-2)
