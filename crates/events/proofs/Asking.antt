@@ -38,14 +38,14 @@ first-passed (more {k = k} {b = b} {qs = qs} n) rs e =
 
 -- THE RECORD
 
-pub event-read : (s : List ℕ) (r : Record) → r ≡ recordOf s → r .event ≡ decode s
+pub event-read : (v : ℕ) (s : List ℕ) (r : Record) → r ≡ recordOf v s → r .event ≡ decode v s
 unfolding recordOf
-event-read s r e = ap (λ (x : Record). x .event) e
+event-read v s r e = ap (λ (x : Record). x .event) e
 
 -- a record that no question refuses takes the bytes that its length byte counts, and that byte
-pub used-read : (t : Table) (s : List ℕ) (room : ℕ) (r : Record) → r ≡ recordOf s → firstNo (stepQuestions t s room) ≡ 0 → r .used ≡ size s + 1
+pub used-read : (t : Table) (s : List ℕ) (room : ℕ) (r : Record) → r ≡ recordOf (t .version) s → firstNo (stepQuestions t s room) ≡ 0 → r .used ≡ size s + 1
 unfolding recordOf
-used-read t s room r e z = ap (λ (x : Record). x .used) e ∙ cond-true _ _ (eq-eqb (firstNo (recordQuestions s)) 0 (step-asked t s room z .0))
+used-read t s room r e z = ap (λ (x : Record). x .used) e ∙ cond-true _ _ (eq-eqb (firstNo (recordQuestions (t .version) s)) 0 (step-asked t s room z .0))
 
 -- IN THE CODE'S ORDER
 
@@ -77,13 +77,13 @@ module _ (t : Table) (r : Record) (room : ℕ) where
 -- AS THE DEFINITION ASKS
 
 module _ (t : Table) (s : List ℕ) (room : ℕ) where
-  pub refusal-is : refusalOf t (recordOf s) room ≡ firstNo (stepQuestions t s room)
+  pub refusal-is : refusalOf t (recordOf (t .version) s) room ≡ firstNo (stepQuestions t s room)
   unfolding refusalOf recordOf stepQuestions firstNo
-  refusal-is = elim (decided (eqb (firstNo (recordQuestions s)) 0)) [
-    | inl q ↦ cond-true _ _ q ∙ sym (first-passed (record-numbered s) _ (eqb-true _ 0 q))
-    | inr q ↦ cond-false _ _ q ∙ sym (first-refused (recordQuestions s) _ (eqb-false _ 0 q))
+  refusal-is = elim (decided (eqb (firstNo (recordQuestions (t .version) s)) 0)) [
+    | inl q ↦ cond-true _ _ q ∙ sym (first-passed (record-numbered (t .version) s) _ (eqb-true _ 0 q))
+    | inr q ↦ cond-false _ _ q ∙ sym (first-refused (recordQuestions (t .version) s) _ (eqb-false _ 0 q))
   ]
 
   -- what carrying out an event relies on
-  pub allowed : wellFormed t ≡ true → firstNo (stepQuestions t s room) ≡ 0 → Accepted t (decode s) × (scratchSize ≤ room)
+  pub allowed : wellFormed t ≡ true → firstNo (stepQuestions t s room) ≡ 0 → Accepted t (decode (t .version) s) × (scratchSize ≤ room)
   allowed w e = ((w, step-asked t s room e .1), accepted-room t s room (step-number t s room ∙ e))

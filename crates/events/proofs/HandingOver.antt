@@ -7,19 +7,19 @@ use native.Mathlib.Omega.{arith}
 use native.Mathlib.Decide.{ℕ-discrete}
 use lib.ListN.{length}
 use lib.Seq.{take-all}
+use lib.IntN.{ℤ, pos}
 use lib.Dec.{eqb}
 use borrow.Author.Tests.{le-leb}
 use Rattle.lists.proofs.Tests.{cond-true, refuted, contradiction}
 use Rattle.lists.proofs.Clipped.{any-none}
-use Rattle.model.specs.Tables.{seats, scratchSize, noPanel, message}
+use Rattle.model.specs.Tables.{seats, scratchSize, message}
 use Rattle.model.specs.Delivery.{Slots, has, applicable}
-use Rattle.model.specs.Events.{received, handoverSet, deliver, subject, after, withSent, next, appliedBy, shown, nameOf, insert, namesBelow, namesOf, finishes}
+use Rattle.model.specs.Events.{received, handoverSet, deliver, subject, after, withSent, next, appliedBy, total, nameOf, insert, namesBelow, namesOf, finishes}
 use Rattle.model.specs.Calls.{cleared, answerOf}
 use Rattle.model.specs.Facts.{Among}
 use Rattle.model.specs.Parts.{part}
 use Rattle.model.specs.Sized.{Sized, SizedController}
 use Rattle.model.specs.declared.Name.{Name}
-use Rattle.model.specs.declared.Panel.{Panel}
 use Rattle.model.specs.declared.Pending.{Pending}
 use Rattle.model.specs.declared.Controller.{Controller}
 use Rattle.model.specs.declared.Table.{Table}
@@ -32,7 +32,7 @@ use Rattle.naming.specs.Ordering.{padded}
 use Rattle.events.specs.declared.effects.Effect.{Effect}
 use Rattle.events.specs.Conditions.{OfRun}
 use Rattle.events.specs.Effects.{noSet, effectOf}
-use Rattle.events.proofs.Subjects.{shown-panel}
+use Rattle.events.proofs.Subjects.{total-shown}
 use Rattle.events.proofs.Applying.{deliver-none}
 
 -- THE DELIVERY RULE
@@ -49,12 +49,12 @@ scratch-cleared w v h a = a .scratch ∙ cond-true _ _ (le-leb scratchSize (leng
 -- THE NAMES
 
 -- they rest on the messages alone
-names-part : (k : ℕ) (t : Table) (S : Slots) → namesBelow k (part 0 (t .count) (t .messages)) S ≡ namesBelow k t S
+names-part : (k : ℕ) (t : Table) (S : Slots) → namesBelow k (part 0 0 (t .count) (t .messages)) S ≡ namesBelow k t S
 unfolding namesBelow message
 names-part zero t S = refl
 names-part (suc k) t S = rw (names-part k t S) refl
 
-pub names-are : (t : Table) (S : Slots) → namesOf (part 0 (t .count) (t .messages)) S ≡ namesOf t S
+pub names-are : (t : Table) (S : Slots) → namesOf (part 0 0 (t .count) (t .messages)) S ≡ namesOf t S
 unfolding namesOf
 names-are t S = names-part (t .count) t S
 
@@ -74,20 +74,20 @@ none-in : (t : Table) (S : Slots) → OfRun t S → length (namesOf t S) ≡ 0 �
 unfolding namesOf
 none-in t S run e s = refuted (has S s) (λ m. contradiction m (unnamed (t .count) t S e s (run s m)))
 
-pub none-counted : (t : Table) (S : Slots) (a : Names) → a ≡ padded (namesOf (part 0 (t .count) (t .messages)) S) → a .size ≡ 0 → length (namesOf t S) ≡ 0
+pub none-counted : (t : Table) (S : Slots) (a : Names) → a ≡ padded (namesOf (part 0 0 (t .count) (t .messages)) S) → a .size ≡ 0 → length (namesOf t S) ≡ 0
 unfolding padded
 none-counted t S a e n = sym (ap length (names-are t S)) ∙ (sym (ap (λ (b : Names). b .size) e) ∙ n)
 
 -- THE EFFECT
 
 module _ (t : Table) (r o : ℕ) (z : Sized t) (h : Among seats r) (c : Controller) (ec : c ≡ received t r o) (S : Slots) (es : S ≡ handoverSet t r o) where
-  pub handed-effect : (a : Names) → a ≡ padded (namesOf (part 0 (t .count) (t .messages)) S)
-      → (f : Bool) → f ≡ finishes (part 0 (t .count) (t .messages)) S r
-      → (x : Controller) → x ≡ deliver t c S → (y : Panel) → y ≡ cond f (shown t x) noPanel → (g : ℕ) → g ≡ cond f 1 0
-      → _≡_ {A = Effect} (record { answer = record { number = 0; finished = g; panel = y; size = a .size; names = a .names }; controller = x })
+  pub handed-effect : (a : Names) → a ≡ padded (namesOf (part 0 0 (t .count) (t .messages)) S)
+      → (f : Bool) → f ≡ finishes (part 0 0 (t .count) (t .messages)) S r
+      → (x : Controller) → x ≡ deliver t c S → (y : ℤ) → y ≡ cond f (total t x) (pos 0) → (g : ℕ) → g ≡ cond f 1 0
+      → _≡_ {A = Effect} (record { answer = record { number = 0; finished = g; total = y; size = a .size; names = a .names }; controller = x })
       (effectOf t (Handover r o))
   unfolding effectOf answerOf next subject after withSent appliedBy padded finishes message
-  handed-effect a ea f ef x ex y ey g eg = rw (eg, ey, shown-panel t r x z h, ef, ea, names-are t S, ex, ec, es) refl
+  handed-effect a ea f ef x ex y ey g eg = rw (eg, ey, total-shown t r x z h, ef, ea, names-are t S, ex, ec, es) refl
 
   -- where nothing is named nothing is applied
   pub handed-none : SizedController c → t .count ≤ 64 → OfRun t S → length (namesOf t S) ≡ 0 → (b : Answer) → b ≡ noSet 0

@@ -63,10 +63,10 @@ module _ (t : Table) (e : Event) (q : Accepted t e) where
   }
 
 -- a record is looked at with the indices of what its event reads
-pub ahead-is : (s : List ℕ) (r : Record) → r ≡ recordOf s → (i j : ℕ) → i ≡ seatOf (subject (r .event)) → j ≡ seatOf (ownerOf (r .event))
-    → _≡_ {A = Ahead} (record { found = r; subject = i; owner = j }) (aheadOf s)
+pub ahead-is : (v : ℕ) (s : List ℕ) (r : Record) → r ≡ recordOf v s → (i j : ℕ) → i ≡ seatOf (subject (r .event)) → j ≡ seatOf (ownerOf (r .event))
+    → _≡_ {A = Ahead} (record { found = r; subject = i; owner = j }) (aheadOf v s)
 unfolding aheadOf recordOf
-ahead-is s r er i j ei ej = rw (ei, ej, er) refl
+ahead-is v s r er i j ei ej = rw (ei, ej, er) refl
 
 -- WHAT EACH KIND DOES
 

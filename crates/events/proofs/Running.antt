@@ -90,22 +90,22 @@ pub record Running (s l₀ w₀ l w b : List ℕ) (c : Cursor) (t : Table) : Typ
   pub few : c .events + length b ≤ 65535
   pub ahead : records (length b) (progressOf c t l) b (length w₀) (length l₀) ≡ progress s (length w₀) (length l₀)
 
-pub run-begins : (s l w : List ℕ) → firstNo (fileQuestions s) ≡ 0 → (n : ℕ) → n ≡ byte s 1 → (x : Table) → x ≡ fresh n → (b : List ℕ) → b ≡ drop 2 s
+pub run-begins : (s l w : List ℕ) → firstNo (fileQuestions s) ≡ 0 → (v n : ℕ) → v ≡ byte s 0 → n ≡ byte s 1 → (x : Table) → x ≡ fresh v n → (b : List ℕ) → b ≡ drop 2 s
     → Running s l w l w b (record { number = 0; events = 0; written = 0 }) x
 unfolding overlay fresh start progress begun progressOf
-run-begins s l w q n en x ex b eb =
+run-begins s l w q v n ev en x ex b eb =
     let a = file-allowed s q in
-    let e : x ≡ fresh (byte s 1) = rw en at ex in
+    let e : x ≡ fresh (byte s 0) (byte s 1) = rw (ev, en) at ex in
     rw (e, eb) (record {
-      sized = fresh-sized (byte s 1);
-      formed = tested (fresh (byte s 1)) (fresh-well-formed (byte s 1) (a .some) (a .few));
+      sized = fresh-sized (byte s 0) (byte s 1);
+      formed = tested (fresh (byte s 0) (byte s 1)) (fresh-well-formed (a .fresh));
       within = omega arith;
       space = refl;
       listing = refl;
       scratch = refl;
       unsent = λ _. refl;
       few = omega (arith, a .short, length-drop 2 s);
-      ahead = fuel-suffices (length (drop 2 s)) (length s) (begun (byte s 1)) (drop 2 s) (length w) (length l) (omega arith) (omega (arith, length-drop 2 s));
+      ahead = fuel-suffices (length (drop 2 s)) (length s) (begun (byte s 0) (byte s 1)) (drop 2 s) (length w) (length l) (omega arith) (omega (arith, length-drop 2 s));
     })
 
 module _ (s l₀ w₀ l w b : List ℕ) (c : Cursor) (t : Table) (r : Running s l₀ w₀ l w b c t) where
@@ -236,7 +236,7 @@ module _ (s l₀ w₀ l w b : List ℕ) (c : Cursor) (t : Table) (r : Running s 
         (sym (records-turn p b (length w) (length l) h b′ left-is) ∙ rw (scratch-size, r .space) (r .ahead))
 
     -- the table, as the code has stored it
-    module _ (y : Table) (on : a .cursor .number ≡ 0 → y ≡ next t (decode b)) (off : a .cursor .number ≢ 0 → y ≡ t) where
+    module _ (y : Table) (on : a .cursor .number ≡ 0 → y ≡ next t (decode (t .version) b)) (off : a .cursor .number ≢ 0 → y ≡ t) where
       table-is : y ≡ q .table
       unfolding progressOf
       table-is =

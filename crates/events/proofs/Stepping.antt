@@ -28,7 +28,7 @@ module _ (t : Table) (s w : List ℕ) where
       → Answers (step t s (length w)) s w r w
   step-refused k e n r d = refused-answer (step t s (length w)) k (rw e (step-is-refused t s (length w) (λ z. n (e ∙ z)))) n r d
 
-  pub step-accepted : firstNo (stepQuestions t s (length w)) ≡ 0 → (d : Effect) (v : List ℕ) → Effected t (decode s) w d v → (x : Table) → x ≡ next t (decode s)
+  pub step-accepted : firstNo (stepQuestions t s (length w)) ≡ 0 → (d : Effect) (v : List ℕ) → Effected t (decode (t .version) s) w d v → (x : Table) → x ≡ next t (decode (t .version) s)
       → (u : ℕ) → u ≡ size s + 1
       → Answers (step t s (length w)) s w (record { answer = d .answer; used = u; table = x }) v
   unfolding steppedOf accepted effectOf answerOf scratchAfter

@@ -1,5 +1,5 @@
--- What an event does to its subject is all that it does to the table, but for a send's message; and what the subject's panel then
--- shows. Assumes nothing.
+-- What an event does to its subject is all that it does to the table, but for a send's message; and what the subject's total then
+-- is. Assumes nothing.
 use mathlib.Core.Path.{_≡_, refl, ap}
 use mathlib.Core.List.{[]}
 use mathlib.Core.Logic.{_⊎_, inl, inr}
@@ -9,7 +9,7 @@ use lib.ListN.{set}
 use denote.Enum.Declared.{tagOf}
 use Rattle.lists.proofs.Clipped.{any-none}
 use Rattle.model.specs.Tables.{seats, capacity, message, messageNumber, messageOf, withController, withMessage}
-use Rattle.model.specs.Events.{sentMessage, sent, subject, after, withSent, next, appliedBy, weigh, shown, panelOf, namesOf, finishes}
+use Rattle.model.specs.Events.{sentMessage, sent, subject, after, withSent, next, appliedBy, weigh, total, shown, panelOf, namesOf, finishes}
 use Rattle.model.specs.Facts.{Among}
 use Rattle.model.specs.Runs.{lineOf}
 use Rattle.model.specs.Sized.{Sized}
@@ -32,10 +32,10 @@ use Rattle.events.proofs.Accepted.{sendable, handable}
 
 -- THE SUBJECT
 
--- what the panel of r shows as x, where it stands in the table
-pub shown-panel : (t : Table) (r : ℕ) (x : Controller) → Sized t → Among seats r → shown t x ≡ panelOf (withController t r x) r
-unfolding shown panelOf weigh withController message
-shown-panel t r x z h = rw (at-same t r x z h) refl
+-- the total of r as x, where it stands in the table
+pub total-shown : (t : Table) (r : ℕ) (x : Controller) → Sized t → Among seats r → total t x ≡ panelOf (withController t r x) r .total
+unfolding total shown panelOf weigh withController message
+total-shown t r x z h = rw (at-same t r x z h) refl
 
 -- the subject of an accepted event has a seat
 pub subject-seated : (t : Table) (e : Event) → Accepted t e → Among seats (subject e)
@@ -56,13 +56,13 @@ unfolding after sent
 sent-length t c p x l = let h = sendable t c p (l .0) in omega (arith, ap (λ (y : Controller). y .length) (l .1), h .room)
 
 pub stored-send : (t : Table) (c : ℕ) (p : Payload) (x : Controller) → x ≡ after t (Send c p) → (m : Message) → m ≡ messageOf c (messageNumber (x .length)) p
-    → _≡_ {A = Table} (record { n = t .n; count = t .count + 1; messages = set (t .messages) (t .count) m; controllers = set (t .controllers) (c - 1) x }) (next t (Send c p))
+    → _≡_ {A = Table} (record { version = t .version; n = t .n; count = t .count + 1; messages = set (t .messages) (t .count) m; controllers = set (t .controllers) (c - 1) x }) (next t (Send c p))
 unfolding next subject after withSent sentMessage sent withController withMessage
 stored-send t c p x e m f = rw (f, e) refl
 
 -- an event of another kind
 pub stored-else : (t : Table) (e : Event) (x : Controller) → (tagOf event.the-type e ≡ 1) ⊎ (tagOf event.the-type e ≡ 2) → x ≡ after t e
-    → _≡_ {A = Table} (record { n = t .n; count = t .count; messages = t .messages; controllers = set (t .controllers) (subject e - 1) x }) (next t e)
+    → _≡_ {A = Table} (record { version = t .version; n = t .n; count = t .count; messages = t .messages; controllers = set (t .controllers) (subject e - 1) x }) (next t e)
 unfolding next withSent withController
 stored-else t (Send c p) x (inl q) f = absurd (omega arith)
 stored-else t (Send c p) x (inr q) f = absurd (omega arith)
@@ -72,20 +72,20 @@ stored-else t (Stop c k) x q f = rw f refl
 -- the same, of an event e that is known as b, whose subject has the index i
 pub stored-as-send : (t : Table) (e b : Event) (i c : ℕ) (p : Payload) (x : Controller) (m : Message) → e ≡ b → i ≡ subject e - 1 → e ≡ Send c p → x ≡ after t (Send c p)
     → m ≡ messageOf c (messageNumber (x .length)) p
-    → _≡_ {A = Table} (record { n = t .n; count = t .count + 1; messages = set (t .messages) (t .count) m; controllers = set (t .controllers) i x }) (next t b)
+    → _≡_ {A = Table} (record { version = t .version; n = t .n; count = t .count + 1; messages = set (t .messages) (t .count) m; controllers = set (t .controllers) i x }) (next t b)
 unfolding subject
 stored-as-send t e b i c p x m q ei es ex em = rw (← q, ei, es) (stored-send t c p x ex m em)
 
 pub stored-as-else : (t : Table) (e b : Event) (i : ℕ) (x : Controller) → e ≡ b → i ≡ subject e - 1 → (tagOf event.the-type e ≡ 1) ⊎ (tagOf event.the-type e ≡ 2) → x ≡ after t e
-    → _≡_ {A = Table} (record { n = t .n; count = t .count; messages = t .messages; controllers = set (t .controllers) i x }) (next t b)
+    → _≡_ {A = Table} (record { version = t .version; n = t .n; count = t .count; messages = t .messages; controllers = set (t .controllers) i x }) (next t b)
 stored-as-else t e b i x q ei kind ex = rw (← q, ei) (stored-else t e x kind ex)
 
 -- THE LINE
 
 -- an event lists what its subject shows, where it lists anything
 pub line-shown : (t : Table) (e : Event) (k : ℕ) → Sized t → Accepted t e
-    → lineOf k (subject e) (shown t (after t e)) (namesOf t (appliedBy t e)) ≡ lineOf k (subject e) (panelOf (next t e) (subject e)) (namesOf t (appliedBy t e))
+    → lineOf k (subject e) (total t (after t e)) (namesOf t (appliedBy t e)) ≡ lineOf k (subject e) (panelOf (next t e) (subject e) .total) (namesOf t (appliedBy t e))
 unfolding lineOf appliedBy subject next withSent
 line-shown t (Send c p) k z q = rw (none-named t) refl
-line-shown t (Handover r o) k z q = rw (shown-panel t r (after t (Handover r o)) z (handable t r o q .receiver)) refl
+line-shown t (Handover r o) k z q = rw (total-shown t r (after t (Handover r o)) z (handable t r o q .receiver)) refl
 line-shown t (Stop c j) k z q = rw (none-named t) refl

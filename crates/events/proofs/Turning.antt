@@ -12,7 +12,7 @@ use borrow.Author.Tests.{eq-eqb, ne-eqb, leb-true, le-leb}
 use borrow.Rule.Slice.PartMut.{midOf, postOf, putMid, put-same}
 use Rattle.lists.specs.Build.{overlay}
 use Rattle.lists.proofs.Tests.{cond-true, cond-false, refuted}
-use Rattle.model.specs.Events.{subject, after, appliedBy, shown, namesOf}
+use Rattle.model.specs.Events.{subject, after, appliedBy, total, namesOf}
 use Rattle.model.specs.Records.{size, decode}
 use Rattle.model.specs.Sized.{Sized}
 use Rattle.model.specs.Questions.{firstNo, lineFits, stepQuestions}
@@ -97,11 +97,11 @@ module _ (c : Cursor) (t : Table) (s l w : List ℕ) (b : Before c t s l) where
       let said = step-number t s (length w) ∙ sym e in
       turn-ended k (verdict-refused (λ z. n (sym said ∙ z)) ∙ said) n x ex y w (sym (rw said (cond-false _ _ (ne-eqb k 0 n))))
 
-  module _ (z : Sized t) (passed : firstNo (stepQuestions t s (length w)) ≡ 0) (d : Effect) (v : List ℕ) (a : Effected t (decode s) w d v) where
+  module _ (z : Sized t) (passed : firstNo (stepQuestions t s (length w)) ≡ 0) (d : Effect) (v : List ℕ) (a : Effected t (decode (t .version) s) w d v) where
     number-said : step t s (length w) .answer .number ≡ 0
     number-said = step-number t s (length w) ∙ passed
 
-    leaves : Leaves t (decode s) (d .controller)
+    leaves : Leaves t (decode (t .version) s) (d .controller)
     unfolding effectOf
     leaves = (allowed t s (length w) (b .formed) passed .0, ap (λ (x : Effect). x .controller) (a .effect))
 
@@ -109,17 +109,17 @@ module _ (c : Cursor) (t : Table) (s l w : List ℕ) (b : Before c t s l) where
     unfolding scratchAfter
     scratch-said = rw number-said (a .clear)
 
-    effect-line : lineOf (c .events + 1) (subject (decode s)) (shown t (d .controller)) (take (d .answer .size) (d .answer .names))
-        ≡ lineOf (c .events + 1) (subject (decode s)) (shown t (after t (decode s))) (namesOf t (appliedBy t (decode s)))
+    effect-line : lineOf (c .events + 1) (subject (decode (t .version) s)) (total t (d .controller)) (take (d .answer .size) (d .answer .names))
+        ≡ lineOf (c .events + 1) (subject (decode (t .version) s)) (total t (after t (decode (t .version) s))) (namesOf t (appliedBy t (decode (t .version) s)))
     unfolding effectOf answerOf overlay
     effect-line = rw (a .effect, take-append-seam) refl
 
-    line-said : lineOf (c .events + 1) (subject (decode s)) (shown t (d .controller)) (take (d .answer .size) (d .answer .names)) ≡ lineAt so-far s (length w)
+    line-said : lineOf (c .events + 1) (subject (decode (t .version) s)) (total t (d .controller)) (take (d .answer .size) (d .answer .names)) ≡ lineAt so-far s (length w)
     unfolding lineAt accepted progressOf
-    line-said = effect-line ∙ line-shown t (decode s) (c .events + 1) z (leaves .0) ∙ rw (step-is-accepted t s (length w) passed) refl
+    line-said = effect-line ∙ line-shown t (decode (t .version) s) (c .events + 1) z (leaves .0) ∙ rw (step-is-accepted t s (length w) passed) refl
 
-    module _ (e : Event) (ee : e ≡ decode s) (q : Put) (m : List ℕ)
-        (ew : Wrote (lineOf (c .events + 1) (subject e) (shown t (d .controller)) (take (d .answer .size) (d .answer .names))) (midOf (c .written) space l) m q) where
+    module _ (e : Event) (ee : e ≡ decode (t .version) s) (q : Put) (m : List ℕ)
+        (ew : Wrote (lineOf (c .events + 1) (subject e) (total t (d .controller)) (take (d .answer .size) (d .answer .names))) (midOf (c .written) space l) m q) where
       abbrev x : List ℕ
       x = lineAt so-far s (length w)
 
@@ -180,7 +180,7 @@ module _ (c : Cursor) (t : Table) (s l w : List ℕ) (b : Before c t s l) where
 
 -- a turn that does not end the run leaves the subject as its event e does
 pub turn-leaves : {c : Cursor} {t : Table} {s l w m v : List ℕ} {a : Advance} → Turned c t s l w a m v → a .cursor .number ≡ 0
-    → (e : Event) → e ≡ decode s → Leaves t e (a .controller)
+    → (e : Event) → e ≡ decode (t .version) s → Leaves t e (a .controller)
 turn-leaves d z e q = rw q (d .leaves (sym (d .number) ∙ z))
 
 -- where there is no line nothing is written

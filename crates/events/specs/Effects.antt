@@ -3,7 +3,7 @@ use Prim.Native.Nat.{ℕ}
 use mathlib.Core.Path.{_≡_}
 use mathlib.Core.Bool.{false, cond}
 use mathlib.Core.List.{List, []}
-use Rattle.model.specs.Tables.{noPanel}
+use lib.IntN.{pos}
 use Rattle.model.specs.Events.{subject, after, next, appliedBy, panelOf, namesOf, finishes}
 use Rattle.model.specs.Calls.{cleared, answerOf}
 use Rattle.model.specs.declared.Controller.{Controller}
@@ -19,14 +19,14 @@ Leaves t e c = Accepted t e × (c ≡ after t e)
 
 -- the answer of a refusal, or of an event that applies nothing
 unfoldable pub noSet : ℕ → Answer
-noSet k = answerOf (record { number = k; names = []; finished = false; panel = noPanel; rest = [] })
+noSet k = answerOf (record { number = k; names = []; finished = false; total = pos 0; rest = [] })
 
 unfoldable pub effectOf : Table → Event → Effect
 effectOf t e =
     let f = finishes t (appliedBy t e) (subject e) in
-    let p = panelOf (next t e) (subject e) in
+    let z = panelOf (next t e) (subject e) .total in
     record {
-      answer = answerOf (record { number = 0; names = namesOf t (appliedBy t e); finished = f; panel = cond f p noPanel; rest = [] });
+      answer = answerOf (record { number = 0; names = namesOf t (appliedBy t e); finished = f; total = cond f z (pos 0); rest = [] });
       controller = after t e;
     }
 

@@ -46,5 +46,5 @@ pub record Reading (t : Table) (x y : Controller) (o : ℕ) : Type 0 where
 
 -- the record f was read off the bytes s, and its event, if no question refuses it, has x and y
 pub record Found (t : Table) (f : Record) (s : List ℕ) (x y : Controller) : Type 0 where
-  pub record-is : f ≡ recordOf s
-  pub allowed : Accepted t (decode s) → Allowed t (decode s) x y
+  pub record-is : f ≡ recordOf (t .version) s
+  pub allowed : Accepted t (decode (t .version) s) → Allowed t (decode (t .version) s) x y

@@ -20,9 +20,9 @@ use Rattle.events.specs.declared.files.Advance.{Advance}
 use Rattle.events.specs.Reading.{ownerOf, seatOf}
 use Rattle.events.specs.Effects.{Leaves}
 
--- the record that s begins with, and the indices of the controllers that its event reads
-unfoldable pub aheadOf : List ℕ → Ahead
-aheadOf s = record { found = recordOf s; subject = seatOf (subject (decode s)); owner = seatOf (ownerOf (decode s)) }
+-- the record that s begins with, in a file of version v, and the indices of the controllers that its event reads
+unfoldable pub aheadOf : ℕ → List ℕ → Ahead
+aheadOf v s = record { found = recordOf v s; subject = seatOf (subject (decode v s)); owner = seatOf (ownerOf (decode v s)) }
 
 unfoldable pub progressOf : Cursor → Table → List ℕ → Progress
 progressOf c t l = record { number = c .number; events = c .events; lines = take (c .written) l; table = t }
@@ -46,7 +46,7 @@ pub record Turned (c : Cursor) (t : Table) (s l w : List ℕ) (answer : Advance)
   pub events : answer .cursor .events ≡ turned c t s l (length w) .events
   pub written : answer .cursor .written ≡ length (turned c t s l (length w) .lines)
   pub used : answer .used ≡ cond (eqb (turned c t s l (length w) .number) 0) (size s + 1) (length s)
-  pub leaves : turned c t s l (length w) .number ≡ 0 → Leaves t (decode s) (answer .controller)
+  pub leaves : turned c t s l (length w) .number ≡ 0 → Leaves t (decode (t .version) s) (answer .controller)
   pub listed : listing ≡ overlay (turned c t s l (length w) .lines) l
   pub clear : scratch ≡ scratchAfter (step t s (length w) .answer .number) w
 

@@ -63,7 +63,7 @@ passed c = sym (number-is (c .before)) ∙ c .if2 .left
 accepted : (c : tie.Else2) → let d = reader c in Accepted (start d .args .t) (d .read-record .result .event) × (scratchSize ≤ room d)
 accepted c =
     let d = reader c in
-    subst (λ (e : Event). Accepted (start d .args .t) e × (scratchSize ≤ room d)) (sym (event-read _ _ (d .read-record .ensures)))
+    subst (λ (e : Event). Accepted (start d .args .t) e × (scratchSize ≤ room d)) (sym (event-read _ _ _ (d .read-record .ensures)))
     (allowed _ _ _ (formed d) (passed c))
 
 -- what carrying it out leaves of the scratch area, and answers, of the event that the bytes name
@@ -72,11 +72,11 @@ cleared c = c .carry-out .last .1 .1 .1 .1 .0
 
 effect : (c : tie.After-carry-out)
     → let d = reader (asked c) in
-    Effected (start d .args .t) (decode (bytes d)) (now (start d .args .scratch)) (c .carry-out .result) (cleared c)
+    Effected (start d .args .t) (decode (start d .args .t .version) (bytes d)) (now (start d .args .scratch)) (c .carry-out .result) (cleared c)
 effect c =
     let d = reader (asked c) in
     subst (λ (e : Event). Effected (start d .args .t) e (now (start d .args .scratch)) (c .carry-out .result) (cleared c))
-    (event-read _ _ (d .read-record .ensures)) (c .carry-out .ensures)
+    (event-read _ _ _ (d .read-record .ensures)) (c .carry-out .ensures)
 
 well-formed-requires : tie.Need-well-formed-requires
 well-formed-requires c κs = search needs
@@ -113,7 +113,7 @@ stored-requires : tie.Need-stored-requires
 unfolding effectOf
 stored-requires c κs =
     let k = carried c in
-    let read = event-read _ _ (reader (asked k) .read-record .ensures) in
+    let read = event-read _ _ _ (reader (asked k) .read-record .ensures) in
     (accepted (asked k) .0, rw read (ap (λ (x : Effect). x .controller) (effect k .effect)))
 
 same-length : tie.Need-same-length
@@ -126,7 +126,7 @@ returns-3 c =
     let read = d .read-record .ensures in
     let z = passed (asked k) in
     event-stepped _ _ _ _ _ (formed d)
-    (step-accepted _ _ _ z _ _ (effect k) _ (c .stored .ensures ∙ ap (next (start d .args .t)) (event-read _ _ read)) _ (used-read _ _ _ _ read z))
+    (step-accepted _ _ _ z _ _ (effect k) _ (c .stored .ensures ∙ ap (next (start d .args .t)) (event-read _ _ _ read)) _ (used-read _ _ _ _ read z))
 
 pub event-spec : {M : Type 1} → statement M
 event-spec =

@@ -5,9 +5,8 @@ use Prim.Native.Nat.{ℕ, _≤_}
 use native.Mathlib.Omega.{arith}
 use lib.ListN.{length, take}
 use mir.Syntax.{w32}
-use mir.Val.{SFits, toZ, ofZ}
+use mir.Val.{toZ, ofZ}
 use Rattle.model.specs.Runs.{line, lineOf}
-use Rattle.listing.specs.Writing.{showing}
 use Rattle.listing.proofs.Names.{NameArray, name-array}
 use Rattle.listing.proofs.Lines.{no-line, line-of-clipped, line-room}
 use Rattle.listing.proofs.Storing.{stored-none, Front, stored-front}
@@ -22,36 +21,32 @@ abbrev stored : tie.After-put-whole → tie.After-store-line
 stored c = c .before .before .before .before
 
 abbrev clipped : tie.After-buffer → tie.After-at-most
-clipped c = c .before .before .before
+clipped c = c .before .before
 
 abbrev start : tie.After-at-most → tie.Start
 start c = c .before .before
 
 -- the line that is stored, and the one of the set
 abbrev text : tie.After-at-most → List ℕ
-text c = let s = start c in line (s .args .event) (s .args .controller) (showing (toZ w32 (ofZ w32 (s .args .panel .total)))) (take (c .at-most .result) (s .args .names))
+text c = let s = start c in line (s .args .event) (s .args .controller) (toZ w32 (ofZ w32 (s .args .total))) (take (c .at-most .result) (s .args .names))
 
 abbrev wanted : tie.Start → List ℕ
-wanted s = lineOf (s .args .event) (s .args .controller) (s .args .panel) (take (s .args .size) (s .args .names))
+wanted s = lineOf (s .args .event) (s .args .controller) (s .args .total) (take (s .args .size) (s .args .names))
 
 owned : (s : tie.Start) → NameArray (s .args .names)
 owned s = name-array (s .args .names) _ (s .good .1 .1 .1 .1 .0)
 
--- the total fits its type
-told : (c : tie.After-struct-told) → SFits w32 (start (c .before .before) .args .panel .total)
-told c = record { sfits = c .struct-told .given .0 .1 }
-
-room : (c : tie.After-struct-told) → length (text (c .before .before)) ≤ 549
+room : (c : tie.Else1) → length (text (c .before)) ≤ 549
 room c =
-    let k = c .before .before in
+    let k = c .before in
     let s = start k in
-    line-room (s .args .event) (s .args .controller) (s .args .panel .total) (s .args .names) _ (s .args .size) (told c) (owned s) (k .at-most .ensures) (s .fits .event .fits) (s .fits .controller .fits)
+    line-room (s .args .event) (s .args .controller) (s .args .total) (s .args .names) _ (s .args .size) (s .fits .total) (owned s) (k .at-most .ensures) (s .fits .event .fits) (s .fits .controller .fits)
 
-same-line : (c : tie.After-struct-told) → text (c .before .before) ≡ wanted (start (c .before .before))
+same-line : (c : tie.Else1) → text (c .before) ≡ wanted (start (c .before))
 same-line c =
-    let k = c .before .before in
+    let k = c .before in
     let s = start k in
-    line-of-clipped (s .args .event) (s .args .controller) (s .args .panel .total) (s .args .names) _ (s .args .size) (told c) (owned s) (k .at-most .ensures) (c .before .if1 .left)
+    line-of-clipped (s .args .event) (s .args .controller) (s .args .total) (s .args .names) _ (s .args .size) (s .fits .total) (owned s) (k .at-most .ensures) (c .if1 .left)
 
 whole : (c : tie.After-store-line) → Front (wanted (start (clipped (c .before)))) (c .store-line .last .0) (c .store-line .result)
 whole c =
@@ -65,7 +60,7 @@ returns : tie.Need-returns
 returns c =
     let k = c .before in
     let s = start k in
-    rw (← no-line (s .args .event) (s .args .controller) (s .args .panel .total) (s .args .names) _ (s .args .size) (k .at-most .ensures) (c .if1 .taken))
+    rw (← no-line (s .args .event) (s .args .controller) (s .args .total) (s .args .names) _ (s .args .size) (k .at-most .ensures) (c .if1 .taken))
     (fitting-written (omega arith) (stored-none _ 0))
 
 slice-aggregate-store-line : tie.Need-slice-aggregate-store-line

@@ -7,7 +7,6 @@ use mir.Syntax.{w32}
 use mir.Val.{toZ, ofZ}
 use Rattle.model.specs.Runs.{decimal, signed, nameFields}
 use Rattle.model.proofs.Lengths.{length-line}
-use Rattle.listing.specs.Writing.{showing}
 use Rattle.listing.proofs.Signs.{read-back}
 use Rattle.listing.proofs.Lines.{line-parts}
 use Rattle.listing.proofs.Storing.{stored-same, stored-then}
@@ -47,7 +46,7 @@ room : (s : tie.Start)
 room s =
     omega (
       arith,
-      length-line (s .args .event) (s .args .controller) (showing (s .args .total)) (take (s .args .count) (s .args .names)),
+      length-line (s .args .event) (s .args .controller) (s .args .total) (take (s .args .count) (s .args .names)),
       ap length (same-total s),
       s .pre .1,
     )

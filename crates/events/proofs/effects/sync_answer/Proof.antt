@@ -1,17 +1,17 @@
--- `sync_answer` is what the panel shows, where a sync is finished. Assumes nothing.
+-- `sync_answer` is the total, where a sync is finished. Assumes nothing.
 use mathlib.Core.Path.{refl}
 use borrow.Author.Needs.{needs}
 use Rattle.events.proofs.effects.sync_answer.Statement.{statement}
 use Rattle.events.proofs.effects.sync_answer.Tie as tie
 
-shown-requires : tie.Need-shown-requires
-shown-requires c κs = search needs
+total-requires : tie.Need-total-requires
+total-requires c κs = search needs
 
 returns : tie.Need-returns
-returns c = rw (c .before .if1 .taken) (c .shown .ensures)
+returns c = rw (c .before .if1 .taken) (c .total .ensures)
 
 returns-2 : tie.Need-returns-2
 returns-2 c = rw (c .if1 .left) refl
 
 pub sync-answer-spec : {M : Type 1} → statement M
-sync-answer-spec = tie.close (tie.spec shown-requires returns returns-2)
+sync-answer-spec = tie.close (tie.spec total-requires returns returns-2)

@@ -7,19 +7,19 @@ use Rattle.events.proofs.Turning.{no-line}
 use Rattle.events.proofs.files.list_line.Statement.{statement}
 use Rattle.events.proofs.files.list_line.Tie as tie
 
--- PLACES: from behind the line to the subject, and from there to what the panel shows
+-- PLACES: from behind the line to the subject, and from there to the total
 abbrev named : tie.After-slice-known2 → tie.After-subject
 named c = c .before .before .before
 
-abbrev panel : tie.After-subject → tie.After-shown
-panel c = c .before .before .before
+abbrev total : tie.After-subject → tie.After-total
+total c = c .before .before .before
 
 returns : tie.Need-returns
 unfolding lineOf
 returns c = rw (c .if1 .taken) (no-line _)
 
-shown-requires : tie.Need-shown-requires
-shown-requires c κs = search needs
+total-requires : tie.Need-total-requires
+total-requires c κs = search needs
 
 subject-requires : tie.Need-subject-requires
 subject-requires c κs = search needs
@@ -31,7 +31,7 @@ same-length : tie.Need-same-length
 same-length c = search needs
 
 returns-2 : tie.Need-returns-2
-returns-2 c = rw (← named c .subject .ensures, ← panel (named c) .shown .ensures) (c .before .before .put-line .ensures)
+returns-2 c = rw (← named c .subject .ensures, ← total (named c) .total .ensures) (c .before .before .put-line .ensures)
 
 pub list-line-spec : {M : Type 1} → statement M
-list-line-spec = tie.close (tie.spec returns shown-requires subject-requires put-line-requires same-length returns-2)
+list-line-spec = tie.close (tie.spec returns total-requires subject-requires put-line-requires same-length returns-2)

@@ -25,7 +25,7 @@ returns : tie.Need-returns
 returns c =
     let i = c .before .before in
     let r = i .before .before in
-    ahead-is _ _ (r .read-record .ensures) _ _ (i .seat .ensures ∙ ap seatOf (i .before .subject .ensures)) (c .seat2 .ensures ∙ ap seatOf (c .before .owner .ensures))
+    ahead-is _ _ _ (r .read-record .ensures) _ _ (i .seat .ensures ∙ ap seatOf (i .before .subject .ensures)) (c .seat2 .ensures ∙ ap seatOf (c .before .owner .ensures))
 
 pub look-ahead-spec : {M : Type 1} → statement M
 look-ahead-spec =

@@ -26,10 +26,10 @@ use Rattle.events.proofs.files.run_records.Statement.{statement}
 use Rattle.events.proofs.files.run_records.Tie as tie
 
 abbrev Inv-loop : tie.InvT-loop
-Inv-loop bytes listing₀ scratch₀ n table₀ left₀ cursor₀ listing scratch table left cursor = Running bytes listing₀ scratch₀ listing scratch left cursor table
+Inv-loop bytes listing₀ scratch₀ version n table₀ left₀ cursor₀ listing scratch table left cursor = Running bytes listing₀ scratch₀ listing scratch left cursor table
 
 abbrev μ-loop : tie.MeasureT-loop
-μ-loop bytes listing₀ scratch₀ n table₀ left₀ cursor₀ listing scratch table left cursor = length left
+μ-loop bytes listing₀ scratch₀ version n table₀ left₀ cursor₀ listing scratch table left cursor = length left
 
 -- PLACES: from behind the message to the test of the kind, what was stored, the bytes left and the turn
 abbrev kind : tie.After-of2 Inv-loop μ-loop → tie.After-e Inv-loop μ-loop
@@ -66,18 +66,18 @@ some c = ahead c .before
 abbrev event : tie.After-look-ahead Inv-loop μ-loop → Event
 event c = c .look-ahead .result .found .event
 
-found-is : (c : tie.After-look-ahead Inv-loop μ-loop) → c .look-ahead .result .found ≡ recordOf (inside c .loop .left .now)
+found-is : (c : tie.After-look-ahead Inv-loop μ-loop) → c .look-ahead .result .found ≡ recordOf (inside c .loop .table .version) (inside c .loop .left .now)
 unfolding aheadOf
 found-is c = ap (λ (a : Ahead). a .found) (c .look-ahead .ensures)
 
-event-is : (c : tie.After-look-ahead Inv-loop μ-loop) → event c ≡ decode (inside c .loop .left .now)
-event-is c = event-read _ _ (found-is c)
+event-is : (c : tie.After-look-ahead Inv-loop μ-loop) → event c ≡ decode (inside c .loop .table .version) (inside c .loop .left .now)
+event-is c = event-read _ _ _ (found-is c)
 
-subject-at : (c : tie.After-look-ahead Inv-loop μ-loop) → c .look-ahead .result .subject ≡ seatOf (subject (decode (inside c .loop .left .now)))
+subject-at : (c : tie.After-look-ahead Inv-loop μ-loop) → c .look-ahead .result .subject ≡ seatOf (subject (decode (inside c .loop .table .version) (inside c .loop .left .now)))
 unfolding aheadOf
 subject-at c = ap (λ (a : Ahead). a .subject) (c .look-ahead .ensures)
 
-owner-at : (c : tie.After-look-ahead Inv-loop μ-loop) → c .look-ahead .result .owner ≡ seatOf (ownerOf (decode (inside c .loop .left .now)))
+owner-at : (c : tie.After-look-ahead Inv-loop μ-loop) → c .look-ahead .result .owner ≡ seatOf (ownerOf (decode (inside c .loop .table .version) (inside c .loop .left .now)))
 unfolding aheadOf
 owner-at c = ap (λ (a : Ahead). a .owner) (c .look-ahead .ensures)
 
@@ -110,6 +110,12 @@ fewer c = let d = done c in run-further _ _ _ _ _ _ _ _ (loop d .loop .inv) (som
 byte-at-requires : tie.Need-byte-at-requires Inv-loop μ-loop
 byte-at-requires c κs = search needs
 
+cast-version : tie.Need-cast-version Inv-loop μ-loop
+cast-version c = search needs
+
+byte-at-requires-2 : tie.Need-byte-at-requires-2 Inv-loop μ-loop
+byte-at-requires-2 c κs = search needs
+
 cast-n : tie.Need-cast-n Inv-loop μ-loop
 cast-n c = search needs
 
@@ -122,7 +128,8 @@ behind-requires c κs = search needs
 loop-holds : tie.Need-loop-holds Inv-loop μ-loop
 loop-holds c =
     let n = c .before .before in
-    run-begins _ _ _ (n .before .before .before .before .pre) _ (n .byte-at .ensures) _ (c .before .opened .ensures) _ (c .behind .ensures)
+    let v = n .before in
+    run-begins _ _ _ (v .before .before .before .before .pre) _ _ (v .byte-at .ensures) (n .byte-at2 .ensures) _ (c .before .opened .ensures) _ (c .behind .ensures)
 
 look-ahead-requires : tie.Need-look-ahead-requires Inv-loop μ-loop
 look-ahead-requires c κs = search needs
@@ -223,6 +230,8 @@ run-records-spec =
     Inv-loop
     μ-loop
     byte-at-requires
+    cast-version
+    byte-at-requires-2
     cast-n
     opened-requires
     behind-requires

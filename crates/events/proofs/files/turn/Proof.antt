@@ -51,11 +51,11 @@ sized s = table-sized (s .args .t) _ (s .good .1 .0)
 listing-fits : (s : tie.Start) → length (s .args .listing .now) < 2 ^ 64
 listing-fits s = s .good .1 .1 .1 .1 .1 .1 .0 .0
 
-record-is : (s : tie.Start) → s .args .found ≡ recordOf (bytes s)
+record-is : (s : tie.Start) → s .args .found ≡ recordOf (s .args .t .version) (bytes s)
 record-is s = s .pre .1 .record-is
 
-event-is : (s : tie.Start) → s .args .found .event ≡ decode (bytes s)
-event-is s = event-read _ _ (record-is s)
+event-is : (s : tie.Start) → s .args .found .event ≡ decode (s .args .t .version) (bytes s)
+event-is s = event-read _ _ _ (record-is s)
 
 number-is : (c : tie.After-refusal-of) → let s = start c in c .refusal-of .result ≡ firstNo (stepQuestions (s .args .t) (bytes s) (room s))
 number-is c =
@@ -70,7 +70,7 @@ abbrev cleared : tie.After-carry-out → List ℕ
 cleared c = c .carry-out .last .1 .1 .1 .1 .0
 
 effect : (c : tie.After-carry-out)
-    → let s = begin (asked c) in Effected (s .args .t) (decode (bytes s)) (now (s .args .scratch)) (c .carry-out .result) (cleared c)
+    → let s = begin (asked c) in Effected (s .args .t) (decode (s .args .t .version) (bytes s)) (now (s .args .scratch)) (c .carry-out .result) (cleared c)
 effect c =
     let s = begin (asked c) in
     subst (λ (e : Event). Effected (s .args .t) e (now (s .args .scratch)) (c .carry-out .result) (cleared c)) (event-is s) (c .carry-out .ensures)
