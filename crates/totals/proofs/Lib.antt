@@ -1,3 +1,5 @@
+pub mod Classes
+pub mod Panels
 pub mod Parts
 pub mod Signed
 pub mod Weights

@@ -2,11 +2,13 @@
 ghost use mathlib.Core.Path.{_≡_};
 ghost use mathlib.Core.Bool.{cond};
 ghost use Prim.Native.Nat.{_≤_};
+ghost use lib.ListN.{length};
 ghost use lib.IntN.{pos, _-ℤ_};
-ghost use Rattle.model.specs.Tables.{yes?};
+ghost use Rattle.lists.specs.Build.{tabulate};
+ghost use Rattle.model.specs.Tables.{classCount, yes?};
 ghost use Rattle.model.specs.Events.{panelOf, finishes};
 ghost use Rattle.model.specs.Parts.{part};
-ghost use Rattle.totals.specs.Shown.{totalOf, shownOf, largestSum, Summed};
+ghost use Rattle.totals.specs.Shown.{totalOf, shownOf, largestSum, Summed, EachAtMost, Classed, withAmount, differenceOf};
 use model::Message;
 use model::Panel;
 use model::Payload;
@@ -21,6 +23,12 @@ const CLASSES: usize = 5;
 struct Amounts {
     added: u32,
     withdrawn: u32,
+}
+
+// The same of each class, from 0.
+struct ClassAmounts {
+    added: [u32; 5],
+    withdrawn: [u32; 5],
 }
 
 // An amount that counts where the flag says yes.
@@ -62,45 +70,46 @@ pub fn total(count: usize, messages: [Message; 64], applied: [u8; 64]) -> i32
     difference(summed(count, messages, applied))
 }
 
-// Sums of classes, with amounts more in one of them; of a class that there is none of nothing changes.
-fn with_amounts(sums: [Amounts; 5], class: usize, added: u32, withdrawn: u32) -> [Amounts; 5] {
-    if CLASSES <= class {
-        return sums;
+// An amount more in the sum of its class. Above the last class there is none, and nothing changes.
+fn add_to(sums: &mut [u32; 5], class: u8, amount: u32)
+    requires { ⌜ (length (now sums) ≡ classCount) × EachAtMost largestSum (now sums) × (amount ≤ 65535) ⌝ }
+    ensures { λ r. ⌜ now (sums .exit) ≡ withAmount (now (sums .entry)) class amount ⌝ }
+{
+    let k = class as usize;
+    if k < CLASSES {
+        sums[k] = sums[k] + amount;
     }
-    let before = sums[class];
-    let mut next = sums;
-    next[class] = Amounts {
-        added: before.added + added,
-        withdrawn: before.withdrawn + withdrawn,
-    };
-    next
 }
 
-// The sums of each class.
-fn classed(count: usize, messages: [Message; 64], applied: [u8; 64]) -> [Amounts; 5] {
-    let none = Amounts {
-        added: 0,
-        withdrawn: 0,
-    };
-    let mut sums = [none; CLASSES];
+// The sums of each class over so many messages, of those flagged as applied.
+fn classed(count: usize, messages: [Message; 64], applied: [u8; 64]) -> ClassAmounts
+    ensures { λ r. ⌜ Classed count messages applied r ⌝ }
+{
+    let mut added: [u32; 5] = [0; CLASSES];
+    let mut withdrawn: [u32; 5] = [0; CLASSES];
     for s in 0..numbers::at_most(count, Table::MESSAGES) {
         let flag = applied[s];
-        let p = messages[s].payload;
-        sums = with_amounts(
-            sums,
-            p.class as usize,
-            counted(flag, p.added),
-            counted(flag, p.withdrawn),
-        );
+        let m = messages[s];
+        let class = m.payload.class;
+        add_to(&mut added, class, counted(flag, m.payload.added));
+        add_to(&mut withdrawn, class, counted(flag, m.payload.withdrawn));
     }
-    sums
+    ClassAmounts { added, withdrawn }
 }
 
 // The total of each class.
-fn differences(sums: [Amounts; 5]) -> [i32; 5] {
+fn differences(s: ClassAmounts) -> [i32; 5]
+    requires { ⌜ EachAtMost largestSum (s .added) × EachAtMost largestSum (s .withdrawn) ⌝ }
+    ensures { λ r. ⌜ r ≡ tabulate classCount (differenceOf (s .added) (s .withdrawn)) ⌝ }
+{
+    let added = s.added;
+    let withdrawn = s.withdrawn;
     let mut totals: [i32; 5] = [0; CLASSES];
     for k in 0..CLASSES {
-        totals[k] = difference(sums[k]);
+        totals[k] = difference(Amounts {
+            added: added[k],
+            withdrawn: withdrawn[k],
+        });
     }
     totals
 }
@@ -133,7 +142,7 @@ pub fn panel(t: Table, c: usize) -> Panel
 
 // Whether a sync of c is among the members.
 pub fn finishes(count: usize, messages: [Message; 64], members: [bool; 64], c: u8) -> bool
-    ensures { λ r. ⌜ r ≡ finishes (part 0 count messages) members c ⌝ }
+    ensures { λ r. ⌜ r ≡ finishes (part 0 0 count messages) members c ⌝ }
 {
     for s in 0..numbers::at_most(count, Table::MESSAGES) {
         let kind = messages[s].payload.kind;

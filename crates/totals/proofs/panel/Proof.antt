@@ -3,7 +3,7 @@ use mathlib.Core.Path.{_∙_}
 use borrow.Author.Needs.{needs}
 use Rattle.model.specs.Sized.{Sized}
 use Rattle.model.proofs.Owned.{table-sized}
-use Rattle.totals.proofs.Weights.{panel-past, panel-at}
+use Rattle.totals.proofs.Panels.{panel-past, panel-at}
 use Rattle.totals.proofs.panel.Statement.{statement}
 use Rattle.totals.proofs.panel.Tie as tie
 
