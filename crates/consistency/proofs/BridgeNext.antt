@@ -1,7 +1,7 @@
 -- The fresh state shows the fresh table, and every event that no question refuses is a legal event of the abstract system.
 -- Assumes nothing.
 use mathlib.Core.Path.{_≡_, refl, sym, ap, _∙_}
-use Prim.Native.Nat.{ℕ, zero, suc, _-_, _≤_, _<_}
+use Prim.Native.Nat.{ℕ, zero, suc, _-_, _≤_}
 use native.Mathlib.Nat.{not-suc-le-zero}
 use native.Mathlib.Omega.{arith}
 use lib.ListN.{getD-replicate}
@@ -12,7 +12,7 @@ use Rattle.model.specs.declared.Pending.{Pending}
 use Rattle.model.specs.declared.Table.{Table}
 use Rattle.model.specs.declared.Event.{Event}
 use Rattle.model.specs.declared.Event.the-variants.{Send, Handover, Stop}
-use Rattle.model.proofs.Allowed.{send-allowed, handover-allowed, stop-allowed}
+use Rattle.model.proofs.Allowed.{FreshAllowed, send-allowed, handover-allowed, stop-allowed}
 use Rattle.invariant.proofs.Sizes.{fresh-sized}
 use Rattle.invariant.proofs.Buffering.{unheld-absent}
 use Rattle.invariant.proofs.Kept.{at-fresh, fresh-well-formed}
@@ -36,14 +36,14 @@ idle-shows n name i few = record {
   absent-marks = λ j f l b _. ap (λ (p : Pending). mark p f) (getD-replicate capacity j unheld noPending l) ∙ unheld-absent f b;
 }
 
-pub fresh-related : (n : ℕ) → 0 < n → n ≤ seats → Related n (fresh n) (freshState top)
+pub fresh-related : {v n : ℕ} → FreshAllowed v n → Related n (fresh v n) (freshState top)
 unfolding fresh start freshState
-fresh-related n some few = record {
-  sized = fresh-sized n;
-  formed = fresh-well-formed n some few;
+fresh-related {v} {n} a = record {
+  sized = fresh-sized v n;
+  formed = fresh-well-formed a;
   size = refl;
   all = fresh-all (system n);
-  controllers = λ i l. rw (at-fresh n (suc i) (omega arith)) (idle-shows n (codeAt (fresh n)) i few);
+  controllers = λ i l. rw (at-fresh v n (suc i) (omega (arith, a .few))) (idle-shows n (codeAt (fresh v n)) i (a .few));
   slot-of = λ i m l. absurd (omega arith);
   numbered = λ j l. absurd (not-suc-le-zero l);
 }

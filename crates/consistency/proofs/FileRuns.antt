@@ -22,7 +22,7 @@ use Rattle.model.specs.declared.Table.{Table}
 use Rattle.model.proofs.Allowed.{step-asked}
 use Rattle.model.proofs.Steps.{step-is-accepted, accepted-asked, accepted-table, file-run-ran}
 use Rattle.model.proofs.Runs.{gone, verdict-passed, advance-case}
-use Rattle.consistency.specs.Demand3.{Entry, listed, split, lineSet, recordEntries, fileEntries}
+use Rattle.consistency.specs.Demand3.{Entry, listed, said, split, lineSet, recordEntries, fileEntries}
 use Rattle.consistency.proofs.Reader.{event-read, end-read}
 use Rattle.consistency.proofs.LedgerNext.{Legal, record-legal}
 use Rattle.consistency.proofs.Moments.{Course, Gives, told}
@@ -53,7 +53,7 @@ stopped p s k = record { many = 0; tail = []; events = omega arith; lines = sym 
 -- ONE RECORD MORE
 
 -- an accepted event with the set that it answers
-step-legal : (t : Table) (s : List ℕ) (room : ℕ) → step t s room .answer .number ≡ 0 → Legal t s (decode s) (step t s room .answer .names)
+step-legal : (t : Table) (s : List ℕ) (room : ℕ) → step t s room .answer .number ≡ 0 → Legal t (said (t .version) s) (decode (t .version) s) (step t s room .answer .names)
 unfolding accepted
 step-legal t s room e =
     let q = accepted-asked t s room e in
@@ -73,7 +73,8 @@ module _ (p : Progress) (s : List ℕ) (room space : ℕ) (v : verdict p s room 
     set-read : (n : ℕ) → lineSet n (split 10 (lineAt p s room ++ tail)) ≡ cond (eqb e n) names (lineSet n (split 10 tail))
     unfolding lineAt
     set-read n =
-        event-read n e (subject (decode s)) (panelOf (step (p .table) s room .table) (subject (decode s))) names tail (λ q. later n (omega arith))
+        let c = subject (decode (p .table .version) s) in
+        event-read n e c (panelOf (step (p .table) s room .table) c .total) names tail (λ q. later n (omega arith))
 
     other-read : (n : ℕ) → e ≢ n → lineSet n (split 10 (lineAt p s room ++ tail)) ≡ lineSet n (split 10 tail)
     other-read n d = set-read n ∙ cond-false _ _ (ne-eqb e n d)
@@ -107,17 +108,17 @@ run-done (suc f) p (b ∷ s) room space =
     (λ v. went-on p (b ∷ s) room space v _ (run-done f (gone p (b ∷ s) room space) (behind (b ∷ s)) room space))
     (λ d. rw (ne-eqb (verdict p (b ∷ s) room space) 0 d) (stopped p (b ∷ s) (verdict p (b ∷ s) room space)))
 
-ran-course : (n : ℕ) (s listing scratch : List ℕ) (q : Progress) → Done (begun n) (drop 2 s) q
-    → Course told Gives (fresh n) (fileEntries s (ran q listing scratch)) (ran q listing scratch .answer .table)
+ran-course : (v n : ℕ) (s listing scratch : List ℕ) (q : Progress) → Done (begun v n) (drop 2 s) q
+    → Course told Gives (fresh v n) (fileEntries s (ran q listing scratch)) (ran q listing scratch .answer .table)
 unfolding begun fileEntries ran overlay
-ran-course n s listing scratch q d =
+ran-course v n s listing scratch q d =
     let k : q .events ≡ d .many = omega arith in
     rw (take-append-seam (q .lines) (drop (length (q .lines)) listing), d .lines, k) (d .course)
 
 -- What a file run puts first in a list is legal steps from the fresh table to the one that it answers.
 pub file-course : (s listing scratch : List ℕ) → firstNo (fileQuestions s) ≡ 0
-    → Course told Gives (fresh (byte s 1)) (fileEntries s (fileRun s listing scratch)) (fileRun s listing scratch .answer .table)
+    → Course told Gives (fresh (byte s 0) (byte s 1)) (fileEntries s (fileRun s listing scratch)) (fileRun s listing scratch .answer .table)
 unfolding progress
 file-course s listing scratch q =
     rw (file-run-ran s listing scratch q)
-    (ran-course (byte s 1) s listing scratch _ (run-done (length s) (begun (byte s 1)) (drop 2 s) (length scratch) (length listing)))
+    (ran-course (byte s 0) (byte s 1) s listing scratch _ (run-done (length s) (begun (byte s 0) (byte s 1)) (drop 2 s) (length scratch) (length listing)))

@@ -3,7 +3,7 @@
 use mathlib.Core.Path.{_≡_, refl, sym, ap, subst, _∙_}
 use mathlib.Core.Bool.{true, not}
 use mathlib.Core.List.{[], map, flatten}
-use Prim.Native.Nat.{ℕ, _-_, _≤_, _<_}
+use Prim.Native.Nat.{ℕ, _-_, _<_}
 use native.Mathlib.Nat.{not-suc-le-zero}
 use native.Mathlib.Omega.{arith}
 use lib.ListN.{getD-replicate}
@@ -24,10 +24,11 @@ use Rattle.model.specs.declared.Table.{Table}
 use Rattle.model.specs.declared.Event.{Event}
 use Rattle.model.specs.declared.Event.the-variants.{Send, Handover, Stop}
 use Rattle.model.specs.Facts.{Among, GoodController, WellFormed}
-use Rattle.invariant.proofs.Stores.{message-old}
+use Rattle.model.proofs.Allowed.{FreshAllowed}
+use Rattle.invariant.proofs.Stores.{seated, message-old}
 use Rattle.invariant.proofs.Sizes.{fresh-sized}
 use Rattle.invariant.proofs.Kept.{at-fresh, fresh-well-formed}
-use Rattle.consistency.specs.Demand3.{has, Distinct, Sent, Ledger, start, sentNames}
+use Rattle.consistency.specs.Demand3.{has, Distinct, Said, Sent, Ledger, start, sentNames}
 use Rattle.consistency.proofs.Names.{same-true, has-tabulate-at, has-tabulate-of, distinct-tabulate}
 use Rattle.consistency.proofs.SlotNames.{nameAt, names-at, slots-differ, logNames}
 
@@ -35,9 +36,13 @@ use Rattle.consistency.proofs.SlotNames.{nameAt, names-at, slots-differ
 abbrev pub balance : Payload → ℤ
 balance p = pos (p .added) -ℤ pos (p .withdrawn)
 
+-- what a record says that sends this payload
+abbrev pub saidOf : Payload → Said
+saidOf p = record { amount = balance p; class = p .class }
+
 -- what the ledger keeps of a message, and of that of slot j
 abbrev pub sentOf : Message → Sent
-sentOf m = record { name = nameOf m; payload = m .payload; amount = balance (m .payload) }
+sentOf m = record { name = nameOf m; payload = m .payload; amount = balance (m .payload); class = m .payload .class }
 
 abbrev pub sentAt : Table → ℕ → Sent
 sentAt t j = sentOf (message t j)
@@ -118,15 +123,15 @@ module _ {n : ℕ} {t : Table} {l : Ledger} (r : Recorded n t l) where
 
 -- THE START
 
-pub start-recorded : (n : ℕ) → 0 < n → n ≤ seats → Recorded n (fresh n) start
+pub start-recorded : {v n : ℕ} → FreshAllowed v n → Recorded n (fresh v n) start
 unfolding fresh begun idle start has Distinct flatten logNames tabulate tabulateFrom
-start-recorded n low high = record {
-  sized = fresh-sized n;
-  formed = fresh-well-formed n low high;
+start-recorded {v} {n} a = record {
+  sized = fresh-sized v n;
+  formed = fresh-well-formed a;
   size = refl;
-  logs = λ c h. rw (at-fresh n c (omega arith));
-  places = λ r o h k. rw (at-fresh n r (omega arith)) (sym (getD-replicate {A = ℕ} seats (o - 1) 0 0 (omega arith)));
-  runs = λ c h. rw (at-fresh n c (omega arith));
+  logs = λ c h. rw (at-fresh v n c (seat h));
+  places = λ r o h k. rw (at-fresh v n r (seat h)) (sym (getD-replicate {A = ℕ} seats (o - 1) 0 0 (omega (arith, seat k))));
+  runs = λ c h. rw (at-fresh v n c (seat h));
   sent = refl;
   cut = λ j h. absurd (not-suc-le-zero h);
   cut-sent = λ m e. contradiction e refl;
@@ -135,3 +140,6 @@ start-recorded n low high = record {
   once = λ c. tt;
   unnamed = λ c h. refl;
 }
+  where
+    seat : {c : ℕ} → Among n c → Among seats c
+    seat = seated (a .few)

@@ -28,7 +28,7 @@ use Rattle.invariant.proofs.Receiving.{above-unapplied, next-slot-run, receiver
 use Rattle.invariant.proofs.Kept.{next-well-formed}
 use Rattle.invariant.proofs.Counter.{received-applied, applied-new}
 use Rattle.broadcast.specs.State.{State}
-use Rattle.consistency.specs.Demand3.{has, Distinct, put, Ledger, carried, moved}
+use Rattle.consistency.specs.Demand3.{has, Distinct, Said, put, Ledger, carried, moved}
 use Rattle.consistency.proofs.Bridge.{Related}
 use Rattle.consistency.proofs.BridgeFacts.{own-logged}
 use Rattle.consistency.proofs.Names.{has-append, distinct-append}
@@ -162,7 +162,7 @@ module _ {n : ℕ} {t : Table} {u : State} {l : Ledger} (g : Related n t u) (k :
           contradiction (sym (k .applies r (a .receiver) j h) ∙ e)
           (applied-new t (k .formed) (k .sized) r o a j h (sym (has-names t (k .formed) (handoverSet t r o) j h) ∙ w))
 
-  pub handover-recorded : (s : List ℕ) → Recorded (t .n) (next t (Handover r o)) (moved l (carried s (Handover r o) answer))
+  pub handover-recorded : (s : Said) → Recorded (t .n) (next t (Handover r o)) (moved l (carried s (Handover r o) answer))
   unfolding next subject after withSent deliver moved withController message logNames
   handover-recorded s = record {
     sized = next-sized t (Handover r o) (k .sized);

@@ -1,14 +1,14 @@
--- The amount in an accepted record is that of the message sent, and every legal step keeps the ledger and the table saying
+-- An accepted record says the amount and the class of the message sent, and every legal step keeps the ledger and the table saying
 -- the same. Assumes nothing.
 use mathlib.Core.Path.{_≡_, refl, sym, ap, subst, _∙_}
-use mathlib.Core.Bool.{Bool, true, false, cond, false≢true}
+use mathlib.Core.Bool.{Bool, true, false, _&&_, cond, false≢true}
 use mathlib.Core.List.{List}
 use Prim.Native.Nat.{ℕ, zero, suc, _+_, _-_, _<_}
 use native.Mathlib.Omega.{arith}
 use lib.IntN.{pos, negℤ, _+ℤ_, _-ℤ_, +ℤ-idr, +ℤ-assoc, +ℤ-invr, negℤ-+ℤ, pos-+ℤ-pos}
 use lib.Dec.{eqb, ltb}
 use Rattle.model.specs.Tables.{report, sync}
-use Rattle.model.specs.Records.{byte, kind, word, amount, decode}
+use Rattle.model.specs.Records.{byte, kind, word, classIn as classByte, reported, decode}
 use Rattle.model.specs.Events.{next, appliedBy, namesOf}
 use Rattle.model.specs.Questions.{firstNo, eventQuestions}
 use Rattle.model.specs.WellFormed.{fairMagnitude, fairAmount}
@@ -19,14 +19,14 @@ use Rattle.model.specs.declared.Event.{Event}
 use Rattle.model.specs.declared.Event.the-variants.{Send, Handover, Stop}
 use Rattle.model.proofs.Allowed.{send-allowed}
 use Rattle.broadcast.specs.State.{State}
-use Rattle.consistency.specs.Demand3.{Ledger, twos, amountIn, carried, moved}
+use Rattle.consistency.specs.Demand3.{Said, twos, amountIn, classIn, said, Ledger, carried, moved}
 use Rattle.consistency.proofs.Bridge.{Related}
-use Rattle.consistency.proofs.Ledger.{balance, Recorded}
+use Rattle.consistency.proofs.Ledger.{saidOf, Recorded}
 use Rattle.consistency.proofs.LedgerSend.{send-recorded}
 use Rattle.consistency.proofs.LedgerHandover.{handover-recorded}
 use Rattle.consistency.proofs.LedgerStop.{stop-recorded}
 
--- AMOUNTS
+-- WHAT A RECORD SAYS
 
 minus-sum : (x y : ℕ) → pos x -ℤ pos (x + y) ≡ pos 0 -ℤ pos y
 minus-sum x y =
@@ -35,55 +35,57 @@ minus-sum x y =
     ∙ sym (+ℤ-assoc (pos x) (negℤ (pos x)) (negℤ (pos y)))
     ∙ ap (λ k. k +ℤ negℤ (pos y)) (+ℤ-invr (pos x))
 
-positive : (w : ℕ) → fairAmount (report 0 w) ≡ true → 0 < w
+positive : (k w : ℕ) → fairAmount (report k 0 w) ≡ true → 0 < w
 unfolding fairAmount fairMagnitude
-positive zero e = absurd (false≢true e)
-positive (suc w) e = omega arith
+positive k zero e = absurd (false≢true e)
+positive k (suc w) e = omega arith
 
 -- two's complement, whatever the bytes: a number of 65,536 or more is no amount
-twos-amount : (x : ℕ) → fairAmount (amount x) ≡ true → twos x ≡ balance (amount x)
-unfolding twos amount
-twos-amount x = go (ltb x 32768)
+reported-says : (k x : ℕ) → fairAmount (reported k x) ≡ true → record { amount = twos x; class = k } ≡ saidOf (reported k x)
+unfolding twos reported
+reported-says k x = go (ltb x 32768)
   where
-    go : (b : Bool) → fairAmount (cond b (report x 0) (report 0 (65536 - x))) ≡ true
-        → cond b (pos x) (pos x -ℤ pos 65536) ≡ balance (cond b (report x 0) (report 0 (65536 - x)))
-    go true e = sym (+ℤ-idr (pos x))
+    go : (b : Bool) → fairAmount (cond b (report k x 0) (report k 0 (65536 - x))) ≡ true
+        → record { amount = cond b (pos x) (pos x -ℤ pos 65536); class = k } ≡ saidOf (cond b (report k x 0) (report k 0 (65536 - x)))
+    go true e = ap (λ z. record { amount = z; class = k }) (sym (+ℤ-idr (pos x)))
     go false e =
-        let h = positive (65536 - x) e in
+        let h = positive k (65536 - x) e in
         let q : x + (65536 - x) ≡ 65536 = omega arith in
-        subst (λ y. pos x -ℤ pos y ≡ pos 0 -ℤ pos (65536 - x)) q (minus-sum x (65536 - x))
+        ap (λ z. record { amount = z; class = k }) (subst (λ y. pos x -ℤ pos y ≡ pos 0 -ℤ pos (65536 - x)) q (minus-sum x (65536 - x)))
 
-pub decoded-amount : (s : List ℕ) (c : ℕ) (p : Payload) → decode s ≡ Send c p → fairAmount p ≡ true → amountIn s ≡ balance p
-unfolding decode amountIn
-decoded-amount s c p = go (eqb (kind s) 1) (eqb (kind s) 2) (eqb (kind s) 3)
+pub decoded-said : (v : ℕ) (s : List ℕ) (c : ℕ) (p : Payload) → decode v s ≡ Send c p → fairAmount p ≡ true → said v s ≡ saidOf p
+unfolding decode said amountIn classIn classByte
+decoded-said v s c p = go (eqb (kind s) 1) (eqb (kind s) 2) (eqb (kind s) 3)
   where
     go : (a b d : Bool)
-        → cond a (Send (byte s 2) (amount (word s 3))) (cond b (Send (byte s 2) sync) (cond d (Handover (byte s 2) (byte s 3)) (Stop (byte s 2) (word s 3)))) ≡ Send c p
-        → fairAmount p ≡ true → cond a (twos (word s 3)) (pos 0) ≡ balance p
-    go true b d e f = let q : amount (word s 3) ≡ p = cc in rw (← q) (twos-amount (word s 3) (rw q f))
+        → cond a (Send (byte s 2) (reported (classByte v s) (word s 3))) (cond b (Send (byte s 2) sync) (cond d (Handover (byte s 2) (byte s 3)) (Stop (byte s 2) (word s 3)))) ≡ Send c p
+        → fairAmount p ≡ true → record { amount = cond a (twos (word s 3)) (pos 0); class = cond (a && eqb v 2) (byte s 5) 0 } ≡ saidOf p
+    go true b d e f = let q : reported (classByte v s) (word s 3) ≡ p = cc in rw (← q) (reported-says (classByte v s) (word s 3) (rw q f))
     go false true d e f = let q : sync ≡ p = cc in rw (← q)
     go false false true e f = let q : _≡_ {A = ℕ} 0 1 = cc in absurd (omega arith)
     go false false false e f = let q : _≡_ {A = ℕ} 0 1 = cc in absurd (omega arith)
 
 -- STEPS
 
--- an event that no question refuses, with the set that it applies, and with bytes that say the amount of a message sent
-pub record Legal (t : Table) (s : List ℕ) (e : Event) (ms : List Name) : Type 0 where
+-- an event that no question refuses, with the set that it applies, and with what its record says of a message sent
+pub record Legal (t : Table) (s : Said) (e : Event) (ms : List Name) : Type 0 where
   pub asked : firstNo (eventQuestions t e) ≡ 0
   pub set : ms ≡ namesOf t (appliedBy t e)
-  pub amount : (c : ℕ) (p : Payload) → e ≡ Send c p → amountIn s ≡ balance p
+  pub says : (c : ℕ) (p : Payload) → e ≡ Send c p → s ≡ saidOf p
 
-pub record-legal : (t : Table) (s : List ℕ) → firstNo (eventQuestions t (decode s)) ≡ 0 → Legal t s (decode s) (namesOf t (appliedBy t (decode s)))
-record-legal t s q = record { asked = q; set = refl; amount = λ c p e. decoded-amount s c p e (send-allowed t c p (rw e at q) .amount) }
+pub record-legal : (t : Table) (s : List ℕ)
+    → let e = decode (t .version) s in
+    firstNo (eventQuestions t e) ≡ 0 → Legal t (said (t .version) s) e (namesOf t (appliedBy t e))
+record-legal t s q = record { asked = q; set = refl; says = λ c p e. decoded-said (t .version) s c p e (send-allowed t c p (rw e at q) .amount) }
 
-event-recorded : {n : ℕ} {t : Table} {u : State} {l : Ledger} → Related n t u → Recorded (t .n) t l → (s : List ℕ) (e : Event) (ms : List Name) → Legal t s e ms
+event-recorded : {n : ℕ} {t : Table} {u : State} {l : Ledger} → Related n t u → Recorded (t .n) t l → (s : Said) (e : Event) (ms : List Name) → Legal t s e ms
     → Recorded (t .n) (next t e) (moved l (carried s e ms))
 unfolding appliedBy
-event-recorded g k s (Send c y) ms a = send-recorded k c y (a .asked) s (a .amount c y refl) ms
+event-recorded g k s (Send c y) ms a = send-recorded k c y (a .asked) s (a .says c y refl) ms
 event-recorded g k s (Handover r o) ms a = rw (a .set) (handover-recorded g k r o (a .asked) s)
 event-recorded g k s (Stop c i) ms a = stop-recorded k c i (a .asked) s ms
 
-pub next-recorded : {n : ℕ} {t : Table} {u : State} {l : Ledger} → Related n t u → Recorded n t l → (s : List ℕ) (e : Event) (ms : List Name) → Legal t s e ms
+pub next-recorded : {n : ℕ} {t : Table} {u : State} {l : Ledger} → Related n t u → Recorded n t l → (s : Said) (e : Event) (ms : List Name) → Legal t s e ms
     → Recorded n (next t e) (moved l (carried s e ms))
 next-recorded {t = t} {l = l} g k s e ms a =
     subst (λ m. Recorded m (next t e) (moved l (carried s e ms))) (k .size)

@@ -27,9 +27,9 @@ use Rattle.invariant.proofs.Sizes.{next-sized}
 use Rattle.invariant.proofs.Logs.{log-within, entered-in-log, entered-in-log-other}
 use Rattle.invariant.proofs.Kept.{next-well-formed}
 use Rattle.invariant.proofs.Sending.{Added, new, old, added}
-use Rattle.consistency.specs.Demand3.{name, has, Sent, Ledger, amountIn, carried, moved}
+use Rattle.consistency.specs.Demand3.{name, has, Said, Sent, Ledger, carried, moved}
 use Rattle.consistency.proofs.SlotNames.{logNames, length-log, log-entered, log-added}
-use Rattle.consistency.proofs.Ledger.{balance, sentOf, sentAt, senderAt, Slot, Recorded, slot-kept}
+use Rattle.consistency.proofs.Ledger.{saidOf, sentOf, sentAt, senderAt, Slot, Recorded, slot-kept}
 use Rattle.consistency.proofs.LedgerChanges.{at-case, at-kept, put-at}
 
 -- the run with the message that c sends
@@ -37,7 +37,7 @@ abbrev longer : Table → ℕ → Payload → Table
 longer t c p = withMessage t (sentMessage t c p)
 
 module _ {t : Table} {l : Ledger} (k : Recorded (t .n) t l) (c : ℕ) (p : Payload) (q : firstNo (eventQuestions t (Send c p)) ≡ 0)
-    (s : List ℕ) (amount : amountIn s ≡ balance p) (ms : List Name) where
+    (s : Said) (says : s ≡ saidOf p) (ms : List Name) where
   a : SendAllowed t c p
   a = send-allowed t c p q
 
@@ -64,12 +64,12 @@ module _ {t : Table} {l : Ledger} (k : Recorded (t .n) t l) (c : ℕ) (p : Paylo
       (rw log-length (ap (λ (m : Message). nameOf m) (sym new-message)))
       ∙ sym (log-entered (longer t c p) (at t c) (t .count) sender-sized log-room)
 
-  sent-after : l .sent ++ (record { name = name c (length (l .log c) + 1); payload = p; amount = amountIn s } ∷ []) ≡ tabulate (t .count + 1) (sentAt (longer t c p))
+  sent-after : l .sent ++ (record { name = name c (length (l .log c) + 1); payload = p; amount = s .amount; class = s .class } ∷ []) ≡ tabulate (t .count + 1) (sentAt (longer t c p))
   unfolding sentMessage
   sent-after =
       ap₂ (λ (xs : List Sent) (x : Sent). xs ++ (x ∷ []))
       (k .sent ∙ tabulate-ext (t .count) _ _ (sentOf noMessage) (λ j h. ap (λ (m : Message). sentOf m) (sym (message-old t (sentMessage t c p) j h))))
-      (rw (log-length, amount) (ap (λ (m : Message). sentOf m) (sym new-message)))
+      (rw (log-length, says) (ap (λ (m : Message). sentOf m) (sym new-message)))
       ∙ sym (tabulate-last (sentAt (longer t c p)) (t .count))
 
   -- THE NEW NAME

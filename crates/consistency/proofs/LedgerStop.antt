@@ -22,7 +22,7 @@ use Rattle.model.proofs.Allowed.{StopAllowed, stop-allowed}
 use Rattle.invariant.proofs.Logs.{in-log-at, in-log-of}
 use Rattle.invariant.proofs.Sizes.{next-sized}
 use Rattle.invariant.proofs.Kept.{next-well-formed}
-use Rattle.consistency.specs.Demand3.{has, ownOf, Ledger, carried, moved}
+use Rattle.consistency.specs.Demand3.{has, ownOf, Said, Ledger, carried, moved}
 use Rattle.consistency.proofs.Names.{has-append, has-own, has-drop}
 use Rattle.consistency.proofs.SlotNames.{nameAt, logNames, log-stopped, has-log, distinct-log}
 use Rattle.consistency.proofs.Ledger.{senderAt, Slot, Recorded, log-slot, slot-kept}
@@ -46,7 +46,7 @@ not-now true b = refl
 not-now false true = refl
 not-now false false = refl
 
-module _ {t : Table} {l : Ledger} (r : Recorded (t .n) t l) (c k : ℕ) (q : firstNo (eventQuestions t (Stop c k)) ≡ 0) (s : List ℕ) (ms : List Name) where
+module _ {t : Table} {l : Ledger} (r : Recorded (t .n) t l) (c k : ℕ) (q : firstNo (eventQuestions t (Stop c k)) ≡ 0) (s : Said) (ms : List Name) where
   a : StopAllowed t c k
   a = stop-allowed t c k q
 

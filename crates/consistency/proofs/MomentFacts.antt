@@ -25,7 +25,7 @@ use Rattle.invariant.proofs.Stores.{seated}
 use Rattle.broadcast.specs.State.{State}
 use Rattle.broadcast.specs.Delivery.{Subset}
 use Rattle.broadcast.proofs.Theorem.{containment, ending}
-use Rattle.consistency.specs.Demand3.{name, has, Ledger, applied, remaining, amounts, Contains, Exactly, Runs, ReadOut}
+use Rattle.consistency.specs.Demand3.{name, has, Ledger, applied, remaining, showing, Contains, Exactly, Runs, ReadOut}
 use Rattle.consistency.proofs.Bridge.{system, codeAt, code-injective, Related}
 use Rattle.consistency.proofs.BridgeFacts.{few, shown, applied-delivered, delivered-slot, remains-logged, all-read, quorum-runs}
 use Rattle.consistency.proofs.SlotNames.{nameAt, length-log}
@@ -89,10 +89,10 @@ module _ {n : ℕ} {s₀ : State} {t : Table} {l : Ledger} (m : Moment n s₀ t 
   unfolding look lentTable firstNo
   look-is c h = rw (tested t (m .related .formed), named-of t c (omega (arith, m .related .size)))
 
-  pub look-shows : (c : ℕ) (a : LookAnswer) → a ≡ look t c → a .number ≡ 0 → a .panel .total ≡ amounts (l .sent) (applied l c)
+  pub look-shows : (c : ℕ) (a : LookAnswer) → a ≡ look t c → a .number ≡ 0 → a .panel ≡ showing (l .sent) (applied l c)
   look-shows c a e z =
       let h = look-named c (ap (λ (b : LookAnswer). b .number) (sym e) ∙ z) in
-      ap (λ (b : LookAnswer). b .panel .total) (e ∙ look-is c h) ∙ look-amounts (m .recorded) c h
+      ap (λ (b : LookAnswer). b .panel) (e ∙ look-is c h) ∙ look-amounts (m .recorded) c h
 
 -- THE ENDING
 
@@ -126,5 +126,5 @@ module _ {n : ℕ} {s₀ : State} {t : Table} {l : Ledger} (m : Moment n s₀ t 
       (λ y. slot-case (λ m. has m (remaining l) ≡ true → has m (applied l r) ≡ true) (remaining-slot p x y)
       (λ j b z. p .applies r h j b ∙ slot-ending j b .1 (sym (has-remaining p j b) ∙ z)) y)
 
-  pub ending-shows : (look t r .number ≡ 0) × (look t r .panel .total ≡ amounts (l .sent) (remaining l))
+  pub ending-shows : (look t r .number ≡ 0) × (look t r .panel ≡ showing (l .sent) (remaining l))
   ending-shows = rw (look-is m r h) (refl, look-remaining p r h moment-ending)

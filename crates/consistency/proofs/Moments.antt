@@ -1,22 +1,24 @@
 -- The entries of a list are legal steps one after another, and after every step the table, the ledger and a state of the abstract
 -- system say the same. Assumes nothing.
-use mathlib.Core.Path.{_≡_, refl}
+use mathlib.Core.Path.{_≡_, refl, _∙_}
 use mathlib.Core.List.{List, [], _∷_, _++_, append-assoc, flatMap, foldl}
-use Prim.Native.Nat.{ℕ, _≤_, _<_}
+use Prim.Native.Nat.{ℕ}
 use lib.ListN.{length}
 use borrow.Author.Tests.{ne-eqb}
-use Rattle.model.specs.Tables.{seats, fresh}
-use Rattle.model.specs.Events.{next}
+use Rattle.model.specs.Tables.{fresh, withController, withMessage}
+use Rattle.model.specs.Events.{withSent, next}
 use Rattle.model.specs.Records.{decode}
 use Rattle.model.specs.WellFormed.{wellFormed}
 use Rattle.model.specs.Questions.{firstNo, lentTable, stepQuestions}
 use Rattle.model.specs.Calls.{Outcome, accepted, refused, event, look}
 use Rattle.model.specs.declared.Table.{Table}
-use Rattle.model.proofs.Allowed.{no-no, step-asked}
+use Rattle.model.specs.declared.Event.{Event}
+use Rattle.model.specs.declared.Event.the-variants.{Send, Handover, Stop}
+use Rattle.model.proofs.Allowed.{FreshAllowed, no-no, step-asked}
 use Rattle.model.proofs.Steps.{settled-case}
 use Rattle.broadcast.specs.State.{State, fresh as freshState}
 use Rattle.broadcast.specs.Events.{Run, start as stays, then}
-use Rattle.consistency.specs.Demand3.{Call, singleEvent, panelLook, Entry, answered, looked, listed, entry, left, transcript, Step, carried, steps, did, Ledger, start, moved}
+use Rattle.consistency.specs.Demand3.{Call, singleEvent, panelLook, Entry, answered, looked, listed, entry, left, transcript, said, Step, carried, steps, did, Ledger, start, moved}
 use Rattle.consistency.proofs.Bridge.{top, system, Related}
 use Rattle.consistency.proofs.BridgeNext.{fresh-related, next-related}
 use Rattle.consistency.proofs.Ledger.{Recorded, start-recorded}
@@ -58,40 +60,62 @@ Takes t (carried s e ms) = Legal t s e ms
 unfoldable pub Gives : Table → Entry → Type 0
 Gives t (answered s w a) = a ≡ event t s (length w) .answer
 Gives t (looked c a) = a ≡ look t c
-Gives t (listed s ms) = Legal t s (decode s) ms
+Gives t (listed s ms) = Legal t (said (t .version) s) (decode (t .version) s) ms
 
 -- the table that an entry leaves
 unfoldable pub told : Table → Entry → Table
 told t (answered s w a) = event t s (length w) .table
 told t (looked c a) = t
-told t (listed s ms) = next t (decode s)
+told t (listed s ms) = next t (decode (t .version) s)
 
 -- an event call with this outcome stands for legal steps, or none, that lead to the table that it leaves
-event-taken : (t : Table) (s w : List ℕ) → Course stepped Takes t (steps (answered s w (event t s (length w) .answer))) (event t s (length w) .table)
+event-taken : (t : Table) (s w : List ℕ)
+    → Course stepped Takes t (steps (t .version) (answered s w (event t s (length w) .answer))) (event t s (length w) .table)
 unfolding event accepted refused steps stepped Takes Course lentTable
 event-taken t s w =
     let k = firstNo (lentTable t ∷ stepQuestions t s (length w)) in
-    settled-case (λ (o : Outcome). Course stepped Takes t (steps (answered s w (o .answer))) (o .table)) t s k
+    settled-case (λ (o : Outcome). Course stepped Takes t (steps (t .version) (answered s w (o .answer))) (o .table)) t s k
     (λ e. (record-legal t s (step-asked t s (length w) (no-no 3 (wellFormed t) _ e .1) .1), refl))
     (λ d. rw (ne-eqb k 0 d) refl)
 
-entry-taken : (t : Table) (e : Entry) → Gives t e → Course stepped Takes t (steps e) (told t e)
+entry-taken : (t : Table) (e : Entry) → Gives t e → Course stepped Takes t (steps (t .version) e) (told t e)
 unfolding Gives told steps stepped Takes Course
 entry-taken t (answered s w a) q = rw q (event-taken t s w)
 entry-taken t (looked c a) q = refl
 entry-taken t (listed s ms) q = (q, refl)
 
+-- THE VERSION, which no entry changes
+
+next-version : (t : Table) (e : Event) → next t e .version ≡ t .version
+unfolding next withSent withController withMessage
+next-version t (Send c p) = refl
+next-version t (Handover r o) = refl
+next-version t (Stop c k) = refl
+
+told-version : (t : Table) (e : Entry) → told t e .version ≡ t .version
+unfolding told event accepted refused
+told-version t (answered s w a) = settled-case (λ (o : Outcome). o .table .version ≡ t .version) t s _ (λ _. next-version t _) (λ _. refl)
+told-version t (looked c a) = refl
+told-version t (listed s ms) = next-version t _
+
+pub entries-version : (t : Table) (es : List Entry) → foldl told t es .version ≡ t .version
+entries-version t [] = refl
+entries-version t (e ∷ es) = entries-version (told t e) es ∙ told-version t e
+
 -- LISTS
 
-pub did-append : (xs ys : List Entry) → did (xs ++ ys) ≡ did xs ++ did ys
+pub did-append : (v : ℕ) (xs ys : List Entry) → did v (xs ++ ys) ≡ did v xs ++ did v ys
 unfolding flatMap
-did-append [] ys = refl
-did-append (e ∷ xs) ys = rw (did-append xs ys, append-assoc)
+did-append v [] ys = refl
+did-append v (e ∷ xs) ys = rw (did-append v xs ys, append-assoc)
 
-pub entries-taken : (t : Table) (es : List Entry) (u : Table) → Course told Gives t es u → Course stepped Takes t (did es) u
+-- read as the version of their tables says, entries are legal steps
+pub entries-taken : {v : ℕ} (t : Table) → t .version ≡ v → (es : List Entry) (u : Table) → Course told Gives t es u → Course stepped Takes t (did v es) u
 unfolding Course flatMap
-entries-taken t [] u p = p
-entries-taken t (e ∷ es) u p = course-append stepped Takes t (steps e) (told t e) (did es) u (entry-taken t e (p .0)) (entries-taken (told t e) es u (p .1))
+entries-taken t q [] u p = p
+entries-taken {v} t q (e ∷ es) u p =
+    course-append stepped Takes t (steps v e) (told t e) (did v es) u (rw (← q) (entry-taken t e (p .0)))
+    (entries-taken (told t e) (told-version t e ∙ q) es u (p .1))
 
 pub transcript-course : (t : Table) (cs : List Call) → Course told Gives t (transcript t cs) (foldl left t cs)
 unfolding Course Gives told transcript entry left
@@ -108,8 +132,8 @@ pub record Moment (n : ℕ) (s : State) (t : Table) (l : Ledger) : Type 0 where
   pub related : Related n t state
   pub recorded : Recorded n t l
 
-pub first-moment : (n : ℕ) → 0 < n → n ≤ seats → Moment n (freshState top) (fresh n) start
-first-moment n low high = record { state = freshState top; run = stays; related = fresh-related n low high; recorded = start-recorded n low high }
+pub first-moment : {v n : ℕ} → FreshAllowed v n → Moment n (freshState top) (fresh v n) start
+first-moment a = record { state = freshState top; run = stays; related = fresh-related a; recorded = start-recorded a }
 
 step-moment : {n : ℕ} {s₀ : State} {t : Table} {l : Ledger} → Moment n s₀ t l → (x : Step) → Takes t x → Moment n s₀ (stepped t x) (moved l x)
 unfolding Takes stepped

@@ -5,13 +5,13 @@ use mathlib.Core.Bool.{cond}
 use mathlib.Core.List.{List, [], _∷_, _++_, map, append-nil, append-assoc}
 use mathlib.Core.Logic.{_≢_}
 use native.Mathlib.Omega.{arith}
+use lib.IntN.{ℤ}
 use lib.Dec.{eqb}
 use borrow.Author.Tests.{eqb-true}
 use Rattle.lists.proofs.Tests.{cond-case}
 use Rattle.lists.proofs.Every.{Every, every-append}
 use Rattle.model.specs.Runs.{decimal, signed, nameFields, line, lineOf}
 use Rattle.model.specs.declared.Name.{Name}
-use Rattle.model.specs.declared.Panel.{Panel}
 use Rattle.consistency.specs.Demand3.{split, numberFrom, nameIn, lineSet}
 use Rattle.consistency.proofs.Decimal.{Lacks, lacks-joined, decimal-lacks, signed-lacks, decimal-number, split-at-first, split-whole}
 
@@ -22,8 +22,8 @@ unfoldable pub field : Name → List ℕ
 field m = decimal (m .sender) ++ (46 ∷ decimal (m .number .0))
 
 -- a line without its end
-unfoldable pub body : ℕ → ℕ → Panel → List Name → List ℕ
-body e c p ms = decimal e ++ (32 ∷ decimal c ++ (32 ∷ signed (p .total) ++ nameFields ms))
+unfoldable pub body : ℕ → ℕ → ℤ → List Name → List ℕ
+body e c z ms = decimal e ++ (32 ∷ decimal c ++ (32 ∷ signed z ++ nameFields ms))
 
 field-lacks : (m : Name) (k : ℕ) → k < 46 → Lacks k (field m)
 unfolding field
@@ -50,12 +50,12 @@ fields-split p (m ∷ ms) h =
     ∙ ap (λ r. p ∷ r) (ap (split 32) (sym (append-assoc (decimal (m .sender)) (46 ∷ decimal (m .number .0)) (nameFields ms)))
     ∙ fields-split (field m) ms (field-lacks m 32 (omega arith)))
 
-pub line-fields : (e c : ℕ) (p : Panel) (ms : List Name) → split 32 (body e c p ms) ≡ decimal e ∷ decimal c ∷ signed (p .total) ∷ map field ms
+pub line-fields : (e c : ℕ) (z : ℤ) (ms : List Name) → split 32 (body e c z ms) ≡ decimal e ∷ decimal c ∷ signed z ∷ map field ms
 unfolding body
-line-fields e c p ms =
+line-fields e c z ms =
     split-at-first 32 (decimal e) _ (decimal-lacks e 32 (omega arith))
     ∙ ap (λ r. decimal e ∷ r) (split-at-first 32 (decimal c) _ (decimal-lacks c 32 (omega arith))
-    ∙ ap (λ r. decimal c ∷ r) (fields-split (signed (p .total)) ms (signed-lacks (p .total) 32 (omega arith))))
+    ∙ ap (λ r. decimal c ∷ r) (fields-split (signed z) ms (signed-lacks z 32 (omega arith))))
 
 fields-lack : (ms : List Name) (k : ℕ) → k < 32 → Lacks k (nameFields ms)
 unfolding nameFields Every
@@ -66,32 +66,32 @@ fields-lack (m ∷ ms) k h = (
       (every-append (λ b. b ≢ k) (decimal (m .number .0)) (nameFields ms) (decimal-lacks (m .number .0) k (omega arith)) (fields-lack ms k h)),
 )
 
-body-lacks : (e c : ℕ) (p : Panel) (ms : List Name) (k : ℕ) → k < 32 → Lacks k (body e c p ms)
+body-lacks : (e c : ℕ) (z : ℤ) (ms : List Name) (k : ℕ) → k < 32 → Lacks k (body e c z ms)
 unfolding body
-body-lacks e c p ms k h =
+body-lacks e c z ms k h =
     lacks-joined k 32 _ _ (omega arith) (decimal-lacks e k (omega arith))
     (lacks-joined k 32 _ _ (omega arith) (decimal-lacks c k (omega arith))
-    (every-append (λ b. b ≢ k) (signed (p .total)) (nameFields ms) (signed-lacks (p .total) k (omega arith)) (fields-lack ms k h)))
+    (every-append (λ b. b ≢ k) (signed z) (nameFields ms) (signed-lacks z k (omega arith)) (fields-lack ms k h)))
 
-line-body : (e c : ℕ) (p : Panel) (ms : List Name) (s : List ℕ) → line e c p ms ++ s ≡ body e c p ms ++ (10 ∷ s)
+line-body : (e c : ℕ) (z : ℤ) (ms : List Name) (s : List ℕ) → line e c z ms ++ s ≡ body e c z ms ++ (10 ∷ s)
 unfolding line body
-line-body e c p ms s = simp append-assoc
+line-body e c z ms s = simp append-assoc
 
-pub line-split : (e c : ℕ) (p : Panel) (ms : List Name) (s : List ℕ) → split 10 (line e c p ms ++ s) ≡ body e c p ms ∷ split 10 s
-line-split e c p ms s = rw line-body (split-at-first 10 (body e c p ms) s (body-lacks e c p ms 10 (omega arith)))
+pub line-split : (e c : ℕ) (z : ℤ) (ms : List Name) (s : List ℕ) → split 10 (line e c z ms ++ s) ≡ body e c z ms ∷ split 10 s
+line-split e c z ms s = rw line-body (split-at-first 10 (body e c z ms) s (body-lacks e c z ms 10 (omega arith)))
 
 -- the set of a line is read where it is the one of event n, and otherwise that of a later line
-line-read : (n e c : ℕ) (p : Panel) (ms : List Name) (s : List ℕ)
-    → lineSet n (split 10 (line e c p ms ++ s)) ≡ cond (eqb e n) ms (lineSet n (split 10 s))
+line-read : (n e c : ℕ) (z : ℤ) (ms : List Name) (s : List ℕ)
+    → lineSet n (split 10 (line e c z ms ++ s)) ≡ cond (eqb e n) ms (lineSet n (split 10 s))
 unfolding lineSet
-line-read n e c p ms s = rw (line-split e c p ms s, line-fields e c p ms) (rw (decimal-number e, names-read-back ms))
+line-read n e c z ms s = rw (line-split e c z ms s, line-fields e c z ms) (rw (decimal-number e, names-read-back ms))
 
 -- so also of an event without a line, where no later line is its own
-pub event-read : (n e c : ℕ) (p : Panel) (ms : List Name) (s : List ℕ) → (e ≡ n → lineSet n (split 10 s) ≡ [])
-    → lineSet n (split 10 (lineOf e c p ms ++ s)) ≡ cond (eqb e n) ms (lineSet n (split 10 s))
+pub event-read : (n e c : ℕ) (z : ℤ) (ms : List Name) (s : List ℕ) → (e ≡ n → lineSet n (split 10 s) ≡ [])
+    → lineSet n (split 10 (lineOf e c z ms ++ s)) ≡ cond (eqb e n) ms (lineSet n (split 10 s))
 unfolding lineOf
-event-read n e c p [] s none = cond-case (λ z. lineSet n (split 10 s) ≡ z) (eqb e n) [] _ (λ q. none (eqb-true e n q)) (λ _. refl)
-event-read n e c p (m ∷ ms) s none = line-read n e c p (m ∷ ms) s
+event-read n e c z [] s none = cond-case (λ x. lineSet n (split 10 s) ≡ x) (eqb e n) [] _ (λ q. none (eqb-true e n q)) (λ _. refl)
+event-read n e c z (m ∷ ms) s none = line-read n e c z (m ∷ ms) s
 
 -- behind the last line
 pub end-read : (n : ℕ) → lineSet n (split 10 []) ≡ []

@@ -1,28 +1,32 @@
--- Sums over names: of any weight, and of the amounts, they depend on the members alone; what a look shows is the sum over what was
--- applied. Assumes nothing.
-use mathlib.Core.Path.{_≡_, refl, sym, ap, ap₂, subst, _∙_}
+-- Sums over names: of any weight, and of any figure that is the difference of two weights, they depend on the members alone; what a
+-- look shows is the panel of what was applied. Assumes nothing.
+use mathlib.Core.Path.{_≡_, refl, sym, ap, ap₂, subst, fun-ext, _∙_}
 use mathlib.Core.Bool.{Bool, true, false, cond, Bool·not-not}
 use mathlib.Core.List.{List, [], _∷_, _++_, map}
 use Prim.Native.Nat.{ℕ, zero, suc, _+_, _<_}
 use native.Mathlib.Omega.{arith}
-use lib.IntN.{ℤ, pos, negℤ, _+ℤ_, _-ℤ_, +ℤ-assoc, +ℤ-comm, negℤ-+ℤ, pos-+ℤ-pos}
+use lib.IntN.{ℤ, pos, _+ℤ_, _-ℤ_}
+use lib.Dec.{eqb}
 use Rattle.lists.specs.Below.{sum}
 use Rattle.lists.specs.Build.{tabulateFrom, tabulate}
 use Rattle.lists.proofs.Tests.{and-left, refuted, contradiction, or-false, cond-apart}
 use Rattle.lists.proofs.Below.{sum-ext, sum-plus}
 use Rattle.lists.proofs.Grow.{tabulate-suc, map-tabulate}
 use Rattle.lists.proofs.Clipped.{sum-none}
-use Rattle.model.specs.Tables.{at, message}
-use Rattle.model.specs.Events.{weigh, shown, panelOf}
+use Rattle.lists.proofs.Differences.{differences}
+use Rattle.model.specs.Tables.{classCount, at, message}
+use Rattle.model.specs.Events.{weigh, total, ofClass, classTotal, shown, panelOf, nameOf}
 use Rattle.model.specs.WellFormed.{inLog}
 use Rattle.model.specs.declared.Name.{Name}
+use Rattle.model.specs.declared.Message.{Message}
 use Rattle.model.specs.declared.Payload.{Payload}
+use Rattle.model.specs.declared.Panel.{Panel}
 use Rattle.model.specs.declared.Table.{Table}
 use Rattle.model.specs.Facts.{Among}
-use Rattle.consistency.specs.Demand3.{same, has, Distinct, Sent, Ledger, applied, sentNames, remaining, amountOf, amounts, Exactly}
+use Rattle.consistency.specs.Demand3.{same, has, Distinct, Sent, Ledger, applied, sentNames, remaining, amountOf, amountInClass, figureOf, figures, showing, Exactly}
 use Rattle.consistency.proofs.Names.{same-true, same-sym, has-tabulate-at, has-less, distinct-less}
 use Rattle.consistency.proofs.SlotNames.{nameAt, slots-differ}
-use Rattle.consistency.proofs.Ledger.{balance, sentAt, senderAt, Slot, Recorded, slot-sent, sent-slot, distinct-sent}
+use Rattle.consistency.proofs.Ledger.{sentOf, sentAt, senderAt, Slot, Recorded, slot-sent, sent-slot, distinct-sent}
 
 -- WEIGHTS
 
@@ -75,35 +79,57 @@ module _ (v : Payload → ℕ) where
         ∙ sym (sum-plus n _ _)
         ∙ sum-ext n _ _ (λ j h. rw (same-sym m (f j .name)) (sym (cond-apart (same (f j .name) m) (has (f j .name) ms) (v (f j .payload)) (λ q. rw (same-true (f j .name) m q) (e .0)))))
 
--- AMOUNTS
+-- FIGURES
 
--- amounts that are the difference of their magnitudes
-unfoldable pub Balanced : List Sent → Type 0
-Balanced [] = Unit {0}
-Balanced (x ∷ xs) = (x .amount ≡ balance (x .payload)) × Balanced xs
+-- a figure of a message that is the difference of two weights of its payload
+pub record Figure : Type 0 where
+  pub of : Sent → ℤ
+  pub added : Payload → ℕ
+  pub withdrawn : Payload → ℕ
+  pub balanced : (m : Message) → of (sentOf m) ≡ pos (added (m .payload)) -ℤ pos (withdrawn (m .payload))
 
-balanced-tabulate : (f : ℕ → Sent) → ((j : ℕ) → f j .amount ≡ balance (f j .payload)) → (i n : ℕ) → Balanced (tabulateFrom i n f)
-unfolding Balanced tabulateFrom
-balanced-tabulate f e i zero = tt
-balanced-tabulate f e i (suc n) = (e i, balanced-tabulate f e (suc i) n)
+-- the amount, and the amount in class k
+unfoldable pub inAnyClass : Figure
+inAnyClass = record { of = amountOf; added = λ p. p .added; withdrawn = λ p. p .withdrawn; balanced = λ m. refl }
 
-amount-balance : (xs : List Sent) → Balanced xs → (m : Name) → amountOf xs m ≡ pos (weightOf (λ p. p .added) xs m) -ℤ pos (weightOf (λ p. p .withdrawn) xs m)
-unfolding Balanced amountOf weightOf
-amount-balance [] b m = refl
-amount-balance (x ∷ xs) b m = go (same m (x .name)) (amount-balance xs (b .1) m)
+unfoldable pub inClass : ℕ → Figure
+inClass k = record {
+  of = amountInClass k;
+  added = ofClass k (λ p. p .added);
+  withdrawn = ofClass k (λ p. p .withdrawn);
+  balanced = λ m. go (eqb (m .payload .class) k) (m .payload .added) (m .payload .withdrawn);
+}
   where
-    go : (s : Bool) → amountOf xs m ≡ pos (weightOf (λ p. p .added) xs m) -ℤ pos (weightOf (λ p. p .withdrawn) xs m)
-        → cond s (x .amount) (amountOf xs m)
-        ≡ pos (cond s (x .payload .added) (weightOf (λ p. p .added) xs m)) -ℤ pos (cond s (x .payload .withdrawn) (weightOf (λ p. p .withdrawn) xs m))
-    go true r = b .0
-    go false r = r
+    go : (b : Bool) (a w : ℕ) → cond b (pos a -ℤ pos w) (pos 0) ≡ pos (cond b a 0) -ℤ pos (cond b w 0)
+    go true a w = refl
+    go false a w = refl
 
-pub amounts-balance : (xs : List Sent) → Balanced xs → (ms : List Name) → amounts xs ms ≡ pos (weights (λ p. p .added) xs ms) -ℤ pos (weights (λ p. p .withdrawn) xs ms)
-unfolding amounts weights
-amounts-balance xs b [] = refl
-amounts-balance xs b (m ∷ ms) =
-    ap₂ _+ℤ_ (amount-balance xs b m) (amounts-balance xs b ms)
-    ∙ differences (weightOf (λ p. p .added) xs m) (weightOf (λ p. p .withdrawn) xs m) (weights (λ p. p .added) xs ms) (weights (λ p. p .withdrawn) xs ms)
+-- the panel that shows a number of each figure
+abbrev panel : (Figure → ℤ) → Panel
+panel f = record { total = f inAnyClass; classes = tabulate classCount (λ k. f (inClass k)) }
+
+module _ (f : Figure) (g : ℕ → Message) where
+  -- the messages of g, from i on
+  abbrev sends : ℕ → ℕ → List Sent
+  sends i n = tabulateFrom i n (λ j. sentOf (g j))
+
+  figure-balance : (i n : ℕ) (m : Name) → figureOf (f .of) (sends i n) m ≡ pos (weightOf (f .added) (sends i n) m) -ℤ pos (weightOf (f .withdrawn) (sends i n) m)
+  unfolding tabulateFrom figureOf weightOf
+  figure-balance i zero m = refl
+  figure-balance i (suc n) m = go (same m (nameOf (g i))) _ _ _ (figure-balance (suc i) n m)
+    where
+      go : (s : Bool) (z : ℤ) (a w : ℕ) → z ≡ pos a -ℤ pos w
+          → cond s (f .of (sentOf (g i))) z ≡ pos (cond s (f .added (g i .payload)) a) -ℤ pos (cond s (f .withdrawn (g i .payload)) w)
+      go true z a w r = f .balanced (g i)
+      go false z a w r = r
+
+  -- the sum of a figure is the difference of the sums of its two weights
+  pub figures-balance : (n : ℕ) (ms : List Name) → figures (f .of) (sends 0 n) ms ≡ pos (weights (f .added) (sends 0 n) ms) -ℤ pos (weights (f .withdrawn) (sends 0 n) ms)
+  unfolding figures weights
+  figures-balance n [] = refl
+  figures-balance n (m ∷ ms) =
+      ap₂ _+ℤ_ (figure-balance 0 n m) (figures-balance n ms)
+      ∙ differences (weightOf (f .added) (sends 0 n) m) (weightOf (f .withdrawn) (sends 0 n) m) (weights (f .added) (sends 0 n) ms) (weights (f .withdrawn) (sends 0 n) ms)
 
 -- SUMS OF THE LEDGER
 
@@ -128,22 +154,31 @@ module _ {n : ℕ} {t : Table} {l : Ledger} (k : Recorded n t l) where
       ∙ sum-ext (t .count) _ _ (λ j _. ap (λ x. cond x (v (message t j .payload)) 0) (f (nameAt t j)))
       ∙ sym (weights-members v ks e)
 
-  amounts-weights : (ms : List Name) → amounts (l .sent) ms ≡ pos (weights (λ p. p .added) (l .sent) ms) -ℤ pos (weights (λ p. p .withdrawn) (l .sent) ms)
-  unfolding tabulate
-  amounts-weights = amounts-balance (l .sent) (rw (k .sent) (balanced-tabulate (sentAt t) (λ j. refl) 0 (t .count)))
+  module _ (f : Figure) where
+    figures-weights : (ms : List Name) → figures (f .of) (l .sent) ms ≡ pos (weights (f .added) (l .sent) ms) -ℤ pos (weights (f .withdrawn) (l .sent) ms)
+    unfolding tabulate
+    figures-weights ms = rw (k .sent) (figures-balance f (message t) (t .count) ms)
 
-  pub same-members-same-sum : (ms ks : List Name) → Distinct ms → Distinct ks → Exactly ms ks → amounts (l .sent) ms ≡ amounts (l .sent) ks
-  same-members-same-sum ms ks d e f =
-      amounts-weights ms
-      ∙ ap₂ (λ x y. pos x -ℤ pos y) (same-members-same-weights (λ p. p .added) ms ks d e f) (same-members-same-weights (λ p. p .withdrawn) ms ks d e f)
-      ∙ sym (amounts-weights ks)
+    same-members-same-figures : (ms ks : List Name) → Distinct ms → Distinct ks → Exactly ms ks → figures (f .of) (l .sent) ms ≡ figures (f .of) (l .sent) ks
+    same-members-same-figures ms ks d e h =
+        figures-weights ms
+        ∙ ap₂ (λ x y. pos x -ℤ pos y) (same-members-same-weights (f .added) ms ks d e h) (same-members-same-weights (f .withdrawn) ms ks d e h)
+        ∙ sym (figures-weights ks)
+
+    look-figures : (c : ℕ) → Among n c → pos (weigh (f .added) t (at t c)) -ℤ pos (weigh (f .withdrawn) t (at t c)) ≡ figures (f .of) (l .sent) (applied l c)
+    look-figures c h =
+        ap₂ (λ x y. pos x -ℤ pos y) (sym (weights-weigh (f .added) c h)) (sym (weights-weigh (f .withdrawn) c h))
+        ∙ sym (figures-weights (applied l c))
+
+  -- the same members, the same panel
+  pub same-members-same-panel : (ms ks : List Name) → Distinct ms → Distinct ks → Exactly ms ks → showing (l .sent) ms ≡ showing (l .sent) ks
+  unfolding showing inAnyClass inClass
+  same-members-same-panel ms ks d e h = ap panel (fun-ext (λ f. same-members-same-figures f ms ks d e h))
 
   -- what a look shows
-  pub look-amounts : (c : ℕ) → Among n c → panelOf t c .total ≡ amounts (l .sent) (applied l c)
-  unfolding panelOf shown
-  look-amounts c h =
-      ap₂ (λ x y. pos x -ℤ pos y) (sym (weights-weigh (λ p. p .added) c h)) (sym (weights-weigh (λ p. p .withdrawn) c h))
-      ∙ sym (amounts-weights (applied l c))
+  pub look-amounts : (c : ℕ) → Among n c → panelOf t c ≡ showing (l .sent) (applied l c)
+  unfolding panelOf shown total classTotal showing inAnyClass inClass
+  look-amounts c h = ap panel (fun-ext (λ f. look-figures f c h))
 
   -- WHAT REMAINS
 
@@ -158,6 +193,6 @@ module _ {n : ℕ} {t : Table} {l : Ledger} (k : Recorded n t l) where
   pub remaining-slot : (m : Name) → has m (remaining l) ≡ true → Slot t m
   remaining-slot m e = sent-slot k m (and-left (has m (sentNames l)) _ (sym (has-less m (sentNames l) (l .cut)) ∙ e))
 
-  -- where what was applied is what remains, a look shows the sum over that
-  pub look-remaining : (c : ℕ) → Among n c → Exactly (applied l c) (remaining l) → panelOf t c .total ≡ amounts (l .sent) (remaining l)
-  look-remaining c h f = look-amounts c h ∙ same-members-same-sum (applied l c) (remaining l) (k .once c) distinct-remaining f
+  -- where what was applied is what remains, a look shows the panel of that
+  pub look-remaining : (c : ℕ) → Among n c → Exactly (applied l c) (remaining l) → panelOf t c ≡ showing (l .sent) (remaining l)
+  look-remaining c h f = look-amounts c h ∙ same-members-same-panel (applied l c) (remaining l) (k .once c) distinct-remaining f

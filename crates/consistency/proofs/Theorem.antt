@@ -8,7 +8,7 @@ use native.Mathlib.Omega.{arith}
 use native.Mathlib.Decide.{decLt}
 use lib.ListN.{length, take, drop, take-append-drop}
 use lib.Seq.{take-add}
-use Rattle.model.specs.Tables.{at, fresh, Among}
+use Rattle.model.specs.Tables.{start as begins, fresh, at, Among}
 use Rattle.model.specs.Events.{appliedBy, weigh}
 use Rattle.model.specs.WellFormed.{wellFormed}
 use Rattle.model.specs.Questions.{firstNo, stepQuestions}
@@ -21,21 +21,31 @@ use Rattle.model.proofs.Tested.{tested}
 use Rattle.model.proofs.Steps.{step-number, event-number-step}
 use Rattle.invariant.proofs.Refusals.{step-number-range}
 use Rattle.broadcast.specs.State.{fresh as freshState}
-use Rattle.consistency.specs.Demand3.{Call, panelLook, Entry, answered, looked, entry, left, transcript, Step, carried, did, start, moved, ledger, applied, sentNames, remaining, Head, Heads, controllers, opening, given, entries, moment, Contains, Runs, ReadOut, Consistent}
+use Rattle.consistency.specs.Demand3.{Call, panelLook, Entry, answered, looked, entry, left, transcript, Said, Step, carried, did, start, moved, ledger, applied, sentNames, remaining, Head, Heads, version, controllers, opening, given, entries, moment, Contains, Runs, ReadOut, Consistent}
 use Rattle.consistency.proofs.Bridge.{top}
 use Rattle.consistency.proofs.Ledger.{names-sent}
 use Rattle.consistency.proofs.Sums.{weights, weights-weigh, same-members-same-weights, distinct-remaining}
-use Rattle.consistency.proofs.Moments.{Course, course-append, course-first, course-rest, stepped, Takes, Gives, told, did-append, entries-taken, transcript-course, Moment, first-moment, moment-after, restarted}
+use Rattle.consistency.proofs.Moments.{Course, course-append, course-first, course-rest, stepped, Takes, Gives, told, entries-version, did-append, entries-taken, transcript-course, Moment, first-moment, moment-after, restarted}
 use Rattle.consistency.proofs.MomentFacts.{comparable, look-shows, moment-ending, ending-shows}
 use Rattle.consistency.proofs.Heads.{Begun, begun}
 
--- the table at a moment of a list
+-- the fresh table that a list starts from, and the table at a moment of it
+abbrev pub freshOf : Head → Table
+freshOf h = fresh (version h) (controllers h)
+
 abbrev pub tableAt : Head → List Call → ℕ → Table
-tableAt h calls i = foldl told (fresh (controllers h)) (take i (entries h calls))
+tableAt h calls i = foldl told (freshOf h) (take i (entries h calls))
+
+fresh-version : (h : Head) → freshOf h .version ≡ version h
+unfolding fresh begins
+fresh-version h = refl
 
 module _ (h : Head) (heads : Heads h) (calls : List Call) where
   abbrev n : ℕ
   n = controllers h
+
+  abbrev v : ℕ
+  v = version h
 
   abbrev es : List Entry
   es = entries h calls
@@ -48,18 +58,18 @@ module _ (h : Head) (heads : Heads h) (calls : List Call) where
 
   -- THE LIST is legal steps one after another, from a fresh table to the one that the last call left
 
-  whole : Course told Gives (fresh n) es end
+  whole : Course told Gives (freshOf h) es end
   unfolding entries
-  whole = course-append told Gives (fresh n) (opening h) (given h) _ end (b .course) (transcript-course (given h) calls)
+  whole = course-append told Gives (freshOf h) (opening h) (given h) _ end (b .course) (transcript-course (given h) calls)
 
-  taken : Course stepped Takes (fresh n) (did es) end
-  taken = entries-taken (fresh n) es end whole
+  taken : Course stepped Takes (freshOf h) (did v es) end
+  taken = entries-taken (freshOf h) (fresh-version h) es end whole
 
-  until : (i : ℕ) → Course told Gives (fresh n) (take i es) (tableAt h calls i)
-  until i = course-first told Gives (fresh n) (take i es) (drop i es) end (rw (take-append-drop i es) whole)
+  until : (i : ℕ) → Course told Gives (freshOf h) (take i es) (tableAt h calls i)
+  until i = course-first told Gives (freshOf h) (take i es) (drop i es) end (rw (take-append-drop i es) whole)
 
   from : (i : ℕ) → Course told Gives (tableAt h calls i) (drop i es) end
-  from i = course-rest told Gives (fresh n) (take i es) (drop i es) end (rw (take-append-drop i es) whole)
+  from i = course-rest told Gives (freshOf h) (take i es) (drop i es) end (rw (take-append-drop i es) whole)
 
   -- what an entry answers is what the definitions give at its table
   gives-at : (i : ℕ) (e : Entry) (after : List Entry) → drop i es ≡ e ∷ after → Gives (tableAt h calls i) e
@@ -68,14 +78,14 @@ module _ (h : Head) (heads : Heads h) (calls : List Call) where
 
   -- ITS MOMENTS
 
-  reached : {u : Table} (xs : List Step) → Course stepped Takes (fresh n) xs u → Moment n (freshState top) u (ledger xs)
-  reached = moment-after (first-moment n (b .some) (b .few))
+  reached : {u : Table} (xs : List Step) → Course stepped Takes (freshOf h) xs u → Moment n (freshState top) u (ledger xs)
+  reached = moment-after (first-moment (b .allowed))
 
   moment-at : (i : ℕ) → Moment n (freshState top) (tableAt h calls i) (moment h calls i)
-  moment-at i = reached (did (take i es)) (entries-taken (fresh n) (take i es) (tableAt h calls i) (until i))
+  moment-at i = reached (did v (take i es)) (entries-taken (freshOf h) (fresh-version h) (take i es) (tableAt h calls i) (until i))
 
-  moment-end : Moment n (freshState top) end (ledger (did es))
-  moment-end = reached (did es) taken
+  moment-end : Moment n (freshState top) end (ledger (did v es))
+  moment-end = reached (did v es) taken
 
   -- the later one is k entries on
   ordered : (i k a d : ℕ)
@@ -84,9 +94,10 @@ module _ (h : Head) (heads : Heads h) (calls : List Call) where
   ordered i k a d =
       let m = moment-at i in
       let xs = take k (drop i es) in
+      let q = entries-version (freshOf h) (take i es) ∙ fresh-version h in
       let c = course-first told Gives (tableAt h calls i) xs (drop k (drop i es)) end (rw (take-append-drop k (drop i es)) (from i)) in
-      rw (take-add i k es, did-append (take i es) xs, foldl-append moved start (did (take i es)) (did xs))
-      (comparable m (moment-after (restarted m) (did xs) (entries-taken _ xs _ c)) a d)
+      rw (take-add i k es, did-append v (take i es) xs, foldl-append moved start (did v (take i es)) (did v xs))
+      (comparable m (moment-after (restarted m) (did v xs) (entries-taken _ q xs _ c)) a d)
 
   contains : (i j a d : ℕ)
       → Contains (applied (moment h calls i) a) (applied (moment h calls j) d)
@@ -96,13 +107,13 @@ module _ (h : Head) (heads : Heads h) (calls : List Call) where
     | yes l ↦ let q : j + (i - j) ≡ i = omega arith in elim (ordered j (i - j) d a) [ inl w ↦ inr (rw q at w) | inr w ↦ inl (rw q at w) ]
   ]
 
-  sent : (before after : List Step) (s : List ℕ) (e : Event) (ms : List Name) → did es ≡ before ++ (carried s e ms ∷ after) → Contains (sentNames (ledger before)) ms
+  sent : (before after : List Step) (s : Said) (e : Event) (ms : List Name) → did v es ≡ before ++ (carried s e ms ∷ after) → Contains (sentNames (ledger before)) ms
   unfolding Takes Course
   sent before after s e ms q x w =
       let p = rw q at taken in
-      let t = foldl stepped (fresh n) before in
-      let m = reached before (course-first stepped Takes (fresh n) before (carried s e ms ∷ after) end p) in
-      let a = course-rest stepped Takes (fresh n) before (carried s e ms ∷ after) end p .0 in
+      let t = foldl stepped (freshOf h) before in
+      let m = reached before (course-first stepped Takes (freshOf h) before (carried s e ms ∷ after) end p) in
+      let a = course-rest stepped Takes (freshOf h) before (carried s e ms ∷ after) end p .0 in
       names-sent (m .recorded) (appliedBy t e) x (rw (a .set) at w)
 
 -- one look more
@@ -146,8 +157,8 @@ never-4 h heads calls i s w a after q z =
     ∙ (ap (λ (o : Outcome). o .answer .number) (event-number-step t s (length w) (tables-well-formed h heads calls i)) ∙ step-number t s (length w)) in
     elim (step-number-range t s (length w)) [ inl k ↦ absurd (omega arith) | inr k ↦ absurd (omega arith) ]
 
--- FOR ANY WEIGHT of a message, a number that its payload gives: the two figures of the demand are those of what is added and what
--- is withdrawn. What was applied weighs what the table computes, and at the ending it weighs what remains.
+-- FOR ANY WEIGHT of a message, a number that its payload gives: each figure of the demand is the difference of two of them, of what is
+-- added and what is withdrawn. What was applied weighs what the table computes, and at the ending it weighs what remains.
 pub any-weight : (h : Head) → Heads h → (calls : List Call) (v : Payload → ℕ) (i c : ℕ) → Among (controllers h) c
     → weights v (moment h calls i .sent) (applied (moment h calls i) c) ≡ weigh v (tableAt h calls i) (at (tableAt h calls i) c)
 any-weight h heads calls v i c k = weights-weigh (moment-at h heads calls i .recorded) v c k
