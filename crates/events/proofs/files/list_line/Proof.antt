@@ -3,6 +3,7 @@ use mathlib.Core.Path.{_≡_}
 use native.Mathlib.Omega.{arith}
 use borrow.Author.Needs.{needs}
 use Rattle.model.specs.Runs.{lineOf}
+use Rattle.totals.proofs.Signed.{returned}
 use Rattle.events.proofs.Turning.{no-line}
 use Rattle.events.proofs.files.list_line.Statement.{statement}
 use Rattle.events.proofs.files.list_line.Tie as tie
@@ -31,7 +32,9 @@ same-length : tie.Need-same-length
 same-length c = search needs
 
 returns-2 : tie.Need-returns-2
-returns-2 c = rw (← named c .subject .ensures, ← total (named c) .total .ensures) (c .before .before .put-line .ensures)
+returns-2 c =
+    let z = total (named c) .total in
+    rw (← named c .subject .ensures, ← z .ensures) (rw (returned (z .result) (z .ok)) at (c .before .before .put-line .ensures))
 
 pub list-line-spec : {M : Type 1} → statement M
 list-line-spec = tie.close (tie.spec returns total-requires subject-requires put-line-requires same-length returns-2)

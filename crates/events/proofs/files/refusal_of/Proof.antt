@@ -33,7 +33,7 @@ abbrev version : tie.After-known → tie.After-byte-at
 version c = c .before
 
 abbrev bytes : tie.After-byte-at → List ℕ
-bytes c = now (c .before .before .args .bytes)
+bytes c = now (c .before .before .before .args .bytes)
 
 -- question 1 was answered yes, and so was question 2
 long : (c : tie.After-byte-at) → (leb 2 (length (bytes c)) && leb (length (bytes c)) 65535) ≡ true

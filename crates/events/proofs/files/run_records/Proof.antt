@@ -193,8 +193,8 @@ of-requires c κs = search needs
 of-requires-2 : tie.Need-of-requires-2 Inv-loop μ-loop
 of-requires-2 c κs = search needs
 
-mul-t25 : tie.Need-mul-t25 Inv-loop μ-loop
-mul-t25 c = omega (arith, room c .slot)
+mul-t26 : tie.Need-mul-t26 Inv-loop μ-loop
+mul-t26 c = omega (arith, room c .slot)
 
 element-set-from-table : tie.Need-element-set-from-table Inv-loop μ-loop
 element-set-from-table c = room c .slot
@@ -253,7 +253,7 @@ run-records-spec =
     cast-of
     of-requires
     of-requires-2
-    mul-t25
+    mul-t26
     element-set-from-table
     add-table
     loop-less-3
