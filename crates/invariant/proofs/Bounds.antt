@@ -1,18 +1,18 @@
--- On a well-formed table what was added, and what was withdrawn, comes to at most 23,040, and a total lies between the two.
--- Assumes nothing.
+-- On a well-formed table what was added, and what was withdrawn, comes to at most 23,040, and a total, of all messages or of a class,
+-- lies between the two. Assumes nothing.
 use mathlib.Core.Path.{_≡_, refl}
-use mathlib.Core.Bool.{true, _&&_, _||_}
+use mathlib.Core.Bool.{true, _&&_, _||_, cond}
 use mathlib.Core.Logic.{_⊎_, inl, inr}
 use Prim.Native.Nat.{ℕ, zero, suc, _-_, _≤_}
 use native.Mathlib.Omega.{arith}
 use lib.Dec.{eqb, ltb}
-use lib.IntN.{pos, negsuc, _-ℤ_}
+use lib.IntN.{ℤ, pos, negsuc, _-ℤ_}
 use lib.Signed.{leZ}
 use borrow.Author.Tests.{leb-true, eqb-true, le-leb}
 use Rattle.lists.proofs.Tests.{and-left, and-right, or-cases, cond-case}
 use Rattle.lists.proofs.Below.{sum-bound}
 use Rattle.model.specs.Tables.{message, applied}
-use Rattle.model.specs.Events.{weigh, total, shown}
+use Rattle.model.specs.Events.{weigh, total, classTotal}
 use Rattle.model.specs.WellFormed.{fairMagnitude, fairAmount}
 use Rattle.model.specs.declared.Payload.{Payload}
 use Rattle.model.specs.declared.Controller.{Controller}
@@ -53,12 +53,6 @@ weigh-bound t v w f x =
           cond-case (λ k. k ≤ 360) (applied x s) (v (message t s .payload)) 0 (λ _. f (message t s .payload) (w .amounts s h)) (λ _. omega arith)),
     )
 
-pub added-bound : (t : Table) → WellFormed t → (x : Controller) → weigh (λ p. p .added) t x ≤ 23040
-added-bound t w = weigh-bound t _ w (λ p e. fair-bounds p e .0)
-
-pub withdrawn-bound : (t : Table) → WellFormed t → (x : Controller) → weigh (λ p. p .withdrawn) t x ≤ 23040
-withdrawn-bound t w = weigh-bound t _ w (λ p e. fair-bounds p e .1)
-
 -- a difference is not below what is taken away, nor above what there was
 difference-low : (k a b : ℕ) → b ≤ suc k → leZ (negsuc k) (pos a -ℤ pos b) ≡ true
 difference-low k a zero h = refl
@@ -70,9 +64,21 @@ difference-high k a zero h = le-leb _ k (omega arith)
 difference-high k a (suc b) h =
     cond-case (λ x. leZ x (pos k) ≡ true) (ltb a (suc b)) (negsuc (suc b - suc a)) (pos (a - suc b)) (λ _. refl) (λ _. le-leb (a - suc b) k (omega arith))
 
-pub total-bounds : (t : Table) → WellFormed t → (x : Controller) → (leZ (negsuc 23039) (shown t x .total) ≡ true) × (leZ (shown t x .total) (pos 23040) ≡ true)
-unfolding shown total
-total-bounds t w x = (
-  difference-low 23039 (weigh (λ p. p .added) t x) (weigh (λ p. p .withdrawn) t x) (withdrawn-bound t w x),
-  difference-high 23040 (weigh (λ p. p .added) t x) (weigh (λ p. p .withdrawn) t x) (added-bound t w x),
-)
+-- as a total is, and that of a class
+abbrev pub Within : ℤ → Type 0
+Within z = (leZ (negsuc 23039) z ≡ true) × (leZ z (pos 23040) ≡ true)
+
+difference-within : (a b : ℕ) → a ≤ 23040 → b ≤ 23040 → Within (pos a -ℤ pos b)
+difference-within a b h k = (difference-low 23039 a b k, difference-high 23040 a b h)
+
+pub total-bounds : (t : Table) → WellFormed t → (x : Controller) → Within (total t x)
+unfolding total
+total-bounds t w x = difference-within _ _ (weigh-bound t _ w (λ p e. fair-bounds p e .0) x) (weigh-bound t _ w (λ p e. fair-bounds p e .1) x)
+
+pub class-bounds : (t : Table) → WellFormed t → (x : Controller) (k : ℕ) → Within (classTotal t x k)
+unfolding classTotal
+class-bounds t w x k =
+    difference-within _ _ (weigh-bound t _ w (λ p e. of-class k p (p .added) (fair-bounds p e .0)) x) (weigh-bound t _ w (λ p e. of-class k p (p .withdrawn) (fair-bounds p e .1)) x)
+  where
+    of-class : (k : ℕ) (p : Payload) (x : ℕ) → x ≤ 360 → cond (eqb (p .class) k) x 0 ≤ 360
+    of-class k p x h = cond-case (λ y. y ≤ 360) (eqb (p .class) k) x 0 (λ _. h) (λ _. omega arith)

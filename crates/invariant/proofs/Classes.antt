@@ -2,7 +2,7 @@
 -- Assumes nothing.
 use mathlib.Core.Path.{_≡_, refl, sym, ap, ap₂, _∙_}
 use mathlib.Core.Bool.{Bool, true, false, _&&_, cond}
-use mathlib.Core.List.{foldr}
+use mathlib.Core.List.{[], _∷_, foldr}
 use Prim.Native.Nat.{ℕ, zero, suc, _+_, _≤_}
 use native.Mathlib.Omega.{arith}
 use lib.IntN.{pos, _+ℤ_, _-ℤ_}
@@ -14,13 +14,18 @@ use Rattle.lists.proofs.Tests.{and-right, cond-case}
 use Rattle.lists.proofs.Below.{sum-ext, sum-plus}
 use Rattle.lists.proofs.Clipped.{sum-none}
 use Rattle.lists.proofs.Differences.{differences-added}
-use Rattle.model.specs.Tables.{lastClass, classCount, message, applied}
-use Rattle.model.specs.Events.{weigh, total, ofClass, classTotal, shown}
-use Rattle.model.specs.WellFormed.{fairClass}
+use Rattle.model.specs.Tables.{lastClass, classCount, noPanel, at, message, applied}
+use Rattle.model.specs.Events.{weigh, total, ofClass, classTotal, shown, panelOf}
+use Rattle.model.specs.WellFormed.{fairClass, named, wellFormed}
+use Rattle.model.specs.Questions.{ask, firstNo, lentTable}
+use Rattle.model.specs.Calls.{look}
+use Rattle.model.specs.declared.Panel.{Panel}
 use Rattle.model.specs.declared.Payload.{Payload}
 use Rattle.model.specs.declared.Controller.{Controller}
 use Rattle.model.specs.declared.Table.{Table}
 use Rattle.model.specs.Facts.{WellFormed}
+use Rattle.model.proofs.Tested.{facts}
+use Rattle.model.proofs.Allowed.{no-no}
 
 class-bound : (v : ℕ) (p : Payload) → fairClass v p ≡ true → p .class ≤ lastClass
 unfolding fairClass
@@ -66,3 +71,11 @@ module _ (t : Table) (w : WellFormed t) (x : Controller) where
   classes-add-up =
       differences-added (λ k. weigh (ofClass k (λ p. p .added)) t x) (λ k. weigh (ofClass k (λ p. p .withdrawn)) t x) 0 classCount
       ∙ ap₂ (λ a b. pos a -ℤ pos b) (weights-add-up (λ p. p .added)) (weights-add-up (λ p. p .withdrawn))
+
+-- so of every look at every table: a refused one shows zeros
+pub look-adds-up : (t : Table) (c : ℕ) → foldr _+ℤ_ (pos 0) (look t c .panel .classes) ≡ look t c .panel .total
+unfolding look panelOf lentTable
+look-adds-up t c =
+    let k = firstNo (lentTable t ∷ ask 8 (named t c) ∷ []) in
+    cond-case (λ (p : Panel). foldr _+ℤ_ (pos 0) (p .classes) ≡ p .total) (eqb k 0) (shown t (at t c)) noPanel
+    (λ e. classes-add-up t (facts t (no-no 3 (wellFormed t) _ (eqb-true k 0 e) .0)) (at t c)) (λ _. refl)

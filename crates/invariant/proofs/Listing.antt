@@ -18,7 +18,7 @@ use Rattle.lists.proofs.Below.{sum-ext, sum-bound}
 use Rattle.lists.proofs.Every.{Every}
 use Rattle.model.specs.Tables.{at, message, applied}
 use Rattle.model.specs.Delivery.{Slots, has}
-use Rattle.model.specs.Events.{subject, next, appliedBy, weigh, panelOf, earlier, insert, namesBelow, namesOf, nameOf}
+use Rattle.model.specs.Events.{subject, next, appliedBy, weigh, shown, panelOf, earlier, insert, namesBelow, namesOf, nameOf}
 use Rattle.model.specs.Records.{byte, behind, decode}
 use Rattle.model.specs.Sized.{Sized}
 use Rattle.model.specs.Questions.{firstNo, fileQuestions, eventQuestions, lineFits}
@@ -86,7 +86,7 @@ small-total (negsuc x) l h = omega (arith, leb-true x 23039 l)
 -- of an event that no question refuses
 small-line : (t : Table) (e : Event) → Sized t → WellFormed t → firstNo (eventQuestions t e) ≡ 0 → (k : ℕ) → k < 100000
     → SmallLine k (subject e) (panelOf (next t e) (subject e) .total) (namesOf t (appliedBy t e))
-unfolding panelOf namesOf
+unfolding panelOf shown namesOf
 small-line t e z w q k h =
     let b = total-bounds (next t e) (next-well-formed t e z w q) (at (next t e) (subject e)) in
     record {
