@@ -1,6 +1,6 @@
 -- What a file, an event or a line that no question refuses may rely on: a record of facts for each kind of event. Assumes nothing.
 use mathlib.Core.Path.{_≡_, refl}
-use mathlib.Core.Bool.{Bool, true, false, _&&_}
+use mathlib.Core.Bool.{Bool, true, false, _&&_, cond, true≢false}
 use mathlib.Core.List.{List, [], _∷_, _++_}
 use Prim.Native.Nat.{ℕ, suc, _≤_, _<_}
 use native.Mathlib.Omega.{arith}
@@ -10,9 +10,9 @@ use borrow.Author.Tests.{ltb-true, ltb-false, leb-true, eqb-true, eqb-false, eq-
 use Rattle.lists.specs.Below.{count}
 use Rattle.lists.proofs.Tests.{cond-case, and-left, and-right, both}
 use Rattle.lists.proofs.Below.{count-pos}
-use Rattle.model.specs.Tables.{seats, capacity, yes?, at, message, place, held}
+use Rattle.model.specs.Tables.{seats, capacity, lastClass, sync, yes?, at, message, place, held}
 use Rattle.model.specs.Events.{subject}
-use Rattle.model.specs.Records.{byte, decode}
+use Rattle.model.specs.Records.{byte, kind, word, classIn, reported, decode}
 use Rattle.model.specs.WellFormed.{named, fairAmount, fairClass, known}
 use Rattle.model.specs.Questions.{Question, ask, firstNo, versionKnown, controllerCount, fileQuestions, kindQuestions, recordQuestions, ownPending, unread, keepable, eventQuestions, scratchRoom, stepQuestions, lineFits}
 use Rattle.model.specs.declared.Payload.{Payload}
@@ -177,3 +177,20 @@ unfolding subject
 subject-allowed t (Send c p) q = send-allowed t c p q .sender
 subject-allowed t (Handover r o) q = handover-allowed t r o q .receiver
 subject-allowed t (Stop c k) q = stop-allowed t c k q .controller
+
+-- Question 17 refuses reports of version 2 alone: any other message that a record sends has class 0, as it must.
+pub unclassed-fair : (v : ℕ) (s : List ℕ) (c : ℕ) (p : Payload) → decode v s ≡ Send c p → (eqb v 2 && eqb (kind s) 1) ≡ false → fairClass v p ≡ true
+unfolding decode classIn fairClass
+unclassed-fair v s c p = go (eqb v 2) (eqb (kind s) 1) (eqb (kind s) 2) (eqb (kind s) 3)
+  where
+    go : (w a b d : Bool)
+        → cond a (Send (byte s 2) (reported (cond w (byte s 5) 0) (word s 3))) (cond b (Send (byte s 2) sync) (cond d (Handover (byte s 2) (byte s 3)) (Stop (byte s 2) (word s 3)))) ≡ Send c p
+        → (w && a) ≡ false → cond (w && eqb (p .kind) 1) (ltb 0 (p .class) && leb (p .class) lastClass) (eqb (p .class) 0) ≡ true
+    go true true b d e f = absurd (true≢false f)
+    go false true b d e f =
+        let q : reported 0 (word s 3) ≡ p = cc in
+        rw (← q) (unfold reported in (cond-case (λ (r : Payload). eqb (r .class) 0 ≡ true) (ltb (word s 3) 32768) _ _ (λ _. refl) (λ _. refl)))
+    go true false true d e f = let q : sync ≡ p = cc in rw (← q)
+    go false false true d e f = let q : sync ≡ p = cc in rw (← q)
+    go w false false true e f = let q : _≡_ {A = ℕ} 0 1 = cc in absurd (omega arith)
+    go w false false false e f = let q : _≡_ {A = ℕ} 0 1 = cc in absurd (omega arith)
