@@ -5,7 +5,7 @@
 
 #include "furnacejade.h"
 
-enum { LANES = 5, LONGEST = 5 /* bytes of a record */ };
+enum { LANES = 5, LONGEST = 5 /* bytes of a record of version 1 */ };
 
 static furnacejade_fresh_answer start;
 static furnacejade_table *const table = &start.table;

@@ -51,6 +51,7 @@ pub fn file_limits(random: &mut Random) -> Case {
 pub fn file_mangled(random: &mut Random) -> Case {
     let (version, events) = (any_version(random), random.pick(&[3, 20, 100]));
     let (mut bytes, state) = legal_file(random, version, events);
+    // Half of the files end in a record at the boundaries of its questions, and may stay whole before it.
     let odd = random.one_in(2);
     if odd {
         bytes.extend(any_event(random, &state, &Policy::even(3), 1));
