@@ -1,5 +1,4 @@
-//! The run that docs/RULES.md prints whole, the sample with classes, and the rules' list of edges, with the answers they
-//! give, put to any engine.
+//! The two runs that docs/RULES.md prints whole and its list of edges, with the answers it gives, put to any engine.
 
 use crate::engine::{Engine, Reference};
 use crate::records::{classed_report, file_of, handover, report, report_in, stop, sync};
@@ -11,15 +10,10 @@ const WHOLE_RUN: &str =
     "0103040101001E030301010303020103030102040103FFFE030302030303020203030202030303020303030203030301";
 const WHOLE_LISTING: &str = "4 1 30 1.1\n7 2 30 1.1\n8 2 28 3.1\n11 3 28 1.1 3.1\n";
 
-/// Three reports, 30 of XL, 12 of M and -2 of S, and then three rounds in which each controller reads the next entry of
-/// each log: `bindings/classes.run`.
-const WITH_CLASSES: &str = "0203050101001E01050102000C03050103FFFE04\
-    030301010303010203030103030302010303020203030203030303010303030203030303\
-    030301010303010203030103030302010303020203030203030303010303030203030303\
-    030301010303010203030103030302010303020203030203030303010303030203030303";
-
-const WITH_CLASSES_PRINTED: &str = "controllers 3\n14 1 42 1.1 2.1\n17 2 42 1.1 2.1\n20 3 42 1.1 2.1\n\
-    22 1 40 3.1\n25 2 40 3.1\n28 3 40 3.1\nend 30 0\n";
+/// `bindings/classes.run`.
+const WITH_CLASSES: &str = "0202050101001E01050102000C03\
+    0303010203030201030301020303010103030101030302010303020203030202\
+    050102FFFE0403030102030302010303010103030202";
 
 /// What the program prints for each file.
 pub const PRINTED: [(&str, &str); 8] = [
@@ -27,7 +21,7 @@ pub const PRINTED: [(&str, &str); 8] = [
     ("01", "end 0 1\n"),
     ("0103", "controllers 3\nend 0 0\n"),
     ("0108", "end 0 3\n"),
-    (WITH_CLASSES, WITH_CLASSES_PRINTED),
+    (WITH_CLASSES, "controllers 2\n7 1 42 1.1 2.1\n10 2 42 1.1 2.1\n13 2 40 2.3\n14 1 40 2.3\nend 15 0\n"),
     ("0203", "controllers 3\nend 0 0\n"),
     ("0303", "end 0 2\n"),
     ("0203050101000100", "controllers 3\nend 0 17\n"),
@@ -90,23 +84,23 @@ fn whole_run(engine: &dyn Engine) -> Result<(), String> {
     Ok(())
 }
 
-/// The sample with classes: at its end every log is read, and each class comes out as the whole count does.
+/// The run with classes: at its end every log is read, and each class comes out as the whole count does.
 fn with_classes(engine: &dyn Engine) -> Result<(), String> {
     let file = bytes_of(WITH_CLASSES);
-    expect(file == include_bytes!("../../bindings/classes.run"), "the sample with classes is that of the bindings")?;
+    expect(file == include_bytes!("../../bindings/classes.run"), "the run with classes is that of the bindings")?;
     let run = engine.run(&file, &mut vec![7; LISTING], &mut vec![7; SCRATCH]);
-    expect((run.number.number(), run.events) == (0, 30), "the sample's answer")?;
-    let (mut script, mut rest) = (Script::fresh(engine, 2, 3), &file[2..]);
+    expect((run.number.number(), run.events) == (0, 15), "the run with classes: its answer")?;
+    let (mut script, mut rest) = (Script::fresh(engine, 2, 2), &file[2..]);
     while !rest.is_empty() {
-        expect(script.number(rest.to_vec()) == 0, "the sample's events")?;
+        expect(script.number(rest.to_vec()) == 0, "the run with classes: its events")?;
         rest = &rest[1 + rest[0] as usize..];
     }
-    expect(meaning(&script.table) == meaning(&run.table), "the sample's last table")?;
-    for c in 1..=3 {
+    expect(meaning(&script.table) == meaning(&run.table), "the run with classes: its last table")?;
+    for c in 1..=2 {
         let shown = Panel { total: 40, classes: [0, 30, 0, 12, -2] };
-        expect(engine.look(&run.table, c).panel == shown, "the looks after the sample")?;
+        expect(engine.look(&run.table, c).panel == shown, "the looks after the run with classes")?;
         let own = &run.table.controllers[c - 1];
-        expect(own.read[..3] == [3, 3, 3] && own.length == 3, "the sample reads every log to its end")?;
+        expect(own.read[..2] == [3, 3] && own.length == 3, "the run with classes reads every log to its end")?;
     }
     Ok(())
 }
@@ -286,6 +280,23 @@ fn classes(engine: &dyn Engine) -> Result<(), String> {
     expect(s.number(classed_report(1, 1, 5)) == 17 && s.number(classed_report(1, 1, 4)) == 12, "17 before 12")
 }
 
+/// A class counts what was reported of it, and in version 1 no byte is a class, the one behind a report neither.
+fn class_totals(engine: &dyn Engine) -> Result<(), String> {
+    let mut s = Script::fresh(engine, 2, 1);
+    for record in [classed_report(1, 30, 2), classed_report(1, 5, 2), classed_report(1, -7, 4)] {
+        expect(s.number(record) == 0 && s.number(handover(1, 1)) == 0, "reports of two classes")?;
+    }
+    let shown = Panel { total: 28, classes: [0, 0, 35, 0, -7] };
+    expect(engine.look(&s.table, 1).panel == shown, "a look at two classes")?;
+    for behind in 0..=255 {
+        let mut s = Script::fresh(engine, 1, 1);
+        let accepted = s.number([report(1, 5), vec![behind]].concat()) == 0 && s.number(handover(1, 1)) == 0;
+        let shown = Panel { total: 5, classes: [5, 0, 0, 0, 0] };
+        expect(accepted && engine.look(&s.table, 1).panel == shown, "any byte behind a report of version 1")?;
+    }
+    Ok(())
+}
+
 /// The version of a table, and byte 0 of a file, say how long a report is, and nothing else.
 fn lengths_of_reports(engine: &dyn Engine) -> Result<(), String> {
     let (plain, classed) = (report(1, 5), classed_report(1, 5, 1));
@@ -367,6 +378,7 @@ pub fn check(engine: &dyn Engine) -> Result<(), String> {
     sixty_four_messages(engine)?;
     amounts(engine)?;
     classes(engine)?;
+    class_totals(engine)?;
     lengths_of_reports(engine)?;
     stored_classes(engine)?;
     lengths_kept(engine)?;
