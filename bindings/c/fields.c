@@ -47,18 +47,37 @@ static void expect(uint8_t got, uint8_t wanted, const char *field, size_t i, siz
 #define BREAKS(field, value, i, j) CHANGED(field, value, FURNACEJADE_TABLE, i, j)
 #define FREE(field, value, i, j) CHANGED(field, value, FURNACEJADE_ACCEPTED, i, j)
 
-/* Seven controllers; each has sent one report and read nothing. */
-static void start(void) {
+/* The class of controller c's report in a table of version 2: each class comes. */
+static uint8_t class_of(size_t c) { return (uint8_t)(1 + c % FURNACEJADE_CLASS_S); }
+
+/* A table of this version with seven controllers; each has sent one report and read nothing. */
+static void start(uint8_t version) {
     static furnacejade_fresh_answer fresh;
     static furnacejade_answer answer;
-    furnacejade_fresh(FURNACEJADE_CONTROLLERS, &fresh);
-    expect(fresh.number, 0, "fresh", 0, 0);
+    furnacejade_fresh(version, FURNACEJADE_CONTROLLERS, &fresh);
+    expect(fresh.number, 0, "fresh", version, 0);
+    expect((uint8_t)fresh.table.version, version, "version", version, 0);
     good = fresh.table;
     for (uint8_t c = 1; c <= FURNACEJADE_CONTROLLERS; c++) {
-        const uint8_t report[] = {4, 1, c, 0, c};
-        expect(event(&good, report, sizeof report, &answer), 0, "report", c, 0);
+        const uint8_t report[] = {4, 1, c, 0, c}, classed[] = {5, 1, c, 0, c, class_of(c)};
+        uint8_t number = version == 2 ? event(&good, classed, sizeof classed, &answer) : event(&good, report, sizeof report, &answer);
+        expect(number, 0, "report", c, version);
     }
-    expect(look(&good, 1), 0, "good table", 0, 0);
+    expect(look(&good, 1), 0, "good table", version, 0);
+}
+
+/* Whether a report may have a class is the version's to say. */
+static void classes(uint8_t version) {
+    BREAKS(version, 0, version, 0);
+    BREAKS(version, 3, version, 0);
+    BREAKS(version, 3u - version, version, 0);
+    for (size_t s = 0; s < FURNACEJADE_CONTROLLERS; s++) {
+        expect(good.messages[s].payload.weight_class, version == 2 ? class_of(s + 1) : 0, "weight_class", s, version);
+        for (unsigned k = 0; k < 256; k++) {
+            int fair = version == 2 ? k >= FURNACEJADE_CLASS_XL && k <= FURNACEJADE_CLASS_S : k == FURNACEJADE_CLASS_NONE;
+            CHANGED(messages[s].payload.weight_class, (uint8_t)k, fair ? FURNACEJADE_ACCEPTED : FURNACEJADE_TABLE, s, k);
+        }
+    }
 }
 
 static void messages(void) {
@@ -66,8 +85,6 @@ static void messages(void) {
     BREAKS(n, 8, 0, 0);
     BREAKS(count, 65, 0, 0);
     for (size_t s = 0; s < FURNACEJADE_CONTROLLERS; s++) {
-        expect(good.messages[s].payload.spare, 0, "spare", s, 0);
-        FREE(messages[s].payload.spare, 0xA5, s, 0);
         BREAKS(messages[s].sender, 8, s, 0);
         BREAKS(messages[s].number.value, 65, s, 0);
         BREAKS(messages[s].payload.kind, 3, s, 0);
@@ -107,6 +124,7 @@ static furnacejade_table full(int applied) {
         m->sender = 1;
         m->number.value = (uint8_t)(s + 1);
         m->payload.kind = 2;
+        m->payload.weight_class = FURNACEJADE_CLASS_NONE;
         m->payload.added = m->payload.withdrawn = 0;
     }
     t.count = FURNACEJADE_MESSAGES;
@@ -127,10 +145,13 @@ static furnacejade_table full(int applied) {
 /* Every place of every array is read where it stands. */
 static void arrays(void) {
     good = full(1);
+    FREE(version, 1, 0, 0);
+    FREE(version, 2, 0, 0);
     for (size_t s = 0; s < FURNACEJADE_MESSAGES; s++) {
         BREAKS(messages[s].sender, 8, s, 0);
         BREAKS(messages[s].number.value, 65, s, 0);
         BREAKS(messages[s].payload.kind, 3, s, 0);
+        BREAKS(messages[s].payload.weight_class, FURNACEJADE_CLASS_XL, s, 0);
         BREAKS(messages[s].payload.added, 1, s, 0);
         BREAKS(messages[s].payload.withdrawn, 1, s, 0);
     }
@@ -150,7 +171,7 @@ static void unused(void) {
     static furnacejade_fresh_answer fresh;
     static furnacejade_answer answer;
     const uint8_t report[] = {4, 1, 1, 0, 5}, to_1[] = {3, 3, 1, 2}, to_2[] = {3, 3, 2, 1};
-    furnacejade_fresh(2, &fresh);
+    furnacejade_fresh(1, 2, &fresh);
     expect(event(&fresh.table, report, sizeof report, &answer), 0, "report", 0, 0);
     good = fresh.table;
     for (size_t c = 0; c < 2; c++) {
@@ -177,29 +198,39 @@ static void unused(void) {
 /* This writer, lent one byte too few, writes nothing. */
 #define NO_ROOM(call)                                            \
     do {                                                         \
-        uint8_t small[4];                                        \
+        uint8_t small[5];                                        \
         memset(small, 0xA5, sizeof small);                       \
         expect((uint8_t)furnacejade_put_##call, 0, #call, 0, 0); \
         expect(small[0], 0xA5, #call, 0, 1);                     \
     } while (0)
 
-static const uint8_t file[] = {1, 3, 4, 1, 1, 0xFE, 0x98, 3, 3, 2, 1, 3, 3, 2, 2, 2, 2, 3, 3, 3, 1, 2, 4, 4, 2, 0, 1, 3, 3, 1, 3};
+/* The same run in both versions. */
+static const uint8_t plain[] = {1, 3, 4, 1, 1, 0xFE, 0x98, 3, 3, 2, 1, 3, 3, 2, 2, 2, 2, 3, 3, 3, 1, 2, 4, 4, 2, 0, 1, 3, 3, 1, 3};
+static const uint8_t classed[] = {2, 3, 5, 1, 1, 0xFE, 0x98, 4, 3, 3, 2, 1, 3, 3, 2, 2, 2, 2, 3, 3, 3, 1, 2, 4, 4, 2, 0, 1, 3, 3, 1, 3};
 
-/* The writers give that file, byte for byte, and the words of a number can be had. */
-static void writers(void) {
-    uint8_t out[sizeof file];
-    size_t at = furnacejade_put_head(out, sizeof out, 3);
-    at += furnacejade_put_report(out + at, sizeof out - at, 1, -360);
+/* The writers give that file, byte for byte. */
+static void written(uint8_t version, const uint8_t *file, size_t size) {
+    uint8_t out[sizeof classed];
+    size_t at = furnacejade_put_head(out, sizeof out, version, 3);
+    if (version == 2) at += furnacejade_put_classed_report(out + at, sizeof out - at, 1, -360, FURNACEJADE_CLASS_S);
+    else at += furnacejade_put_report(out + at, sizeof out - at, 1, -360);
     at += furnacejade_put_handover(out + at, sizeof out - at, 2, 1);
     at += furnacejade_put_handover(out + at, sizeof out - at, 2, 2);
     at += furnacejade_put_sync(out + at, sizeof out - at, 3);
     at += furnacejade_put_handover(out + at, sizeof out - at, 1, 2);
     at += furnacejade_put_stop(out + at, sizeof out - at, 2, 1);
     at += furnacejade_put_handover(out + at, sizeof out - at, 1, 3);
-    expect((uint8_t)at, sizeof file, "written", 0, 0);
-    expect((uint8_t)(memcmp(out, file, sizeof file) == 0), 1, "written", 0, 1);
-    NO_ROOM(head(small, 1, 3));
+    expect((uint8_t)at, (uint8_t)size, "written", version, 0);
+    expect((uint8_t)(memcmp(out, file, size) == 0), 1, "written", version, 1);
+}
+
+/* The writers need room, and the words of a number can be had. */
+static void writers(void) {
+    written(1, plain, sizeof plain);
+    written(2, classed, sizeof classed);
+    NO_ROOM(head(small, 1, 2, 3));
     NO_ROOM(report(small, 4, 1, 1));
+    NO_ROOM(classed_report(small, 5, 1, 1, 1));
     NO_ROOM(sync(small, 2, 1));
     NO_ROOM(handover(small, 3, 1, 1));
     NO_ROOM(stop(small, 4, 1, 1));
@@ -209,7 +240,7 @@ static void writers(void) {
 
 /* One table in memory that was all 0 and one in memory that was all 255, through the same calls, refused ones among them:
  * equal byte for byte after each, and in the end equal to the table of the file run. */
-static void bytes(void) {
+static void bytes(const uint8_t *file, size_t size) {
     static furnacejade_fresh_answer fresh[2];
     static furnacejade_answer answer[2];
     static furnacejade_run_answer run[2];
@@ -220,12 +251,12 @@ static void bytes(void) {
         memset(&answer[d], -d, sizeof answer[d]);
         memset(&run[d], -d, sizeof run[d]);
         memset(area[d], -d, sizeof area[d]);
-        furnacejade_fresh(file[1], &fresh[d]);
+        furnacejade_fresh(file[0], file[1], &fresh[d]);
     }
     expect((uint8_t)(memcmp(&fresh[0].table, &fresh[1].table, sizeof good) == 0), 1, "fresh table's bytes", 0, 0);
-    size_t left = sizeof file - 2;
+    size_t left = size - 2;
     for (size_t e = 1; left > 0; e++) {
-        const uint8_t *record = file + sizeof file - left;
+        const uint8_t *record = file + size - left;
         size_t after[2];
         for (int d = 0; d < 2; d++) {
             after[d] = furnacejade_event(&fresh[d].table, record, left, area[d], sizeof area[d], &answer[d]);
@@ -239,14 +270,32 @@ static void bytes(void) {
     for (int d = 0; d < 2; d++) {
         furnacejade_event(&fresh[d].table, refused, sizeof refused, area[d], sizeof area[d], &answer[d]);
         expect(answer[d].number, FURNACEJADE_STOPPED, "refused", 0, (size_t)d);
-        furnacejade_run(file, sizeof file, listing[d], sizeof listing[d], area[d], sizeof area[d], &run[d]);
+        furnacejade_run(file, size, listing[d], sizeof listing[d], area[d], sizeof area[d], &run[d]);
         expect(run[d].number, 0, "run", 0, (size_t)d);
         expect((uint8_t)(memcmp(&run[d].table, &fresh[1 - d].table, sizeof good) == 0), 1, "run's table's bytes", 0, (size_t)d);
     }
+}
+
+/* A refused request for a fresh table, and a refused file, give a table in which every byte is 0. */
+static void zeros(void) {
     static const furnacejade_table zero;
-    furnacejade_fresh(0, &fresh[1]);
-    expect(fresh[1].number, FURNACEJADE_COUNT, "refused fresh", 0, 0);
-    expect((uint8_t)(memcmp(&fresh[1].table, &zero, sizeof zero) == 0), 1, "refused table's bytes", 0, 0);
+    static const uint8_t later[] = {3, 3};
+    static furnacejade_fresh_answer fresh;
+    static furnacejade_run_answer run;
+    const struct { size_t version, n; uint8_t number; } refused[] = {
+        {0, 3, FURNACEJADE_VERSION}, {3, 3, FURNACEJADE_VERSION}, {257, 3, FURNACEJADE_VERSION},
+        {0, 0, FURNACEJADE_VERSION}, {1, 0, FURNACEJADE_COUNT},   {2, 8, FURNACEJADE_COUNT},
+    };
+    for (size_t i = 0; i < sizeof refused / sizeof refused[0]; i++) {
+        memset(&fresh, 0xA5, sizeof fresh);
+        furnacejade_fresh(refused[i].version, refused[i].n, &fresh);
+        expect(fresh.number, refused[i].number, "refused fresh", refused[i].version, refused[i].n);
+        expect((uint8_t)(memcmp(&fresh.table, &zero, sizeof zero) == 0), 1, "refused table's bytes", i, 0);
+    }
+    memset(&run, 0xA5, sizeof run);
+    furnacejade_run(later, sizeof later, scratch, 0, scratch, 0, &run);
+    expect(run.number, FURNACEJADE_VERSION, "refused file", 0, 0);
+    expect((uint8_t)(memcmp(&run.table, &zero, sizeof zero) == 0), 1, "refused file's table's bytes", 0, 0);
 }
 
 /* The answers: a sync of the only controller, finished with the total -7, by events and as a file. */
@@ -256,10 +305,10 @@ static void answers(void) {
     static furnacejade_run_answer run;
     static furnacejade_answer answer;
     static uint8_t listing[64];
-    furnacejade_fresh(1, &fresh);
+    furnacejade_fresh(1, 1, &fresh);
     for (size_t at = 2; at < sizeof synced; at += 1u + synced[at]) expect(event(&fresh.table, synced + at, sizeof synced - at, &answer), 0, "answer", at, 0);
     expect(answer.finished, 1, "finished", 0, 0);
-    expect((uint8_t)(answer.panel.total == -7), 1, "total", 0, 0);
+    expect((uint8_t)(answer.total == -7), 1, "total", 0, 0);
     expect((uint8_t)answer.size, 1, "size", 0, 0);
     expect(answer.names[0].sender, 1, "names.sender", 0, 0);
     expect(answer.names[0].number.value, 2, "names.number", 0, 0);
@@ -275,6 +324,32 @@ static void answers(void) {
     furnacejade_look_answer shown;
     furnacejade_look(&run.table, 1, &shown);
     expect((uint8_t)(shown.panel.total == -7), 1, "look.total", 0, 0);
+    expect((uint8_t)(shown.panel.classes[FURNACEJADE_CLASS_NONE] == -7), 1, "look.classes", 0, 0);
+}
+
+/* What a look shows of each class: controller 1, alone, reports 1 of XL, -20 of L, 300 of M, -4 of S and 1 of XL once more.
+ * A refused look shows nothing of any. */
+static void class_totals(void) {
+    static const int16_t amounts[] = {1, -20, 300, -4, 1};
+    static const int32_t totals[FURNACEJADE_CLASSES] = {0, 2, -20, 300, -4};
+    static const uint8_t handover[] = {3, 3, 1, 1};
+    static furnacejade_fresh_answer fresh;
+    static furnacejade_answer answer;
+    furnacejade_look_answer shown;
+    furnacejade_fresh(2, 1, &fresh);
+    for (uint8_t i = 0; i < 5; i++) {
+        uint8_t record[6];
+        size_t length = furnacejade_put_classed_report(record, sizeof record, 1, amounts[i], class_of(i));
+        expect(event(&fresh.table, record, length, &answer), 0, "classed report", i, 0);
+        expect(event(&fresh.table, handover, sizeof handover, &answer), 0, "classed handover", i, 0);
+    }
+    for (size_t c = 1; c <= 2; c++) {
+        memset(&shown, 0xA5, sizeof shown);
+        furnacejade_look(&fresh.table, c, &shown);
+        expect(shown.number, c == 1 ? FURNACEJADE_ACCEPTED : FURNACEJADE_CONTROLLER, "look", c, 0);
+        expect((uint8_t)(shown.panel.total == (c == 1 ? 278 : 0)), 1, "look.total", c, 0);
+        for (size_t k = 0; k < FURNACEJADE_CLASSES; k++) expect((uint8_t)(shown.panel.classes[k] == (c == 1 ? totals[k] : 0)), 1, "look.classes", c, k);
+    }
 }
 
 static void random_tables(void) {
@@ -300,14 +375,20 @@ static void random_tables(void) {
 }
 
 int main(void) {
-    start();
-    messages();
-    controllers();
+    for (uint8_t version = 1; version <= 2; version++) {
+        start(version);
+        classes(version);
+        messages();
+        controllers();
+    }
     arrays();
     unused();
     writers();
-    bytes();
+    bytes(plain, sizeof plain);
+    bytes(classed, sizeof classed);
+    zeros();
     answers();
+    class_totals();
     random_tables();
     printf("%u fields and tables as expected\n", tests);
     return EXIT_SUCCESS;

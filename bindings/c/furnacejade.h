@@ -37,9 +37,19 @@ extern "C" {
 enum {
     FURNACEJADE_CONTROLLERS = 7, /* at most so many controllers */
     FURNACEJADE_MESSAGES = 64,   /* at most so many messages in a run */
+    FURNACEJADE_CLASSES = 5,     /* a panel shows so many class totals, that of no class among them */
     FURNACEJADE_SCRATCH = 4096,  /* an event asks for so many bytes of scratch */
     FURNACEJADE_LISTING = 16384, /* no run file fills so many bytes of listing */
     FURNACEJADE_ABSENT = 255     /* the mark of a controller that is not known to have forwarded a message */
+};
+
+/* Weight classes. A report of version 2 names one of the four; a report of version 1, and every sync, has none. */
+enum {
+    FURNACEJADE_CLASS_NONE = 0,
+    FURNACEJADE_CLASS_XL = 1,
+    FURNACEJADE_CLASS_L = 2,
+    FURNACEJADE_CLASS_M = 3,
+    FURNACEJADE_CLASS_S = 4
 };
 
 /* Refusal numbers, each with its name (FURNACEJADE_ stands before it) and the question that was the first to be answered
@@ -47,7 +57,7 @@ enum {
 #define FURNACEJADE_REFUSALS(X)                                                                   \
     X(0, ACCEPTED, "none: accepted")                                                              \
     X(1, FILE_LENGTH, "Has the file 2 to 65,535 bytes?")                                          \
-    X(2, VERSION, "Is the version 1?")                                                            \
+    X(2, VERSION, "Is the version 1 or 2?")                                                       \
     X(3, COUNT, "Is the number of controllers from 1 to 7?")                                      \
     X(4, TABLE, "Is the table well formed?")                                                      \
     X(5, RECORD, "Are the length byte and all the bytes it counts there?")                        \
@@ -61,7 +71,8 @@ enum {
     X(13, NO_ENTRY, "Does the log have an entry that the receiver has not read?")                 \
     X(14, KEPT, "Is the length kept at most the log's, and at least every read position in it?")  \
     X(15, SCRATCH_LENGTH, "Has the scratch area 4,096 bytes or more?")                            \
-    X(16, LISTING_LENGTH, "Does the line fit in what is left of the listing?")
+    X(16, LISTING_LENGTH, "Does the line fit in what is left of the listing?")                    \
+    X(17, CLASS, "Is the class of a report of version 2 from 1 to 4?")
 
 enum {
 #define FURNACEJADE_NUMBER(number, name, question) FURNACEJADE_##name = number,
@@ -90,12 +101,12 @@ typedef struct { uint8_t value; } furnacejade_forward_number;
 /* The number that a sender gives its message, 1 to 64; 0 is none. */
 typedef struct { uint8_t value; } furnacejade_message_number;
 
-/* What a message says. */
+/* What a message says. (The rules say class, which is a word of C++.) */
 typedef struct {
-    uint8_t kind;       /* 1 report, 2 sync */
-    uint8_t spare;      /* written 0; neither tested nor used */
-    uint16_t added;     /* the amount if positive, else 0 */
-    uint16_t withdrawn; /* its magnitude if negative, else 0 */
+    uint8_t kind;         /* 1 report, 2 sync */
+    uint8_t weight_class; /* of a report of version 2: FURNACEJADE_CLASS_XL to _S; else FURNACEJADE_CLASS_NONE */
+    uint16_t added;       /* the amount if positive, else 0 */
+    uint16_t withdrawn;   /* its magnitude if negative, else 0 */
 } furnacejade_payload;
 
 /* A message; its index in the table is its slot. */
@@ -130,6 +141,7 @@ typedef struct {
 
 /* The table of a run, which its owner keeps and lends to each call. */
 typedef struct {
+    size_t version;                                              /* in which its records are read, 1 or 2 */
     size_t n;                                                    /* how many controllers */
     size_t count;                                                /* how many messages were sent */
     furnacejade_message messages[FURNACEJADE_MESSAGES];          /* in the order sent */
@@ -138,14 +150,15 @@ typedef struct {
 
 /* What a panel shows. */
 typedef struct {
-    int32_t total; /* the sum of the amounts that its controller has applied */
+    int32_t total;                        /* the sum of the amounts that its controller has applied */
+    int32_t classes[FURNACEJADE_CLASSES]; /* of each class, from FURNACEJADE_CLASS_NONE on; they add up to the total */
 } furnacejade_panel;
 
 /* What furnacejade_event answers. */
 typedef struct {
     uint8_t number;                               /* the refusal number, 0 if accepted */
     uint8_t finished;                             /* 1 if a sync of the receiver's own is in the set applied, else 0 */
-    furnacejade_panel panel;                      /* then that sync's answer, the panel after the set; else zero */
+    int32_t total;                                /* then that sync's answer, the total after the set; else 0 */
     size_t size;                                  /* how many messages the set has */
     furnacejade_name names[FURNACEJADE_MESSAGES]; /* their names, by sender and then number; zeros behind them */
 } furnacejade_answer;
@@ -179,7 +192,7 @@ FURNACEJADE_BYTES(furnacejade_forward_number, 1);
 FURNACEJADE_BYTES(furnacejade_message_number, 1);
 FURNACEJADE_BYTES(furnacejade_payload, 6);
 FURNACEJADE_AT(furnacejade_payload, kind, 0);
-FURNACEJADE_AT(furnacejade_payload, spare, 1);
+FURNACEJADE_AT(furnacejade_payload, weight_class, 1);
 FURNACEJADE_AT(furnacejade_payload, added, 2);
 FURNACEJADE_AT(furnacejade_payload, withdrawn, 4);
 FURNACEJADE_BYTES(furnacejade_message, 8);
@@ -200,26 +213,28 @@ FURNACEJADE_AT(furnacejade_controller, pending, 128);
 FURNACEJADE_AT(furnacejade_controller, applied, 640);
 FURNACEJADE_AT(furnacejade_controller, highest, 704);
 FURNACEJADE_AT(furnacejade_controller, running, 711);
-FURNACEJADE_BYTES(furnacejade_table, 5512);
-FURNACEJADE_AT(furnacejade_table, n, 0);
-FURNACEJADE_AT(furnacejade_table, count, 8);
-FURNACEJADE_AT(furnacejade_table, messages, 16);
-FURNACEJADE_AT(furnacejade_table, controllers, 528);
-FURNACEJADE_BYTES(furnacejade_panel, 4);
+FURNACEJADE_BYTES(furnacejade_table, 5520);
+FURNACEJADE_AT(furnacejade_table, version, 0);
+FURNACEJADE_AT(furnacejade_table, n, 8);
+FURNACEJADE_AT(furnacejade_table, count, 16);
+FURNACEJADE_AT(furnacejade_table, messages, 24);
+FURNACEJADE_AT(furnacejade_table, controllers, 536);
+FURNACEJADE_BYTES(furnacejade_panel, 24);
 FURNACEJADE_AT(furnacejade_panel, total, 0);
+FURNACEJADE_AT(furnacejade_panel, classes, 4);
 FURNACEJADE_BYTES(furnacejade_answer, 144);
 FURNACEJADE_AT(furnacejade_answer, number, 0);
 FURNACEJADE_AT(furnacejade_answer, finished, 1);
-FURNACEJADE_AT(furnacejade_answer, panel, 4);
+FURNACEJADE_AT(furnacejade_answer, total, 4);
 FURNACEJADE_AT(furnacejade_answer, size, 8);
 FURNACEJADE_AT(furnacejade_answer, names, 16);
-FURNACEJADE_BYTES(furnacejade_fresh_answer, 5520);
+FURNACEJADE_BYTES(furnacejade_fresh_answer, 5528);
 FURNACEJADE_AT(furnacejade_fresh_answer, number, 0);
 FURNACEJADE_AT(furnacejade_fresh_answer, table, 8);
-FURNACEJADE_BYTES(furnacejade_look_answer, 8);
+FURNACEJADE_BYTES(furnacejade_look_answer, 28);
 FURNACEJADE_AT(furnacejade_look_answer, number, 0);
 FURNACEJADE_AT(furnacejade_look_answer, panel, 4);
-FURNACEJADE_BYTES(furnacejade_run_answer, 5536);
+FURNACEJADE_BYTES(furnacejade_run_answer, 5544);
 FURNACEJADE_AT(furnacejade_run_answer, number, 0);
 FURNACEJADE_AT(furnacejade_run_answer, events, 8);
 FURNACEJADE_AT(furnacejade_run_answer, written, 16);
@@ -227,7 +242,7 @@ FURNACEJADE_AT(furnacejade_run_answer, table, 24);
 
 /* No padding, so that a table's bytes are its fields and nothing else. */
 FURNACEJADE_FULLY(furnacejade_payload,
-                  FURNACEJADE_OF(furnacejade_payload, kind) + FURNACEJADE_OF(furnacejade_payload, spare)
+                  FURNACEJADE_OF(furnacejade_payload, kind) + FURNACEJADE_OF(furnacejade_payload, weight_class)
                       + FURNACEJADE_OF(furnacejade_payload, added) + FURNACEJADE_OF(furnacejade_payload, withdrawn));
 FURNACEJADE_FULLY(furnacejade_message,
                   FURNACEJADE_OF(furnacejade_message, sender) + FURNACEJADE_OF(furnacejade_message, number)
@@ -239,8 +254,9 @@ FURNACEJADE_FULLY(furnacejade_controller,
                       + FURNACEJADE_OF(furnacejade_controller, applied) + FURNACEJADE_OF(furnacejade_controller, highest)
                       + FURNACEJADE_OF(furnacejade_controller, running));
 FURNACEJADE_FULLY(furnacejade_table,
-                  FURNACEJADE_OF(furnacejade_table, n) + FURNACEJADE_OF(furnacejade_table, count)
-                      + FURNACEJADE_OF(furnacejade_table, messages) + FURNACEJADE_OF(furnacejade_table, controllers));
+                  FURNACEJADE_OF(furnacejade_table, version) + FURNACEJADE_OF(furnacejade_table, n)
+                      + FURNACEJADE_OF(furnacejade_table, count) + FURNACEJADE_OF(furnacejade_table, messages)
+                      + FURNACEJADE_OF(furnacejade_table, controllers));
 #undef FURNACEJADE_FULLY
 #undef FURNACEJADE_OF
 #undef FURNACEJADE_AT
@@ -249,21 +265,22 @@ FURNACEJADE_FULLY(furnacejade_table,
 
 /* WRITERS of a run file's parts, each into the first bytes of a buffer that has room for so many. Each returns how many
  * bytes it wrote, or 0, with nothing written, if they do not fit. They ask nothing of the values: that is the event's.
+ * A report is written for files and tables of one version; the other records are the same in both.
  *
- *     size_t size = furnacejade_put_head(file, sizeof file, 2);
- *     size += furnacejade_put_report(file + size, sizeof file - size, 1, 5);
+ *     size_t size = furnacejade_put_head(file, sizeof file, 2, 3);
+ *     size += furnacejade_put_classed_report(file + size, sizeof file - size, 1, 30, FURNACEJADE_CLASS_XL);
  *     size += furnacejade_put_handover(file + size, sizeof file - size, 2, 1);
  */
 
-/* The two bytes that a run file begins with: version 1 and the number of controllers. */
-static inline size_t furnacejade_put_head(uint8_t *out, size_t room, uint8_t n) {
+/* The two bytes that a run file begins with: its version, 1 or 2, and the number of controllers. */
+static inline size_t furnacejade_put_head(uint8_t *out, size_t room, uint8_t version, uint8_t n) {
     if (room < 2) return 0;
-    out[0] = 1;
+    out[0] = version;
     out[1] = n;
     return 2;
 }
 
-/* Kind 1: a report of an amount by its sender, 5 bytes. */
+/* Kind 1 in version 1: a report of an amount by its sender, 5 bytes. */
 static inline size_t furnacejade_put_report(uint8_t *out, size_t room, uint8_t sender, int16_t amount) {
     if (room < 5) return 0;
     out[0] = 4;
@@ -272,6 +289,18 @@ static inline size_t furnacejade_put_report(uint8_t *out, size_t room, uint8_t s
     out[3] = (uint8_t)((uint16_t)amount >> 8);
     out[4] = (uint8_t)((uint16_t)amount & 255);
     return 5;
+}
+
+/* Kind 1 in version 2: a report of an amount of one weight class by its sender, 6 bytes. */
+static inline size_t furnacejade_put_classed_report(uint8_t *out, size_t room, uint8_t sender, int16_t amount, uint8_t weight_class) {
+    if (room < 6) return 0;
+    out[0] = 5;
+    out[1] = 1;
+    out[2] = sender;
+    out[3] = (uint8_t)((uint16_t)amount >> 8);
+    out[4] = (uint8_t)((uint16_t)amount & 255);
+    out[5] = weight_class;
+    return 6;
 }
 
 /* Kind 2: a sync by its sender, 3 bytes. */
@@ -304,21 +333,23 @@ static inline size_t furnacejade_put_stop(uint8_t *out, size_t room, uint8_t con
     return 5;
 }
 
-/* A fresh table of n controllers, 1 to 7: all run, nothing was sent. Question 3 is put. Takes 4 KB of stack.
+/* A fresh table of n controllers, 1 to 7: all run, nothing was sent. Its version, 1 or 2, says whether its reports name a
+ * class, and stays. Questions 2 and 3 are put. Takes 4 KB of stack.
  *
  *     static furnacejade_fresh_answer start;
- *     furnacejade_fresh(5, &start);
+ *     furnacejade_fresh(2, 5, &start);
  *     furnacejade_table *table = &start.table;
  */
-void furnacejade_fresh(size_t n, furnacejade_fresh_answer *answer);
+void furnacejade_fresh(size_t version, size_t n, furnacejade_fresh_answer *answer);
 
-/* One event: bytes is the rest of a file from a record on, and the record with which it begins is carried out. Questions 4
- * to 15 are put. Returns how many bytes are left: the unread rest is the last so many of bytes. An accepted event leaves
- * the table as the rules say and the first 4,096 scratch bytes zero. A refused one leaves table and scratch as they were,
- * and the record in the rest: a loop that goes on must step over it, by 1 + its length byte. Takes 20 KB of stack.
+/* One event: bytes is the rest of a file from a record on, and the record with which it begins is carried out. The table's
+ * version says how long a report is. Questions 4 to 15 are put, and to a report of version 2 question 17, behind 9. Returns
+ * how many bytes are left: the unread rest is the last so many of bytes. An accepted event leaves the table as the rules
+ * say and the first 4,096 scratch bytes zero. A refused one leaves table and scratch as they were, and the record in the
+ * rest: a loop that goes on must step over it, by 1 + its length byte. Takes 20 KB of stack.
  *
- *     uint8_t record[5];
- *     size_t length = furnacejade_put_report(record, sizeof record, 1, 30);
+ *     uint8_t record[6];
+ *     size_t length = furnacejade_put_classed_report(record, sizeof record, 1, 30, FURNACEJADE_CLASS_XL);
  *     size_t left = furnacejade_event(table, record, length, scratch, sizeof scratch, &answer);
  */
 size_t furnacejade_event(furnacejade_table *t, const uint8_t *bytes, size_t bytes_length, uint8_t *scratch, size_t scratch_length, furnacejade_answer *answer);
@@ -328,14 +359,15 @@ size_t furnacejade_event(furnacejade_table *t, const uint8_t *bytes, size_t byte
  *
  *     furnacejade_look_answer look;
  *     furnacejade_look(table, 2, &look);
- *     if (look.number == FURNACEJADE_ACCEPTED) printf("panel 2 shows %d\n", (int)look.panel.total);
+ *     if (look.number == FURNACEJADE_ACCEPTED)
+ *         printf("panel 2 shows %d, of XL %d\n", (int)look.panel.total, (int)look.panel.classes[FURNACEJADE_CLASS_XL]);
  */
 void furnacejade_look(const furnacejade_table *t, size_t c, furnacejade_look_answer *answer);
 
-/* A whole run file, from a fresh table of its own, up to the first refusal. Its lines are written into the listing from the
- * start on; the bytes behind them stay. Also where a record is refused, the listing keeps the lines before it, the answer
- * has the table that they left, and the first 4,096 scratch bytes are zero if any event was accepted. A file refused by
- * questions 1 to 3 changes neither listing nor scratch. Takes 14 KB of stack.
+/* A whole run file, from a fresh table of its own, which has the file's version, up to the first refusal. Its lines are
+ * written into the listing from the start on; the bytes behind them stay. Also where a record is refused, the listing keeps
+ * the lines before it, the answer has the table that they left, and the first 4,096 scratch bytes are zero if any event was
+ * accepted. A file refused by questions 1 to 3 changes neither listing nor scratch. Takes 14 KB of stack.
  *
  *     static uint8_t listing[FURNACEJADE_LISTING];
  *     furnacejade_run(file, size, listing, sizeof listing, scratch, sizeof scratch, &run);

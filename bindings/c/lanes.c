@@ -5,7 +5,7 @@
 
 #include "furnacejade.h"
 
-enum { LANES = 5, LONGEST = 5 /* bytes of a record */ };
+enum { LANES = 5, LONGEST = 5 /* bytes of a record of version 1 */ };
 
 static furnacejade_fresh_answer start;
 static furnacejade_table *const table = &start.table;
@@ -64,7 +64,7 @@ static void print_set(uint8_t receiver) {
     printf("  panel %d applies", receiver);
     for (size_t i = 0; i < answer.size; i++) printf(" %d.%d", answer.names[i].sender, answer.names[i].number.value);
     printf(" and shows %d\n", shown(receiver));
-    if (answer.finished) printf("  lane %d's sync is answered: %d\n", receiver, (int)answer.panel.total);
+    if (answer.finished) printf("  lane %d's sync is answered: %d\n", receiver, (int)answer.total);
 }
 
 /* Hands over the next entry of one log for as long as there is one. Refusal 13 says that there is none, and 10 that the
@@ -96,7 +96,7 @@ static void hand_over_all(void) {
 }
 
 int main(void) {
-    furnacejade_fresh(LANES, &start);
+    furnacejade_fresh(1, LANES, &start);
     if (start.number != FURNACEJADE_ACCEPTED) return EXIT_FAILURE;
     report(1, 30);
     report(1, 12); /* 11: hand over and try again */

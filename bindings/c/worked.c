@@ -1,16 +1,33 @@
-/* Plays the worked run (docs/RULES.md, section 19), read from standard input, event by event, and looks at every panel after
- * each. */
+/* Plays a run file, read from standard input, event by event, and looks at every panel after each; of a file of version 2 it
+ * prints in the end what each panel shows of each class. bindings/worked.run and bindings/classes.run are the runs of
+ * docs/RULES.md, sections 19 and 25. */
 #include <stdio.h>
 #include <stdlib.h>
 
 #include "furnacejade.h"
+
+static furnacejade_panel shown(const furnacejade_table *table, size_t controller) {
+    static furnacejade_look_answer look;
+    furnacejade_look(table, controller, &look);
+    return look.panel;
+}
+
+static void print_classes(const furnacejade_table *table) {
+    static const char *const names[FURNACEJADE_CLASSES] = {"none", "XL", "L", "M", "S"};
+    for (size_t c = 1; c <= table->n; c++) {
+        furnacejade_panel panel = shown(table, c);
+        printf("panel %zu: %d", c, (int)panel.total);
+        for (size_t k = FURNACEJADE_CLASS_XL; k <= FURNACEJADE_CLASS_S; k++) printf(", %s %d", names[k], (int)panel.classes[k]);
+        printf("\n");
+    }
+}
 
 int main(void) {
     static uint8_t run[65535], scratch[FURNACEJADE_SCRATCH];
     size_t length = fread(run, 1, sizeof run, stdin);
     if (length < 2) return EXIT_FAILURE;
     static furnacejade_fresh_answer start;
-    furnacejade_fresh(run[1], &start);
+    furnacejade_fresh(run[0], run[1], &start);
     if (start.number != FURNACEJADE_ACCEPTED) return EXIT_FAILURE;
     furnacejade_table *table = &start.table;
     size_t at = 2;
@@ -22,12 +39,9 @@ int main(void) {
         printf("%u:", number);
         for (size_t i = 0; i < answer.size; i++) printf(" %d.%d", answer.names[i].sender, answer.names[i].number.value);
         printf(" |");
-        for (size_t c = 1; c <= table->n; c++) {
-            static furnacejade_look_answer look;
-            furnacejade_look(table, c, &look);
-            printf(" %d", (int)look.panel.total);
-        }
+        for (size_t c = 1; c <= table->n; c++) printf(" %d", (int)shown(table, c).total);
         printf("\n");
     }
+    if (table->version == 2) print_classes(table);
     return EXIT_SUCCESS;
 }

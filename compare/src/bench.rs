@@ -5,7 +5,7 @@ use crate::edges::dense_run;
 use crate::engine::{Engine, Library, Reference};
 use crate::file_cases::random_file;
 use crate::random::Random;
-use crate::records::{file_of, handover, report, stop, sync};
+use crate::records::{classed_report, file_of, handover, report, stop, sync};
 use crate::reference::{run_file, State, LISTING, SCRATCH};
 use crate::runs::{legal_run, Policy};
 use crate::stack::needed;
@@ -44,7 +44,7 @@ fn event(engine: &dyn Engine, table: &Table, bytes: &[u8]) -> f64 {
 /// Controller 2's log begins with that one, so that handing it over only passes it and tries to apply. Either all are
 /// applied then; or, in a chain, none: the first lacks a mark, and each forces out the next one alone.
 fn pending_table(n: usize, held: usize, chain: bool) -> Table {
-    let mut t = to_table(&State::fresh(n));
+    let mut t = to_table(&State::fresh(1, n));
     t.count = held + 1;
     for slot in 0..=held {
         let (sender, number) = if slot == held { (2, held + 1) } else { (1 + slot % n, slot / n + 1) };
@@ -72,9 +72,9 @@ fn pending_table(n: usize, held: usize, chain: bool) -> Table {
 }
 
 fn run_table(n: usize) -> (Table, Vec<u8>) {
-    let (mut state, mut random) = (State::fresh(n), Random(3));
+    let (mut state, mut random) = (State::fresh(1, n), Random(3));
     let run = legal_run(&mut random, &mut state, &Policy::even(6), 200);
-    (to_table(&state), file_of(n, &run))
+    (to_table(&state), file_of(1, n, &run))
 }
 
 /// The table that a file leaves.
@@ -94,7 +94,7 @@ fn runs(engine: &dyn Engine, files: &[Vec<u8>]) -> f64 {
 /// The nanoseconds for each event of a file whose records are carried out one by one.
 fn single_events(engine: &dyn Engine, file: &[u8]) -> f64 {
     let (mut scratch, mut answer) = (vec![0xA5; SCRATCH], Answer::BLANK);
-    let (mut t, mut rest, mut events) = (engine.fresh(file[1] as usize).table, &file[2..], 0);
+    let (mut t, mut rest, mut events) = (engine.fresh(file[0] as usize, file[1] as usize).table, &file[2..], 0);
     let time = timed(|| {
         while !rest.is_empty() {
             let left = engine.event(&mut t, rest, &mut scratch, &mut answer);
@@ -115,10 +115,10 @@ fn row(name: &str, time: impl Fn(&dyn Engine) -> f64) {
 }
 
 fn rows_of(n: usize) {
-    let fresh = to_table(&State::fresh(n));
+    let fresh = to_table(&State::fresh(1, n));
     let (after_run, file) = run_table(n);
     let length = to_state(&after_run).controllers[0].log.len();
-    row(&format!("n = {n}: fresh table"), |e| mean(|| timed(|| e.fresh(n))));
+    row(&format!("n = {n}: fresh table"), |e| mean(|| timed(|| e.fresh(1, n))));
     row(&format!("n = {n}: report, nothing pending"), |e| event(e, &fresh, &report(1, 5)));
     row(&format!("n = {n}: stop after 200 events"), |e| event(e, &after_run, &stop(1, length)));
     row(&format!("n = {n}: refused by question 8"), |e| event(e, &after_run, &stop(0, 0)));
@@ -133,11 +133,28 @@ fn rows_of(n: usize) {
     row(&format!("n = {n}: file of 200 events, for each event"), |e| runs(e, std::slice::from_ref(&file)));
 }
 
-/// A file of seven controllers with 64 messages and every handover; with a stop of each at its end, and without.
-fn dense_files() -> (Vec<u8>, Vec<u8>) {
-    let dense = dense_run();
+/// A file of a version and of seven controllers with 64 messages and every handover; with a stop of each at its end, and
+/// without.
+fn dense_files(version: usize) -> (Vec<u8>, Vec<u8>) {
+    let dense = dense_run(version);
     let stops = 7 * stop(1, 64).len();
     (dense.clone(), dense[..dense.len() - stops].to_vec())
+}
+
+fn random_files(version: usize) -> Vec<Vec<u8>> {
+    let mut random = Random(100);
+    (0..100).map(|_| random_file(&mut random, version, 300)).collect()
+}
+
+fn rows_with_classes() {
+    let fresh = to_table(&State::fresh(2, 7));
+    let (dense, running) = dense_files(2);
+    let (full, files) = (last_table(&running), random_files(2));
+    row("version 2, n = 7: report, nothing pending", |e| event(e, &fresh, &classed_report(1, 5, 4)));
+    row("version 2, n = 7: report refused by question 17", |e| event(e, &fresh, &classed_report(1, 5, 5)));
+    row("version 2, n = 7: look at a full table", |e| mean(|| timed(|| e.look(&full, 1))));
+    row("version 2, n = 7: densest run of 3,207 events, for each", |e| runs(e, std::slice::from_ref(&dense)));
+    row("version 2: a hundred random files, for each event", |e| runs(e, &files));
 }
 
 fn times() {
@@ -148,16 +165,16 @@ and a file run gets scratch and listing as the run before left them"
     println!("{:<56} {:>12} {:>12} {:>8}", "", "library", "reference", "ratio");
     rows_of(3);
     rows_of(7);
-    let (dense, running) = dense_files();
+    let (dense, running) = dense_files(1);
     let full = last_table(&running);
     row("n = 7: look at a full table of 64 messages", |e| mean(|| timed(|| e.look(&full, 1))));
     row("n = 7: full table, a report refused by question 12", |e| event(e, &full, &report(1, 5)));
     row("n = 7: full table, a handover refused by question 13", |e| event(e, &full, &handover(1, 2)));
     row("n = 7: densest run of 3,207 events, for each", |e| runs(e, std::slice::from_ref(&dense)));
     row("n = 7: densest run as single events, for each", |e| single_events(e, &dense));
-    let mut random = Random(100);
-    let files: Vec<Vec<u8>> = (0..100).map(|_| random_file(&mut random, 300)).collect();
+    let files = random_files(1);
     row("a hundred random files of up to 300 events, for each", |e| runs(e, &files));
+    rows_with_classes();
 }
 
 // ---------- stack ----------
@@ -181,22 +198,26 @@ fn run_stack(file: &[u8]) -> usize {
 
 fn fresh_stack() -> usize {
     let mut answer = Box::new(FreshAnswer::BLANK);
-    (0..=8).map(|n| needed(|| calls::fresh(n, &mut answer))).max().unwrap_or(0)
+    let requests = (0..=3).flat_map(|version| (0..=8).map(move |n| (version, n)));
+    requests.map(|(version, n)| needed(|| calls::fresh(version, n, &mut answer))).max().unwrap_or(0)
 }
 
 /// The most that a call needed, over events of every kind, accepted and refused, on fresh, dense and broken tables.
 fn stacks() {
-    let (dense, running) = dense_files();
-    let mut tables = vec![Table::BLANK, last_table(&dense), last_table(&running)];
+    let (dense, running) = dense_files(1);
+    let (dense_2, running_2) = dense_files(2);
+    let mut tables = vec![Table::BLANK];
+    tables.extend([&dense, &running, &dense_2, &running_2].map(|file| last_table(file)));
     for n in [1, 3, 7] {
-        tables.extend([to_table(&State::fresh(n)), run_table(n).0]);
+        tables.extend([to_table(&State::fresh(1, n)), to_table(&State::fresh(2, n)), run_table(n).0]);
     }
     tables.extend([2, 63].into_iter().flat_map(|held| [false, true].map(|chain| pending_table(7, held, chain))));
-    let records =
-        [vec![], report(1, 5), report(1, 0), sync(1), handover(1, 2), handover(2, 1), stop(1, 64), stop(9, 0)];
+    let mut records = vec![vec![], report(1, 5), report(1, 0), classed_report(1, 5, 4), classed_report(1, 5, 5)];
+    records.extend([sync(1), handover(1, 2), handover(2, 1), stop(1, 64), stop(9, 0)]);
     let events = tables.iter().flat_map(|t| records.iter().map(|record| event_stack(t, record))).max();
     let looks = tables.iter().map(look_stack).max();
-    let runs = [dense, running, run_table(3).1, vec![1], vec![1, 9]].iter().map(|file| run_stack(file)).max();
+    let files = [dense, running, dense_2, running_2, run_table(3).1, vec![1], vec![3, 3], vec![1, 9]];
+    let runs = files.iter().map(|file| run_stack(file)).max();
     println!("\nbytes of stack that a call of the library needs, the most of what was tried");
     for (name, most) in [("event", events), ("look", looks), ("fresh", Some(fresh_stack())), ("run", runs)] {
         println!("{name:<56} {:>12}", most.unwrap_or(0));

@@ -2,8 +2,8 @@
 
 use crate::case::{Case, Head};
 use crate::random::Random;
-use crate::table_cases::{any_count, blind_calls, good_table, set_highest};
-use furnacejade::{Controller, ForwardNumber, Message, Payload, Pending, Table};
+use crate::table_cases::{any_count, blind_calls, fair_class, good_table, set_highest};
+use furnacejade::{Class, Controller, ForwardNumber, Message, Payload, Pending, Table};
 
 /// A table that is to be broken, and where: at a controller, at a slot, at a message that is pending there, or at one
 /// that the controller does not know.
@@ -43,7 +43,26 @@ impl<'a> Break<'a> {
 
     fn payload(&mut self, kind: u8, added: &[u16], withdrawn: &[u16]) {
         let (added, withdrawn) = (self.random.pick(added), self.random.pick(withdrawn));
-        self.message().payload = Payload { kind, added, withdrawn, ..Payload::BLANK };
+        let class = if kind == Payload::REPORT { fair_class(self.random, self.t.version) } else { Class::NONE };
+        self.message().payload = Payload { kind, class, added, withdrawn };
+    }
+
+    /// A message of the kind given, if there is one, gets a class that no message of its kind and version has.
+    fn class(&mut self, kind: u8) {
+        let wrong: &[u8] = match (self.t.version, kind) {
+            (2, Payload::REPORT) => &[0, 5, 6, 128, 255],
+            _ => &[1, 2, 3, 4, 5, 255],
+        };
+        let class = Class(self.random.pick(wrong));
+        let of_kind: Vec<usize> = (0..self.t.count).filter(|s| self.t.messages[*s].payload.kind == kind).collect();
+        if !of_kind.is_empty() {
+            self.t.messages[self.random.pick(&of_kind)].payload.class = class;
+        }
+    }
+
+    /// The other version: no report has a class that fits it.
+    fn other_version(&mut self) {
+        self.t.version = 3 - self.t.version;
     }
 
     /// A stopped controller is asked fewer clauses, so that the one that is broken stands alone.
@@ -169,6 +188,13 @@ type Way = (fn(&mut Break), bool);
 
 /// Each breaks one clause of question 4 and no other, as far as the table has a place for it.
 const WAYS: &[Way] = &[
+    (|b| b.t.version = 0, false),
+    (|b| b.t.version = 3, false),
+    (|b| b.t.version += b.random.pick(&[256, 1 << 32, 1 << 63]), false),
+    (|b| b.other_version(), false),
+    (|b| b.class(Payload::REPORT), false),
+    (|b| b.class(Payload::REPORT), false),
+    (|b| b.class(Payload::SYNC), false),
     (|b| b.t.n = 0, false),
     (|b| b.t.n = 8, false),
     (|b| b.t.n += b.random.pick(&[256, 1 << 32, 1 << 63]), false),

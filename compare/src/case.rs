@@ -1,7 +1,7 @@
 //! A case: a head that gives a table, and calls on it; and its text, for failures and for the folder `cases`.
 //!
 //! The text is one line for the head and one for each call; below the head `table` stands a line for each field that is
-//! not as in a fresh table. Bytes are hexadecimal, and `(00*512)` stands for 512 bytes 00. Lent memory is given by its
+//! not as in a fresh table of version 1, and a head `fresh` names its version if that is not 1. Bytes are hexadecimal, and `(00*512)` stands for 512 bytes 00. Lent memory is given by its
 //! length; what it holds at first is the same dirt in every case.
 
 use crate::fields::{plain_table, set_field, table_text};
@@ -9,7 +9,7 @@ use furnacejade::Table;
 
 #[derive(Clone)]
 pub enum Head {
-    Fresh(usize),
+    Fresh { version: usize, n: usize },
     File { bytes: Vec<u8>, listing: usize, scratch: usize },
     Table(Box<Table>),
 }
@@ -62,7 +62,8 @@ fn from_hexadecimal(text: &str) -> Vec<u8> {
 impl Case {
     pub fn text(&self) -> String {
         let mut text = match &self.head {
-            Head::Fresh(n) => format!("fresh {n}\n"),
+            Head::Fresh { version: 1, n } => format!("fresh {n}\n"),
+            Head::Fresh { version, n } => format!("fresh {n} version {version}\n"),
             Head::File { bytes, listing, scratch } => {
                 format!("file {} listing {listing} scratch {scratch}\n", hexadecimal(bytes))
             }
@@ -107,7 +108,7 @@ fn head_of(line: &str) -> Option<Head> {
     let words: Vec<&str> = line.split_whitespace().collect();
     let number = |place: usize| words[place].parse().expect("a number");
     Some(match words[0] {
-        "fresh" => Head::Fresh(number(1)),
+        "fresh" => Head::Fresh { version: if words.len() > 2 { number(3) } else { 1 }, n: number(1) },
         "file" => Head::File { bytes: from_hexadecimal(words[1]), listing: number(3), scratch: number(5) },
         "table" => Head::Table(Box::new(plain_table())),
         _ => return None,

@@ -4,7 +4,7 @@ use crate::case::{Call, Case, Head};
 use crate::demand3::{self, Ledger};
 use crate::engine::Engine;
 use crate::tables::{meaning, well_formed};
-use furnacejade::{Answer, MessageNumber, Name, Panel, Refusal, RunAnswer, Table};
+use furnacejade::{Answer, LookAnswer, MessageNumber, Name, Refusal, RunAnswer, Table};
 
 const GUARD: usize = 64;
 
@@ -26,8 +26,7 @@ impl Lent {
 
 fn dirty_answer() -> Answer {
     let name = Name { sender: 0xA5, number: MessageNumber(0xA5) };
-    let panel = Panel { total: -1 };
-    Answer { number: Refusal::from(0xA5), finished: 0xA5, panel, size: 77, names: [name; 64] }
+    Answer { number: Refusal::from(0xA5), finished: 0xA5, total: -1, size: 77, names: [name; 64] }
 }
 
 /// An engine, and the table that it goes on with.
@@ -133,8 +132,8 @@ fn file(a: &dyn Engine, b: &dyn Engine, bytes: &[u8], lent: [usize; 2]) -> Resul
     Ok((right.answer.table, found.answer.table))
 }
 
-fn fresh(a: &dyn Engine, b: &dyn Engine, n: usize) -> Result<(Table, Table), String> {
-    let (right, found) = (a.fresh(n), b.fresh(n));
+fn fresh(a: &dyn Engine, b: &dyn Engine, version: usize, n: usize) -> Result<(Table, Table), String> {
+    let (right, found) = (a.fresh(version, n), b.fresh(version, n));
     differ("fresh: number", right.number, found.number)?;
     differ_plain("fresh: table", same_table(&right.table, &found.table))?;
     Ok((right.table, found.table))
@@ -144,7 +143,7 @@ fn fresh(a: &dyn Engine, b: &dyn Engine, n: usize) -> Result<(Table, Table), Str
 pub fn difference(case: &Case, a: &dyn Engine, b: &dyn Engine) -> Result<(), String> {
     let (right, found) = match &case.head {
         Head::Table(t) => ((**t).clone(), (**t).clone()),
-        Head::Fresh(n) => fresh(a, b, *n)?,
+        Head::Fresh { version, n } => fresh(a, b, *version, *n)?,
         Head::File { bytes, listing, scratch } => file(a, b, bytes, [*listing, *scratch])?,
     };
     let (mut a, mut b) = (Side { engine: a, table: right }, Side { engine: b, table: found });
@@ -161,9 +160,9 @@ pub fn difference(case: &Case, a: &dyn Engine, b: &dyn Engine) -> Result<(), Str
 fn list_head(case: &Case, engine: &dyn Engine) -> Option<(Ledger, Table)> {
     match &case.head {
         Head::Table(_) => None,
-        Head::Fresh(n) => {
-            let fresh = engine.fresh(*n);
-            (fresh.number == Refusal::ACCEPTED).then(|| (Ledger::new(*n), fresh.table))
+        Head::Fresh { version, n } => {
+            let fresh = engine.fresh(*version, *n);
+            (fresh.number == Refusal::ACCEPTED).then(|| (Ledger::new(*version, *n), fresh.table))
         }
         Head::File { bytes, listing, scratch } => {
             let (mut listing, mut scratch) = (Lent::new(*listing), Lent::new(*scratch));
@@ -179,8 +178,8 @@ pub fn demand3(case: &Case, engine: &dyn Engine) -> Result<(), String> {
     let Some((mut ledger, table)) = list_head(case, engine) else { return Ok(()) };
     let mut side = Side { engine, table };
     let look = |ledger: &mut Ledger, t: &Table, c: usize| {
-        let answer = engine.look(t, c);
-        ledger.look(c, answer.number.number(), answer.panel.total as i64);
+        let LookAnswer { number, panel } = engine.look(t, c);
+        ledger.look(c, number.number(), panel.total as i64, panel.classes.map(i64::from));
     };
     for step in 0..=case.calls.len() {
         for c in ledger.ended() {

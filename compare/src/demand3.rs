@@ -6,13 +6,22 @@ use std::collections::{BTreeMap, BTreeSet};
 /// A message: sender, number.
 pub type Name = (usize, usize);
 
+/// The amount of a message, 0 if it is no report, and its class, 0 if it has none.
+#[derive(Clone, Copy)]
+struct Content {
+    amount: i64,
+    class: usize,
+}
+
 pub struct Ledger {
+    /// That of the request for a fresh table, or of the file.
+    version: usize,
     n: usize,
     logs: Vec<Vec<Name>>,
     /// `places[r][o]`: r's place in o's log.
     places: Vec<Vec<usize>>,
     running: Vec<bool>,
-    amounts: BTreeMap<Name, i64>,
+    sent: BTreeMap<Name, Content>,
     cut_off: BTreeSet<Name>,
     applied: Vec<BTreeSet<Name>>,
     /// What any controller had applied at any moment, each once.
@@ -21,13 +30,14 @@ pub struct Ledger {
 }
 
 impl Ledger {
-    pub fn new(n: usize) -> Ledger {
+    pub fn new(version: usize, n: usize) -> Ledger {
         Ledger {
+            version,
             n,
             logs: vec![vec![]; n],
             places: vec![vec![0; n]; n],
             running: vec![true; n],
-            amounts: BTreeMap::new(),
+            sent: BTreeMap::new(),
             cut_off: BTreeSet::new(),
             applied: vec![BTreeSet::new(); n],
             moments: BTreeSet::from([vec![]]),
@@ -52,8 +62,9 @@ impl Ledger {
             self.expect(set.is_empty(), || "a refused event answers a set".into());
             return;
         }
-        let length = bytes.get(1).and_then(|kind| [0, 4, 2, 3, 4].get(*kind as usize));
-        if length != bytes.first() || bytes.len() <= bytes[0] as usize || bytes[0] == 0 {
+        let report = if self.version == 2 { 5 } else { 4 };
+        let length = bytes.get(1).and_then(|kind| [0, report, 2, 3, 4].get(*kind as usize).copied());
+        if length != bytes.first().copied() || bytes.len() <= bytes[0] as usize || bytes[0] == 0 {
             return self.expect(false, || "accepted bytes hold no record".into());
         }
         let c = bytes[2] as usize;
@@ -61,8 +72,12 @@ impl Ledger {
             return self.expect(false, || "accepted bytes name no controller".into());
         }
         match bytes[1] {
-            1 => self.send(c, i16::from_be_bytes([bytes[3], bytes[4]]) as i64),
-            2 => self.send(c, 0),
+            1 => {
+                let amount = i16::from_be_bytes([bytes[3], bytes[4]]) as i64;
+                let class = if self.version == 2 { bytes[5] as usize } else { 0 };
+                self.send(c, Content { amount, class });
+            }
+            2 => self.send(c, Content { amount: 0, class: 0 }),
             3 => self.handover(c, bytes[3] as usize, set),
             4 => self.stop(c, u16::from_be_bytes([bytes[3], bytes[4]]) as usize),
             _ => return self.expect(false, || "accepted bytes have no kind".into()),
@@ -71,10 +86,10 @@ impl Ledger {
         self.ending();
     }
 
-    fn send(&mut self, c: usize, amount: i64) {
+    fn send(&mut self, c: usize, content: Content) {
         let name = (c, self.logs[c - 1].len() + 1);
         self.logs[c - 1].push(name);
-        let new = self.amounts.insert(name, amount).is_none();
+        let new = self.sent.insert(name, content).is_none();
         self.expect(new, || format!("{name:?} is sent twice"));
     }
 
@@ -88,7 +103,7 @@ impl Ledger {
             self.logs[r - 1].push(name);
         }
         for name in set {
-            let sent = self.amounts.contains_key(name);
+            let sent = self.sent.contains_key(name);
             self.expect(sent, || format!("{r} applies {name:?}, which was not sent"));
             let once = self.applied[r - 1].insert(*name);
             self.expect(once, || format!("{r} applies {name:?} twice"));
@@ -131,28 +146,44 @@ impl Ledger {
     }
 
     fn ending(&mut self) {
-        let due: BTreeSet<Name> = self.amounts.keys().filter(|name| !self.cut_off.contains(name)).copied().collect();
+        let due: BTreeSet<Name> = self.sent.keys().filter(|name| !self.cut_off.contains(name)).copied().collect();
         for c in self.ended() {
             let all = self.applied[c - 1] == due;
             self.expect(all, || format!("the ending: {c} has not applied exactly {due:?}"));
         }
     }
 
-    /// A panel look with its answer. Where the ending speaks, the sum of what was applied is the ending's sum.
-    pub fn look(&mut self, c: usize, number: u8, total: i64) {
+    /// What a controller has applied, as it was sent.
+    fn applied_at(&self, c: usize) -> Vec<Content> {
+        self.applied[c - 1].iter().filter_map(|name| self.sent.get(name)).copied().collect()
+    }
+
+    /// The total that a look at a controller shows, or a line of a listing.
+    fn total(&mut self, c: usize, total: i64) {
+        let sum: i64 = self.applied_at(c).iter().map(|x| x.amount).sum();
+        self.expect(total == sum, || format!("{c} shows {total}, not {sum}"));
+    }
+
+    /// A panel look with its answer. Where the ending speaks, the sums over what was applied are the ending's sums.
+    pub fn look(&mut self, c: usize, number: u8, total: i64, classes: [i64; 5]) {
         if number != 0 {
             return self.expect(!self.ended().contains(&c), || format!("the ending: a look at {c} is refused"));
         }
         if c < 1 || c > self.n {
             return self.expect(false, || format!("an accepted look at {c}"));
         }
-        let sum: i64 = self.applied[c - 1].iter().filter_map(|name| self.amounts.get(name)).sum();
-        self.expect(total == sum, || format!("a look at {c} shows {total}, not {sum}"));
+        self.total(c, total);
+        let applied = self.applied_at(c);
+        for (class, shown) in classes.into_iter().enumerate() {
+            let sum: i64 = applied.iter().filter(|x| x.class == class).map(|x| x.amount).sum();
+            self.expect(shown == sum, || format!("{c} shows {shown} of class {class}, not {sum}"));
+        }
+        self.expect(classes.iter().sum::<i64>() == total, || format!("the classes at {c} do not add up to its total"));
     }
 
     /// The head of a list by a file run: its accepted records as calls, with the sets of its listing.
     pub fn file(file: &[u8], events: usize, listing: &[u8]) -> Ledger {
-        let mut ledger = Ledger::new(file[1] as usize);
+        let mut ledger = Ledger::new(file[0] as usize, file[1] as usize);
         let mut sets = BTreeMap::new();
         for line in String::from_utf8_lossy(listing).lines() {
             let mut fields = line.split(' ');
@@ -174,7 +205,7 @@ impl Ledger {
             if controller != 0 {
                 ledger
                     .expect(rest[2] as usize == controller, || format!("the line of event {event} names {controller}"));
-                ledger.look(controller, 0, total);
+                ledger.total(rest[2] as usize, total);
             }
             rest = &rest[1 + rest[0] as usize..];
         }

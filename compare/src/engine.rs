@@ -3,14 +3,14 @@
 
 use crate::stack::on_painted;
 use crate::{faults, tables};
-use furnacejade::{calls, Answer, FreshAnswer, LookAnswer, Panel, Refusal, RunAnswer, Table};
+use furnacejade::{calls, Answer, FreshAnswer, LookAnswer, Panel, Refusal, RunAnswer, Table, CLASSES};
 use std::mem::size_of;
 
 pub trait Engine {
     /// Answers how many bytes are left.
     fn event(&self, t: &mut Table, bytes: &[u8], scratch: &mut [u8], answer: &mut Answer) -> usize;
     fn look(&self, t: &Table, c: usize) -> LookAnswer;
-    fn fresh(&self, n: usize) -> FreshAnswer;
+    fn fresh(&self, version: usize, n: usize) -> FreshAnswer;
     fn run(&self, bytes: &[u8], listing: &mut [u8], scratch: &mut [u8]) -> RunAnswer;
 }
 
@@ -23,8 +23,8 @@ impl Engine for Reference {
     fn look(&self, t: &Table, c: usize) -> LookAnswer {
         tables::look(t, c)
     }
-    fn fresh(&self, n: usize) -> FreshAnswer {
-        tables::fresh(n)
+    fn fresh(&self, version: usize, n: usize) -> FreshAnswer {
+        tables::fresh(version, n)
     }
     fn run(&self, bytes: &[u8], listing: &mut [u8], scratch: &mut [u8]) -> RunAnswer {
         tables::run(bytes, listing, scratch)
@@ -43,9 +43,9 @@ impl Engine for Faulty {
         faults::wake(self.0);
         faults::copy::tables::look(t, c)
     }
-    fn fresh(&self, n: usize) -> FreshAnswer {
+    fn fresh(&self, version: usize, n: usize) -> FreshAnswer {
         faults::wake(self.0);
-        faults::copy::tables::fresh(n)
+        faults::copy::tables::fresh(version, n)
     }
     fn run(&self, bytes: &[u8], listing: &mut [u8], scratch: &mut [u8]) -> RunAnswer {
         faults::wake(self.0);
@@ -99,7 +99,7 @@ impl Engine for Library {
         }
     }
     fn look(&self, t: &Table, c: usize) -> LookAnswer {
-        let mut answer = LookAnswer { number: Refusal::from(0xA5), panel: Panel { total: -1 } };
+        let mut answer = LookAnswer { number: Refusal::from(0xA5), panel: Panel { total: -1, classes: [-1; CLASSES] } };
         calls::look(t, c, &mut answer);
         if self.twice {
             let mut again = Err(Refusal::ACCEPTED);
@@ -109,12 +109,12 @@ impl Engine for Library {
         }
         answer
     }
-    fn fresh(&self, n: usize) -> FreshAnswer {
+    fn fresh(&self, version: usize, n: usize) -> FreshAnswer {
         let mut answer = FreshAnswer { number: Refusal::from(0xA5), table: dirty_table() };
-        calls::fresh(n, &mut answer);
+        calls::fresh(version, n, &mut answer);
         if self.twice {
             let mut again = Err(Refusal::ACCEPTED);
-            on_painted(PAINTS[1], || again = furnacejade::fresh(n));
+            on_painted(PAINTS[1], || again = furnacejade::fresh(version, n));
             let first = answer.number.check().map(|()| *answer.table.as_bytes());
             assert!(first == again.map(|t| *t.as_bytes()), "two equal requests for a fresh table answer other bytes");
         }

@@ -35,14 +35,15 @@ type Field = (usize, &'static str);
 /// Every number of a table with its field, those of one field in order. A struct is taken apart whole, so that a field
 /// that is new in it cannot be forgotten here.
 fn visit(t: &mut Table, mut see: impl FnMut(Field, Place)) {
-    let Table { n, count, messages, controllers } = t;
+    let Table { version, n, count, messages, controllers } = t;
+    see((0, "version"), Place::Long(version));
     see((0, "n"), Place::Long(n));
     see((0, "count"), Place::Long(count));
-    for Message { sender, number, payload: Payload { kind, spare, added, withdrawn } } in messages {
+    for Message { sender, number, payload: Payload { kind, class, added, withdrawn } } in messages {
         see((0, "messages.sender"), Place::Byte(sender));
         see((0, "messages.number"), Place::Byte(&mut number.0));
         see((0, "messages.kind"), Place::Byte(kind));
-        see((0, "messages.spare"), Place::Byte(spare));
+        see((0, "messages.class"), Place::Byte(&mut class.0));
         see((0, "messages.added"), Place::Short(added));
         see((0, "messages.withdrawn"), Place::Short(withdrawn));
     }
@@ -76,7 +77,7 @@ fn columns(t: &Table) -> Vec<Column> {
 /// The table from which a text gives the differences: what a field that it does not name holds is harmless, one that
 /// did not exist when the text was written included.
 pub fn plain_table() -> Table {
-    Table { n: 0, ..to_table(&State::fresh(7)) }
+    Table { n: 0, ..to_table(&State::fresh(1, 7)) }
 }
 
 fn field_name((c, name): Field) -> String {

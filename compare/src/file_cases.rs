@@ -1,18 +1,23 @@
 //! Random run files, whole and mangled, with a listing and scratch of every size, and calls on the last table.
 
 use crate::case::{Call, Case, Head};
-use crate::odd::{any_calls, any_scratch, as_calls, mangle};
+use crate::odd::{any_calls, any_event, any_scratch, any_version, as_calls, mangle};
 use crate::random::Random;
 use crate::records::file_of;
 use crate::reference::{run_file, State, LISTING, SCRATCH};
 use crate::runs::{drain, legal_run, Policy};
 
-pub fn random_file(random: &mut Random, events: usize) -> Vec<u8> {
+/// A legal file, and the state that it leaves.
+fn legal_file(random: &mut Random, version: usize, events: usize) -> (Vec<u8>, State) {
     let n = random.between(1, 7);
-    let mut state = State::fresh(n);
+    let mut state = State::fresh(version, n);
     let policy = Policy::random(random);
     let run = legal_run(random, &mut state, &policy, events);
-    file_of(n, &run)
+    (file_of(version, n, &run), state)
+}
+
+pub fn random_file(random: &mut Random, version: usize, events: usize) -> Vec<u8> {
+    legal_file(random, version, events).0
 }
 
 /// A listing that ends around a line's end.
@@ -30,8 +35,8 @@ fn any_listing(random: &mut Random, bytes: &[u8]) -> usize {
 
 /// A legal file with every kind of lent memory, and calls on its last table.
 pub fn file_limits(random: &mut Random) -> Case {
-    let events = random.pick(&[0, 3, 20, 100, 300]);
-    let bytes = random_file(random, events);
+    let (version, events) = (any_version(random), random.pick(&[0, 3, 20, 100, 300]));
+    let bytes = random_file(random, version, events);
     let listing = any_listing(random, &bytes);
     let scratch = any_scratch(random);
     let run = run_file(&bytes, &mut vec![0; listing], &mut vec![0; scratch]);
@@ -44,9 +49,14 @@ pub fn file_limits(random: &mut Random) -> Case {
 }
 
 pub fn file_mangled(random: &mut Random) -> Case {
-    let events = random.pick(&[3, 20, 100]);
-    let mut bytes = random_file(random, events);
-    for _ in 0..random.between(1, 2) {
+    let (version, events) = (any_version(random), random.pick(&[3, 20, 100]));
+    let (mut bytes, state) = legal_file(random, version, events);
+    // Half of the files end in a record at the boundaries of its questions, and may stay whole before it.
+    let odd = random.one_in(2);
+    if odd {
+        bytes.extend(any_event(random, &state, &Policy::even(3), 1));
+    }
+    for _ in usize::from(odd)..random.between(1, 2) {
         // One record is mangled, or any byte of the file.
         let at = random.below(bytes.len() + 1);
         let mut tail = bytes.split_off(at);
@@ -60,11 +70,13 @@ pub fn file_mangled(random: &mut Random) -> Case {
     Case { head: Head::File { bytes, listing, scratch: any_scratch(random) }, calls: vec![Call::Look(1)] }
 }
 
-/// Questions 1 to 3: sizes, versions and n around their limits.
+/// Questions 1 to 3: sizes, versions and n around their limits. The records may be of another version than the file.
 pub fn file_questions(random: &mut Random) -> Case {
-    let events = random.below(5);
-    let mut bytes = random_file(random, events);
-    bytes[0] = random.pick(&[0, 1, 1, 1, 1, 2, 255]);
+    let (version, events) = (any_version(random), random.below(5));
+    let mut bytes = random_file(random, version, events);
+    if random.one_in(2) {
+        bytes[0] = random.pick(&[0, 1, 2, 3, 4, 129, 130, 255]);
+    }
     if random.one_in(2) {
         bytes[1] = random.pick(&[0, 1, 7, 8, 9, 128, 255]);
     }

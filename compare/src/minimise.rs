@@ -54,10 +54,10 @@ impl Search<'_> {
     /// Leaves out one controller of a list from a fresh table; those above it move down by one.
     fn fewer_controllers(&mut self) {
         for gone in (1..=7).rev() {
-            let Head::Fresh(n) = self.case.head else { return };
+            let Head::Fresh { version, n } = self.case.head else { return };
             if (2..=7).contains(&n) && gone as usize <= n {
                 let calls = self.case.calls.iter().filter_map(|call| without_controller(call, gone)).collect();
-                self.keep(Case { head: Head::Fresh(n - 1), calls });
+                self.keep(Case { head: Head::Fresh { version, n: n - 1 }, calls });
             }
         }
     }

@@ -5,7 +5,7 @@ use crate::check::{demand3_failure, failure, kept_cases, report_and_exit, smalle
 use crate::engine::{Engine, Faulty, Library, Reference};
 use crate::reference::{self, State, LISTING, SCRATCH};
 use crate::{edges, faults, generate, minimise, subsets, tables};
-use furnacejade::{Answer, Controller, Table};
+use furnacejade::{Answer, Controller, Refusal, Table};
 use std::io::Write;
 use std::process::{exit, Command, Stdio};
 use std::time::Duration;
@@ -95,7 +95,7 @@ fn check_subsets(case: &Case) -> usize {
 fn first_state(case: &Case) -> Option<State> {
     let table = match &case.head {
         Head::Table(t) => (**t).clone(),
-        Head::Fresh(n) => tables::fresh(*n).table,
+        Head::Fresh { version, n } => tables::fresh(*version, *n).table,
         Head::File { .. } => return None,
     };
     tables::well_formed(&table).then(|| tables::to_state(&table))
@@ -154,11 +154,14 @@ fn keep_small(folder: &str, fault: usize, case: &Case, text: &str) {
     std::fs::write(format!("{folder}/{name}.txt"), format!("# {meaning}\n{small}")).expect("the folder");
 }
 
+/// Refusal numbers are below it.
+const NUMBERS: usize = Refusal::ALL.len();
+
 /// How often each answer came, by number and by the size of its set.
 struct Counts {
-    events: [usize; 17],
-    looks: [usize; 17],
-    files: [usize; 17],
+    events: [usize; NUMBERS],
+    looks: [usize; NUMBERS],
+    files: [usize; NUMBERS],
     sizes: [usize; 65],
     most_pending: usize,
     kept_pending: usize,
@@ -168,7 +171,7 @@ impl Counts {
     fn head(&mut self, head: &Head) -> Table {
         match head {
             Head::Table(t) => (**t).clone(),
-            Head::Fresh(n) => tables::fresh(*n).table,
+            Head::Fresh { version, n } => tables::fresh(*version, *n).table,
             Head::File { bytes, listing, scratch } => {
                 let run = tables::run(bytes, &mut vec![0; *listing], &mut vec![0; *scratch]);
                 self.files[run.number.number() as usize] += 1;
@@ -193,7 +196,7 @@ impl Counts {
 
 /// How often each answer came in N cases, to see what the cases reach.
 pub fn count(cases: usize, seed: u64) {
-    let zero = [0; 17];
+    let zero = [0; NUMBERS];
     let mut counts =
         Counts { events: zero, looks: zero, files: zero, sizes: [0; 65], most_pending: 0, kept_pending: 0 };
     for (_, case) in (0..cases).map(|index| generate::case(seed, index)) {

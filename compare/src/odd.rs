@@ -2,7 +2,7 @@
 
 use crate::case::Call;
 use crate::random::Random;
-use crate::records::{handover, report, stop, sync};
+use crate::records::{classed_report, handover, report, stop, sync};
 use crate::reference::{State, SCRATCH};
 use crate::runs::{follow, highest_read, legal_event, Policy};
 
@@ -25,6 +25,11 @@ pub fn any_number(random: &mut Random, n: usize) -> usize {
     }
 }
 
+/// Either version.
+pub fn any_version(random: &mut Random) -> usize {
+    random.between(1, 2)
+}
+
 fn odd_controller(random: &mut Random, n: usize) -> usize {
     match random.below(10) {
         0 => random.pick(&[0, n + 1, 255, 128]),
@@ -33,11 +38,20 @@ fn odd_controller(random: &mut Random, n: usize) -> usize {
     }
 }
 
+/// A report with fields at the boundaries of their questions, in most cases of the table's version.
+fn boundary_report(random: &mut Random, state: &State, c: usize) -> Vec<u8> {
+    let amount = random.pick(&[360, -360, 361, -361, 0, 1, -1, i16::MAX, i16::MIN, 256, 104]);
+    match (state.version, random.one_in(6)) {
+        (1, false) | (2, true) => report(c, amount),
+        _ => classed_report(c, amount, random.pick(&[0, 1, 2, 3, 4, 5, 6, 128, 255])),
+    }
+}
+
 /// A record with fields at the boundaries of their questions, several of which may say no.
 fn boundary_record(random: &mut Random, state: &State) -> Vec<u8> {
     let c = odd_controller(random, state.n);
     match random.below(4) {
-        0 => report(c, random.pick(&[360, -360, 361, -361, 0, 1, -1, i16::MAX, i16::MIN, 256, 104])),
+        0 => boundary_report(random, state, c),
         1 => sync(c),
         2 => handover(c, odd_controller(random, state.n)),
         _ => {

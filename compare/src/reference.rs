@@ -5,6 +5,8 @@ use std::collections::{BTreeMap, BTreeSet};
 
 pub const MAX_CONTROLLERS: usize = 7;
 pub const MAX_MESSAGES: usize = 64;
+/// The weight classes 1 to 4, and 0 for none.
+pub const CLASSES: usize = 5;
 pub const SCRATCH: usize = 4096;
 pub const LISTING: usize = 16_384;
 const MAJORITY: [usize; MAX_CONTROLLERS] = [1, 2, 2, 3, 3, 4, 4];
@@ -21,7 +23,7 @@ pub struct Name {
 
 #[derive(Clone, Copy, PartialEq, Eq, Debug)]
 pub enum Payload {
-    Report(i32),
+    Report { amount: i32, class: usize },
     Sync,
 }
 
@@ -49,6 +51,7 @@ pub struct Controller {
 /// Controller c stands at `controllers[c - 1]`; messages stand in the order sent.
 #[derive(Clone, PartialEq, Eq, Debug)]
 pub struct State {
+    pub version: usize,
     pub n: usize,
     pub messages: Vec<Message>,
     pub controllers: Vec<Controller>,
@@ -59,6 +62,13 @@ pub enum Event {
     Send { sender: usize, payload: Payload },
     Handover { receiver: usize, owner: usize },
     Stop { controller: usize, kept: usize },
+}
+
+/// What a panel shows: the total, and the total of each class.
+#[derive(Clone, PartialEq, Eq, Debug)]
+pub struct Shown {
+    pub total: i32,
+    pub classes: [i32; CLASSES],
 }
 
 /// The answer to an event. `finished` is the total that a finished sync answers.
@@ -97,10 +107,11 @@ fn kind_of(record: &[u8]) -> Result<u8, u8> {
     Ok(kind)
 }
 
-/// Questions 6 to 9 on the bytes of one record.
-fn decode(record: &[u8], n: usize) -> Result<Event, u8> {
+/// Questions 6 to 9 and 17 on the bytes of one record.
+fn decode(record: &[u8], version: usize, n: usize) -> Result<Event, u8> {
     let kind = kind_of(record)?;
     let length = match kind {
+        1 if version == 2 => 5,
         1 | 4 => 4,
         2 => 2,
         _ => 3,
@@ -112,13 +123,14 @@ fn decode(record: &[u8], n: usize) -> Result<Event, u8> {
     let event = match kind {
         1 => {
             let amount = i16::from_be_bytes([record[2], record[3]]) as i32;
-            Event::Send { sender: first, payload: Payload::Report(amount) }
+            let class = if version == 2 { record[4] as usize } else { 0 };
+            Event::Send { sender: first, payload: Payload::Report { amount, class } }
         }
         2 => Event::Send { sender: first, payload: Payload::Sync },
         3 => Event::Handover { receiver: first, owner: record[2] as usize },
         _ => Event::Stop { controller: first, kept: u16::from_be_bytes([record[2], record[3]]) as usize },
     };
-    first_no(&[(8, named(&event, n)), (9, fair(&event))])?;
+    first_no(&[(8, named(&event, n)), (9, fair(&event)), (17, classed(&event, version))])?;
     Ok(event)
 }
 
@@ -135,7 +147,15 @@ fn named(event: &Event, n: usize) -> bool {
 /// Question 9: is a report's amount from -360 to 360 and not 0?
 fn fair(event: &Event) -> bool {
     match *event {
-        Event::Send { payload: Payload::Report(amount), .. } => (-360..=360).contains(&amount) && amount != 0,
+        Event::Send { payload: Payload::Report { amount, .. }, .. } => (-360..=360).contains(&amount) && amount != 0,
+        _ => true,
+    }
+}
+
+/// Question 17: is the class of a report of version 2 from 1 to 4?
+fn classed(event: &Event, version: usize) -> bool {
+    match *event {
+        Event::Send { payload: Payload::Report { class, .. }, .. } if version == 2 => (1..=4).contains(&class),
         _ => true,
     }
 }
@@ -187,8 +207,8 @@ impl Controller {
 }
 
 impl State {
-    /// A fresh table of n controllers, n from 1 to 7.
-    pub fn fresh(n: usize) -> State {
+    /// A fresh table of version 1 or 2 and of n controllers, n from 1 to 7.
+    pub fn fresh(version: usize, n: usize) -> State {
         let controller = Controller {
             running: true,
             log: vec![],
@@ -197,7 +217,7 @@ impl State {
             applied: BTreeSet::new(),
             highest: vec![0; n],
         };
-        State { n, messages: vec![], controllers: vec![controller; n] }
+        State { version, n, messages: vec![], controllers: vec![controller; n] }
     }
 
     /// The payload of a message of the run.
@@ -207,20 +227,33 @@ impl State {
 
     fn amount(&self, name: &Name) -> i32 {
         match self.payload(name) {
-            Payload::Report(amount) => amount,
+            Payload::Report { amount, .. } => amount,
             Payload::Sync => 0,
         }
     }
 
-    /// The total of controller c: the sum of the amounts applied.
-    pub fn total(&self, c: usize) -> i32 {
-        self.controllers[c - 1].applied.iter().map(|x| self.amount(x)).sum()
+    fn class(&self, name: &Name) -> usize {
+        match self.payload(name) {
+            Payload::Report { class, .. } => class,
+            Payload::Sync => 0,
+        }
     }
 
-    /// A panel look: question 8, then the total.
-    pub fn look(&self, c: usize) -> Result<i32, u8> {
+    /// The sum of the amounts that controller c has applied, over the messages that count.
+    fn sum(&self, c: usize, counts: impl Fn(&Name) -> bool) -> i32 {
+        self.controllers[c - 1].applied.iter().filter(|x| counts(x)).map(|x| self.amount(x)).sum()
+    }
+
+    /// The total of controller c: the sum of the amounts applied.
+    pub fn total(&self, c: usize) -> i32 {
+        self.sum(c, |_| true)
+    }
+
+    /// A panel look: question 8, then the total, and that of each class.
+    pub fn look(&self, c: usize) -> Result<Shown, u8> {
         first_no(&[(8, (1..=self.n).contains(&c))])?;
-        Ok(self.total(c))
+        let classes = std::array::from_fn(|class| self.sum(c, |x| self.class(x) == class));
+        Ok(Shown { total: self.total(c), classes })
     }
 
     /// Questions 10 to 15 in order, with their answers.
@@ -245,10 +278,10 @@ impl State {
         asked
     }
 
-    /// Questions 5 to 15: the event, and the bytes behind its record.
+    /// Questions 5 to 15 and 17: the event, and the bytes behind its record.
     fn accept<'a>(&self, bytes: &'a [u8], scratch: usize) -> Result<(Event, &'a [u8]), u8> {
         let (record, rest) = cut(bytes)?;
-        let event = decode(record, self.n)?;
+        let event = decode(record, self.version, self.n)?;
         first_no(&self.questions(&event, scratch))?;
         Ok((event, rest))
     }
@@ -339,17 +372,17 @@ pub struct Run {
     pub state: Option<State>,
 }
 
-/// Questions 1 to 3: the number of controllers.
-fn open(bytes: &[u8]) -> Result<usize, u8> {
+/// Questions 1 to 3: the version and the number of controllers.
+fn open(bytes: &[u8]) -> Result<(usize, usize), u8> {
     first_no(&[(1, (2..=65_535).contains(&bytes.len()))])?;
-    first_no(&[(2, bytes[0] == 1)])?;
-    question_3(bytes[1] as usize)?;
-    Ok(bytes[1] as usize)
+    let (version, n) = (bytes[0] as usize, bytes[1] as usize);
+    questions_2_and_3(version, n)?;
+    Ok((version, n))
 }
 
-/// Question 3, put to files and to requests for a fresh table.
-pub fn question_3(n: usize) -> Result<(), u8> {
-    first_no(&[(3, (1..=MAX_CONTROLLERS).contains(&n))])
+/// Questions 2 and 3, put to files and to requests for a fresh table.
+pub fn questions_2_and_3(version: usize, n: usize) -> Result<(), u8> {
+    first_no(&[(2, (1..=2).contains(&version)), (3, (1..=MAX_CONTROLLERS).contains(&n))])
 }
 
 /// What an event adds to the listing: a line if it applied a set, with the event's number, the controller, its total
@@ -362,11 +395,11 @@ fn line(number: usize, event: &Event, answer: &Answer, after: &State) -> Vec<u8>
 
 /// A file run: records up to the end or the first refusal, lines into the listing.
 pub fn run_file(bytes: &[u8], listing: &mut [u8], scratch: &mut [u8]) -> Run {
-    let n = match open(bytes) {
-        Ok(n) => n,
+    let (version, n) = match open(bytes) {
+        Ok(head) => head,
         Err(number) => return Run { number, events: 0, written: 0, state: None },
     };
-    let mut state = State::fresh(n);
+    let mut state = State::fresh(version, n);
     let (mut events, mut written, mut rest) = (0, 0, &bytes[2..]);
     while !rest.is_empty() {
         let (event, behind) = match state.accept(rest, scratch.len()) {

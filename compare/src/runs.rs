@@ -1,7 +1,7 @@
 //! Legal runs: events that are accepted, chosen at random, with the reference's state beside them.
 
 use crate::random::Random;
-use crate::records::{handover, report, stop, sync};
+use crate::records::{classed_report, handover, report, stop, sync};
 use crate::reference::{State, MAX_MESSAGES, SCRATCH};
 
 /// How a run goes: one event in `send` is a send, one in `stop` a stop, and each pair of receiver and log owner
@@ -49,6 +49,14 @@ fn any_amount(random: &mut Random) -> i16 {
     }
 }
 
+fn legal_report(random: &mut Random, state: &State, sender: usize) -> Vec<u8> {
+    let amount = any_amount(random);
+    match state.version {
+        2 => classed_report(sender, amount, random.between(1, 4) as u8),
+        _ => report(sender, amount),
+    }
+}
+
 fn legal_send(random: &mut Random, state: &State) -> Option<Vec<u8>> {
     let may = |c: &usize| !state.controllers[c - 1].pending.keys().any(|name| name.sender == *c);
     let senders: Vec<usize> = running(state).into_iter().filter(may).collect();
@@ -56,7 +64,7 @@ fn legal_send(random: &mut Random, state: &State) -> Option<Vec<u8>> {
         return None;
     }
     let sender = random.pick(&senders);
-    Some(if random.one_in(4) { sync(sender) } else { report(sender, any_amount(random)) })
+    Some(if random.one_in(4) { sync(sender) } else { legal_report(random, state, sender) })
 }
 
 fn legal_handover(random: &mut Random, state: &State, policy: &Policy) -> Option<Vec<u8>> {

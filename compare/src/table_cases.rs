@@ -2,12 +2,12 @@
 //! with a few bytes changed; and random bytes.
 
 use crate::case::{Call, Case, Head};
-use crate::odd::{any_calls, any_event, any_number, any_scratch};
+use crate::odd::{any_calls, any_event, any_number, any_scratch, any_version};
 use crate::random::Random;
 use crate::reference::State;
 use crate::runs::Policy;
 use crate::tables::{to_state, well_formed};
-use furnacejade::{Controller, ForwardNumber, Message, MessageNumber, Payload, Table};
+use furnacejade::{Class, Controller, ForwardNumber, Message, MessageNumber, Payload, Table};
 
 const ABSENT: ForwardNumber = ForwardNumber::ABSENT;
 
@@ -85,7 +85,15 @@ fn set_marks(random: &mut Random, c: &mut Controller, count: usize) {
     }
 }
 
-/// The names of the messages, or nothing if a running log is too short for its sender's numbers.
+/// A class that a report of a version may have.
+pub fn fair_class(random: &mut Random, version: usize) -> Class {
+    match version {
+        2 => random.pick(&Class::ALL),
+        _ => Class::NONE,
+    }
+}
+
+/// The messages, or nothing if a running log is too short for its sender's numbers.
 fn set_messages(random: &mut Random, t: &mut Table) -> Option<()> {
     let mut names = vec![];
     for sender in 1..=t.n {
@@ -97,11 +105,11 @@ fn set_messages(random: &mut Random, t: &mut Table) -> Option<()> {
     for slot in 0..t.count {
         let (sender, number) = *names.get(slot)?;
         let magnitude = random.pick(&[1, 360, 359, 7]);
-        let junk = Payload { spare: random.byte(), ..Payload::BLANK };
+        let report = Payload { kind: 1, class: fair_class(random, t.version), ..Payload::BLANK };
         let payload = match random.below(3) {
-            0 => Payload { kind: 2, ..junk },
-            1 => Payload { kind: 1, added: magnitude, ..junk },
-            _ => Payload { kind: 1, withdrawn: magnitude, ..junk },
+            0 => Payload { kind: 2, ..Payload::BLANK },
+            1 => Payload { added: magnitude, ..report },
+            _ => Payload { withdrawn: magnitude, ..report },
         };
         t.messages[slot] = Message { sender, number: MessageNumber(number), payload };
     }
@@ -112,7 +120,7 @@ fn set_messages(random: &mut Random, t: &mut Table) -> Option<()> {
 pub fn good_table(random: &mut Random, n: usize, count: usize) -> Table {
     loop {
         let mut t = junk_table(random);
-        (t.n, t.count) = (n, count);
+        (t.version, t.n, t.count) = (any_version(random), n, count);
         let (stopped, share, held) =
             (random.pick(&[2, 5, 50]), random.pick(&[0, 1, 5, 9, 10]), random.pick(&[1, 5, 9, 10]));
         for c in &mut t.controllers[..n] {
@@ -162,7 +170,7 @@ pub fn table_good(random: &mut Random) -> Case {
 
 /// Calls on a table of which nothing is known.
 pub fn blind_calls(random: &mut Random, t: &Table) -> Vec<Call> {
-    let state = if well_formed(t) { to_state(t) } else { State::fresh(t.n.clamp(1, 7)) };
+    let state = if well_formed(t) { to_state(t) } else { State::fresh(t.version.clamp(1, 2), t.n.clamp(1, 7)) };
     let bytes = any_event(random, &state, &Policy::even(3), 3);
     vec![Call::Event { bytes, scratch: any_scratch(random) }, Call::Look(any_number(random, state.n))]
 }
@@ -181,7 +189,7 @@ pub fn table_flipped(random: &mut Random) -> Case {
 pub fn table_random(random: &mut Random) -> Case {
     let mut t = junk_table(random);
     if random.one_in(2) {
-        (t.n, t.count) = (random.between(1, 7), random.pick(&[0, 0, 1, 64]));
+        (t.version, t.n, t.count) = (any_version(random), random.between(1, 7), random.pick(&[0, 0, 1, 64]));
     }
     Case { calls: blind_calls(random, &t), head: Head::Table(Box::new(t)) }
 }

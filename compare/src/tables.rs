@@ -1,9 +1,9 @@
 //! The reference over the table as it lies in memory: question 4, a table as a state and back, the calls.
 //! Like `reference.rs`, plain text that the faults edit a copy of.
 
-use super::reference::{self, Payload as Kind, State, MAX_CONTROLLERS, MAX_MESSAGES};
+use super::reference::{self, Payload as Kind, Shown, State, MAX_CONTROLLERS, MAX_MESSAGES};
 use furnacejade::{Answer, FreshAnswer, LookAnswer, Panel, Refusal, RunAnswer, Table};
-use furnacejade::{Controller, ForwardNumber, Message, MessageNumber, Name, Payload, Pending};
+use furnacejade::{Class, Controller, ForwardNumber, Message, MessageNumber, Name, Payload, Pending};
 use std::collections::BTreeMap;
 
 const ABSENT: ForwardNumber = ForwardNumber(255);
@@ -14,10 +14,11 @@ const SYNC: u8 = 2;
 
 /// Question 4, clause by clause. What no clause names is neither tested nor used.
 pub fn well_formed(t: &Table) -> bool {
-    (1..=MAX_CONTROLLERS).contains(&t.n)
+    (1..=2).contains(&t.version)
+        && (1..=MAX_CONTROLLERS).contains(&t.n)
         && t.count <= MAX_MESSAGES
         && distinct_names(&t.messages[..t.count])
-        && t.messages[..t.count].iter().all(|m| well_formed_message(t.n, m))
+        && t.messages[..t.count].iter().all(|m| well_formed_message(t.version, t.n, m))
         && (1..=t.n).all(|c| well_formed_controller(t, c))
 }
 
@@ -27,14 +28,19 @@ fn distinct_names(messages: &[Message]) -> bool {
     names.windows(2).all(|pair| pair[0] != pair[1])
 }
 
-fn well_formed_message(n: usize, m: &Message) -> bool {
+fn well_formed_message(version: usize, n: usize, m: &Message) -> bool {
     let (added, withdrawn) = (m.payload.added, m.payload.withdrawn);
     let fair = match m.payload.kind {
         REPORT => (added == 0) != (withdrawn == 0) && added.max(withdrawn) <= 360,
         SYNC => added == 0 && withdrawn == 0,
         _ => false,
     };
-    (1..=n).contains(&(m.sender as usize)) && (1..=64).contains(&m.number.0) && fair
+    let class = m.payload.class.0;
+    let class_fits = match m.payload.kind {
+        REPORT if version == 2 => (1..=4).contains(&class),
+        _ => class == 0,
+    };
+    (1..=n).contains(&(m.sender as usize)) && (1..=64).contains(&m.number.0) && fair && class_fits
 }
 
 /// A set of slots, one bit for each.
@@ -96,7 +102,8 @@ fn name_of(m: &Message) -> reference::Name {
 
 fn message_of(m: &Message) -> reference::Message {
     let amount = m.payload.added as i32 - m.payload.withdrawn as i32;
-    let payload = if m.payload.kind == SYNC { Kind::Sync } else { Kind::Report(amount) };
+    let class = m.payload.class.0 as usize;
+    let payload = if m.payload.kind == SYNC { Kind::Sync } else { Kind::Report { amount, class } };
     reference::Message { name: name_of(m), payload }
 }
 
@@ -116,6 +123,7 @@ fn controller_of(t: &Table, c: &Controller) -> reference::Controller {
 /// The state that a well-formed table stands for.
 pub fn to_state(t: &Table) -> State {
     State {
+        version: t.version,
         n: t.n,
         messages: t.messages[..t.count].iter().map(message_of).collect(),
         controllers: t.controllers[..t.n].iter().map(|c| controller_of(t, c)).collect(),
@@ -124,9 +132,9 @@ pub fn to_state(t: &Table) -> State {
 
 fn store_message(m: &reference::Message) -> Message {
     let payload = match m.payload {
-        Kind::Report(amount) => {
+        Kind::Report { amount, class } => {
             let (added, withdrawn) = (amount.max(0) as u16, (-amount).max(0) as u16);
-            Payload { kind: REPORT, added, withdrawn, ..Payload::BLANK }
+            Payload { kind: REPORT, class: Class(class as u8), added, withdrawn }
         }
         Kind::Sync => Payload { kind: SYNC, ..Payload::BLANK },
     };
@@ -157,7 +165,7 @@ pub fn store(state: &State, t: &mut Table) {
     for slot in t.count..state.messages.len() {
         t.messages[slot] = store_message(&state.messages[slot]);
     }
-    (t.n, t.count) = (state.n, state.messages.len());
+    (t.version, t.n, t.count) = (state.version, state.n, state.messages.len());
     let slots = state.messages.iter().enumerate().map(|(slot, m)| (m.name, slot)).collect();
     for (to, from) in t.controllers.iter_mut().zip(&state.controllers) {
         store_controller(from, &slots, to);
@@ -178,7 +186,7 @@ pub fn to_table(state: &State) -> Table {
 /// tables mean the same exactly if these are equal.
 pub fn meaning(t: &Table) -> Table {
     let mut plain = Table::BLANK;
-    (plain.n, plain.count) = (t.n, t.count);
+    (plain.version, plain.n, plain.count) = (t.version, t.n, t.count);
     plain.messages[..t.count].copy_from_slice(&t.messages[..t.count]);
     for (to, from) in plain.controllers.iter_mut().zip(&t.controllers[..t.n]) {
         to.running = (from.running != 0) as u8;
@@ -210,7 +218,7 @@ pub fn event(t: &mut Table, bytes: &[u8], scratch: &mut [u8], answer: &mut Answe
     if given.number == 0 {
         store(&state, t);
         answer.finished = given.finished.is_some() as u8;
-        answer.panel = Panel { total: given.finished.unwrap_or(0) };
+        answer.total = given.finished.unwrap_or(0);
         answer.size = given.set.len();
         for (to, x) in answer.names.iter_mut().zip(&given.set) {
             *to = Name { sender: x.sender as u8, number: MessageNumber(x.number as u8) };
@@ -222,14 +230,14 @@ pub fn event(t: &mut Table, bytes: &[u8], scratch: &mut [u8], answer: &mut Answe
 pub fn look(t: &Table, c: usize) -> LookAnswer {
     let shown = if well_formed(t) { to_state(t).look(c) } else { Err(4) };
     match shown {
-        Ok(total) => LookAnswer { number: Refusal::from(0), panel: Panel { total } },
-        Err(number) => LookAnswer { number: Refusal::from(number), panel: Panel { total: 0 } },
+        Ok(Shown { total, classes }) => LookAnswer { number: Refusal::from(0), panel: Panel { total, classes } },
+        Err(number) => LookAnswer { number: Refusal::from(number), panel: Panel::BLANK },
     }
 }
 
-pub fn fresh(n: usize) -> FreshAnswer {
-    match reference::question_3(n) {
-        Ok(()) => FreshAnswer { number: Refusal::from(0), table: to_table(&State::fresh(n)) },
+pub fn fresh(version: usize, n: usize) -> FreshAnswer {
+    match reference::questions_2_and_3(version, n) {
+        Ok(()) => FreshAnswer { number: Refusal::from(0), table: to_table(&State::fresh(version, n)) },
         Err(number) => FreshAnswer { number: Refusal::from(number), table: Table::BLANK },
     }
 }

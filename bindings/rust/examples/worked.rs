@@ -1,13 +1,30 @@
-//! Plays the worked run of README.md event by event, and looks at every panel after each event.
+//! Plays a run file, read from standard input, event by event, and looks at every panel after each; of a file of version
+//! 2 it prints in the end what each panel shows of each class. `bindings/worked.run` and `bindings/classes.run` are the
+//! runs of docs/RULES.md, sections 19 and 25.
 
-use furnacejade::{event, fresh, look, Refusal, SCRATCH};
+use furnacejade::{event, fresh, look, Class, Table, SCRATCH};
+use std::error::Error;
+use std::io::Read;
 
-const RUN: &[u8] = include_bytes!("../../worked.run");
+fn print_classes(table: &Table) -> Result<(), Box<dyn Error>> {
+    for c in 1..=table.n {
+        let panel = look(table, c)?;
+        print!("panel {c}: {}", panel.total);
+        for class in Class::ALL {
+            print!(", {class} {}", panel.of(class).unwrap_or_default());
+        }
+        println!();
+    }
+    Ok(())
+}
 
-fn main() -> Result<(), Refusal> {
-    let mut table = fresh(RUN[1] as usize)?;
+fn main() -> Result<(), Box<dyn Error>> {
+    let mut run = vec![];
+    std::io::stdin().read_to_end(&mut run)?;
+    let [version, n, records @ ..] = &run[..] else { return Err("a run file has two bytes or more".into()) };
+    let mut table = fresh(*version as usize, *n as usize)?;
     let mut scratch = [0; SCRATCH];
-    let mut rest = &RUN[2..];
+    let mut rest = records;
     let mut number = 0;
     while !rest.is_empty() {
         let (answer, left) = event(&mut table, rest, &mut scratch)?;
@@ -22,6 +39,9 @@ fn main() -> Result<(), Refusal> {
             print!(" {}", look(&table, c)?.total);
         }
         println!();
+    }
+    if table.version == 2 {
+        print_classes(&table)?;
     }
     Ok(())
 }

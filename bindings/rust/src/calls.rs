@@ -14,7 +14,7 @@ extern "C" {
         answer: *mut Answer,
     ) -> usize;
     fn furnacejade_look(t: *const Table, c: usize, answer: *mut LookAnswer);
-    fn furnacejade_fresh(n: usize, answer: *mut FreshAnswer);
+    fn furnacejade_fresh(version: usize, n: usize, answer: *mut FreshAnswer);
     fn furnacejade_run(
         bytes: *const u8,
         bytes_length: usize,
@@ -37,9 +37,9 @@ pub fn look(table: &Table, controller: usize, answer: &mut LookAnswer) {
     unsafe { furnacejade_look(table, controller, answer) }
 }
 
-/// A fresh table of n controllers, 1 to 7.
-pub fn fresh(n: usize, answer: &mut FreshAnswer) {
-    unsafe { furnacejade_fresh(n, answer) }
+/// A fresh table of a version, 1 or 2, and of n controllers, 1 to 7.
+pub fn fresh(version: usize, n: usize, answer: &mut FreshAnswer) {
+    unsafe { furnacejade_fresh(version, n, answer) }
 }
 
 /// The run of a whole file. Its lines are written into the listing from the start on.

@@ -10,6 +10,9 @@ pub const CONTROLLERS: usize = 7;
 /// A run has at most so many messages.
 pub const MESSAGES: usize = 64;
 
+/// A panel shows so many class totals, that of [`Class::NONE`] among them.
+pub const CLASSES: usize = 5;
+
 /// An event asks for so many bytes of scratch.
 pub const SCRATCH: usize = 4096;
 
@@ -23,14 +26,19 @@ pub struct ForwardNumber(pub u8);
 #[derive(Clone, Copy, Debug, PartialEq, Eq, PartialOrd, Ord, Hash)]
 pub struct MessageNumber(pub u8);
 
+/// The weight class of a report's eggs. Its text is its name.
+#[repr(C)]
+#[derive(Clone, Copy, Debug, PartialEq, Eq, PartialOrd, Ord, Hash)]
+pub struct Class(pub u8);
+
 /// What a message says.
 #[repr(C)]
 #[derive(Clone, Copy, Debug, PartialEq, Eq, Hash)]
 pub struct Payload {
     /// [`Payload::REPORT`] or [`Payload::SYNC`].
     pub kind: u8,
-    /// Written 0, neither tested nor used.
-    pub spare: u8,
+    /// [`Class::XL`] to [`Class::S`] if it is a report of version 2, else [`Class::NONE`].
+    pub class: Class,
     /// The amount if it is positive, else 0.
     pub added: u16,
     /// The magnitude of the amount if it is negative, else 0.
@@ -94,6 +102,8 @@ pub struct Controller {
 #[repr(C)]
 #[derive(Clone, Debug, PartialEq, Eq, Hash)]
 pub struct Table {
+    /// The version in which its records are read: 1, or 2 if reports name a class.
+    pub version: usize,
     /// How many controllers the run has.
     pub n: usize,
     /// How many messages were sent.
@@ -110,6 +120,8 @@ pub struct Table {
 pub struct Panel {
     /// The sum of the amounts applied.
     pub total: i32,
+    /// That of each class, from [`Class::NONE`] on; they add up to the total.
+    pub classes: [i32; CLASSES],
 }
 
 /// What an event answers.
@@ -120,8 +132,8 @@ pub struct Answer {
     pub number: Refusal,
     /// Whether a sync of the receiver's own is in the set applied: 1 if so, else 0.
     pub finished: u8,
-    /// Then that sync's answer, the panel after the set; else blank.
-    pub panel: Panel,
+    /// Then that sync's answer, the total after the set; else 0.
+    pub total: i32,
     /// How many messages the set has.
     pub size: usize,
     /// Their names, by sender and then number; blank behind them.
@@ -172,6 +184,39 @@ impl MessageNumber {
     pub const NONE: MessageNumber = MessageNumber(0);
 }
 
+impl Class {
+    /// No class: that of a report of version 1, and of every sync.
+    pub const NONE: Class = Class(0);
+
+    /// Very large eggs.
+    pub const XL: Class = Class(1);
+
+    /// Large eggs.
+    pub const L: Class = Class(2);
+
+    /// Medium eggs.
+    pub const M: Class = Class(3);
+
+    /// Small eggs.
+    pub const S: Class = Class(4);
+
+    /// The classes that a report of version 2 may name.
+    pub const ALL: [Class; CLASSES - 1] = [Class::XL, Class::L, Class::M, Class::S];
+}
+
+impl Display for Class {
+    fn fmt(&self, f: &mut Formatter<'_>) -> std::fmt::Result {
+        match *self {
+            Class::NONE => f.write_str("none"),
+            Class::XL => f.write_str("XL"),
+            Class::L => f.write_str("L"),
+            Class::M => f.write_str("M"),
+            Class::S => f.write_str("S"),
+            Class(number) => write!(f, "no class has the number {number}"),
+        }
+    }
+}
+
 impl Payload {
     /// The kind of a report, which has an amount.
     pub const REPORT: u8 = 1;
@@ -180,7 +225,7 @@ impl Payload {
     pub const SYNC: u8 = 2;
 
     /// Every field zero.
-    pub const BLANK: Payload = Payload { kind: 0, spare: 0, added: 0, withdrawn: 0 };
+    pub const BLANK: Payload = Payload { kind: 0, class: Class::NONE, added: 0, withdrawn: 0 };
 }
 
 impl Message {
@@ -219,14 +264,19 @@ impl Controller {
 
 impl Table {
     /// Every field zero: the table of a refused answer, which is not well formed.
-    pub const BLANK: Table =
-        Table { n: 0, count: 0, messages: [Message::BLANK; MESSAGES], controllers: [Controller::BLANK; CONTROLLERS] };
+    pub const BLANK: Table = Table {
+        version: 0,
+        n: 0,
+        count: 0,
+        messages: [Message::BLANK; MESSAGES],
+        controllers: [Controller::BLANK; CONTROLLERS],
+    };
 
     /// The table as it lies in memory, to be saved, sent to a machine of the same kind, or compared.
     ///
     /// ```
     /// use furnacejade::{fresh, Table};
-    /// let table = fresh(3).unwrap();
+    /// let table = fresh(1, 3).unwrap();
     /// assert_eq!(Table::from_bytes(table.as_bytes()), table);
     /// ```
     pub fn as_bytes(&self) -> &[u8; size_of::<Table>()] {
@@ -243,22 +293,33 @@ impl Table {
 
 impl Panel {
     /// Every field zero.
-    pub const BLANK: Panel = Panel { total: 0 };
+    pub const BLANK: Panel = Panel { total: 0, classes: [0; CLASSES] };
+
+    /// The total of a class, unless there is no such class.
+    ///
+    /// ```
+    /// use furnacejade::{Class, Panel};
+    /// let panel = Panel { total: 28, classes: [0, 30, -2, 0, 0] };
+    /// assert_eq!((panel.of(Class::XL), panel.of(Class::L), panel.of(Class(5))), (Some(30), Some(-2), None));
+    /// ```
+    pub fn of(&self, class: Class) -> Option<i32> {
+        self.classes.get(class.0 as usize).copied()
+    }
 }
 
 impl Answer {
     /// Every field zero: a place for an answer.
     pub const BLANK: Answer =
-        Answer { number: Refusal::ACCEPTED, finished: 0, panel: Panel::BLANK, size: 0, names: [Name::BLANK; MESSAGES] };
+        Answer { number: Refusal::ACCEPTED, finished: 0, total: 0, size: 0, names: [Name::BLANK; MESSAGES] };
 
     /// The set applied, by sender and then number.
     pub fn applied(&self) -> &[Name] {
         &self.names[..self.size]
     }
 
-    /// The answer of a sync that the event finished at its sender.
-    pub fn sync_answer(&self) -> Option<&Panel> {
-        (self.finished != 0).then_some(&self.panel)
+    /// The answer of a sync that the event finished at its sender: the total after the set.
+    pub fn sync_answer(&self) -> Option<i32> {
+        (self.finished != 0).then_some(self.total)
     }
 }
 
@@ -295,15 +356,16 @@ macro_rules! layout {
 // The layouts that the library was compiled with. A table, and every struct inside one, is its fields and nothing more.
 layout!(ForwardNumber, 1 bytes, 0 of padding: 0 at 0);
 layout!(MessageNumber, 1 bytes, 0 of padding: 0 at 0);
-layout!(Payload, 6 bytes, 0 of padding: kind at 0, spare at 1, added at 2, withdrawn at 4);
+layout!(Class, 1 bytes, 0 of padding: 0 at 0);
+layout!(Payload, 6 bytes, 0 of padding: kind at 0, class at 1, added at 2, withdrawn at 4);
 layout!(Message, 8 bytes, 0 of padding: sender at 0, number at 1, payload at 2);
 layout!(Name, 2 bytes, 0 of padding: sender at 0, number at 1);
 layout!(Pending, 8 bytes, 0 of padding: held at 0, marks at 1);
 layout!(Controller, 712 bytes, 0 of padding: length at 0, log at 8, read at 72, pending at 128, applied at 640,
     highest at 704, running at 711);
-layout!(Table, 5512 bytes, 0 of padding: n at 0, count at 8, messages at 16, controllers at 528);
-layout!(Panel, 4 bytes, 0 of padding: total at 0);
-layout!(Answer, 144 bytes, 2 of padding: number at 0, finished at 1, panel at 4, size at 8, names at 16);
-layout!(FreshAnswer, 5520 bytes, 7 of padding: number at 0, table at 8);
-layout!(LookAnswer, 8 bytes, 3 of padding: number at 0, panel at 4);
-layout!(RunAnswer, 5536 bytes, 7 of padding: number at 0, events at 8, written at 16, table at 24);
+layout!(Table, 5520 bytes, 0 of padding: version at 0, n at 8, count at 16, messages at 24, controllers at 536);
+layout!(Panel, 24 bytes, 0 of padding: total at 0, classes at 4);
+layout!(Answer, 144 bytes, 2 of padding: number at 0, finished at 1, total at 4, size at 8, names at 16);
+layout!(FreshAnswer, 5528 bytes, 7 of padding: number at 0, table at 8);
+layout!(LookAnswer, 28 bytes, 3 of padding: number at 0, panel at 4);
+layout!(RunAnswer, 5544 bytes, 7 of padding: number at 0, events at 8, written at 16, table at 24);

@@ -8,7 +8,7 @@
 //! use furnacejade::{event, fresh, look, Record, Refusal, SCRATCH};
 //!
 //! # fn main() -> Result<(), Refusal> {
-//! let mut table = fresh(2)?;
+//! let mut table = fresh(1, 2)?;
 //! let mut scratch = [0; SCRATCH];
 //! let mut play = |record: Record| event(&mut table, &record.bytes(), &mut scratch).map(|(answer, _)| answer);
 //!
@@ -30,16 +30,25 @@
 //! # }
 //! ```
 //!
-//! A whole file goes through [`run`]:
+//! In tables and files of version 2 each report names a weight class, and a panel shows a total of each. A whole file goes
+//! through [`run`]:
 //!
 //! ```
-//! use furnacejade::{file_of, run, Record, Refusal, SCRATCH};
+//! use furnacejade::{file_of, look, run, Class, Record, Refusal, SCRATCH};
 //!
-//! let records = [Record::Report { sender: 1, amount: -7 }, Record::Handover { receiver: 1, owner: 1 }];
+//! # fn main() -> Result<(), Refusal> {
+//! let handover = Record::Handover { receiver: 1, owner: 1 };
+//! let report = |amount, class| Record::ClassedReport { sender: 1, amount, class };
+//! let records = [report(12, Class::L), handover, report(-7, Class::S), handover];
 //! let (mut listing, mut scratch) = ([0; 64], [0; SCRATCH]);
-//! let answer = run(&file_of(1, &records), &mut listing, &mut scratch);
-//! assert_eq!((answer.number, answer.events), (Refusal::ACCEPTED, 2));
-//! assert_eq!(&listing[..answer.written], b"2 1 -7 1.1\n");
+//! let answer = run(&file_of(2, 1, &records), &mut listing, &mut scratch);
+//! assert_eq!((answer.number, answer.events), (Refusal::ACCEPTED, 4));
+//! assert_eq!(&listing[..answer.written], b"2 1 12 1.1\n4 1 5 1.2\n");
+//!
+//! let panel = look(&answer.table, 1)?;
+//! assert_eq!(Class::ALL.map(|class| panel.of(class)), [Some(0), Some(12), Some(0), Some(-7)]);
+//! # Ok(())
+//! # }
 //! ```
 
 pub mod calls;
@@ -48,22 +57,22 @@ mod record;
 mod refusal;
 
 pub use layout::{
-    Answer, Controller, ForwardNumber, FreshAnswer, LookAnswer, Message, MessageNumber, Name, Panel, Payload, Pending,
-    RunAnswer, Table, CONTROLLERS, MESSAGES, SCRATCH,
+    Answer, Class, Controller, ForwardNumber, FreshAnswer, LookAnswer, Message, MessageNumber, Name, Panel, Payload,
+    Pending, RunAnswer, Table, CLASSES, CONTROLLERS, MESSAGES, SCRATCH,
 };
 pub use record::{file_of, Record};
 pub use refusal::Refusal;
 
-/// A fresh table of n controllers, 1 to 7.
-pub fn fresh(n: usize) -> Result<Table, Refusal> {
+/// A fresh table of n controllers, 1 to 7. Its version, 1 or 2, says whether its reports name a class, and stays.
+pub fn fresh(version: usize, n: usize) -> Result<Table, Refusal> {
     let mut answer = FreshAnswer::BLANK;
-    calls::fresh(n, &mut answer);
+    calls::fresh(version, n, &mut answer);
     answer.number.check()?;
     Ok(answer.table)
 }
 
 /// Carries out the record with which the bytes begin: the set applied and a finished sync's answer, and the part of the
-/// bytes that is unread. It needs [`SCRATCH`] bytes of scratch, and leaves them zero. A refused event leaves table and
+/// bytes that is unread. The table's version says whether a report has a class byte. It needs [`SCRATCH`] bytes of scratch, and leaves them zero. A refused event leaves table and
 /// scratch as they were.
 pub fn event<'a>(table: &mut Table, bytes: &'a [u8], scratch: &mut [u8]) -> Result<(Answer, &'a [u8]), Refusal> {
     let mut answer = Answer::BLANK;
@@ -72,7 +81,7 @@ pub fn event<'a>(table: &mut Table, bytes: &'a [u8], scratch: &mut [u8]) -> Resu
     Ok((answer, &bytes[bytes.len() - left..]))
 }
 
-/// What the panel of a controller shows, 1 to n, running or stopped.
+/// What the panel of a controller shows, 1 to n, running or stopped: the total, and that of each class.
 pub fn look(table: &Table, controller: usize) -> Result<Panel, Refusal> {
     let mut answer = LookAnswer::BLANK;
     calls::look(table, controller, &mut answer);

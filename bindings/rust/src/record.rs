@@ -1,17 +1,25 @@
 //! The records of a run file, as types that write their own bytes.
 
-/// The version of run files, their first byte.
-const VERSION: u8 = 1;
+use crate::Class;
 
 /// One event. Its fields may hold anything: the engine answers a record that it cannot carry out with a refusal.
 #[derive(Clone, Copy, Debug, PartialEq, Eq, Hash)]
 pub enum Record {
-    /// A sender reports an amount of eggs, -360 to 360 and not 0.
+    /// A sender reports an amount of eggs, -360 to 360 and not 0, in version 1.
     Report {
         /// The controller that sends it.
         sender: u8,
         /// What it adds, or withdraws if negative.
         amount: i16,
+    },
+    /// A sender reports an amount of eggs of one weight class, in version 2.
+    ClassedReport {
+        /// The controller that sends it.
+        sender: u8,
+        /// What it adds, or withdraws if negative.
+        amount: i16,
+        /// What the eggs weigh, [`Class::XL`] to [`Class::S`].
+        class: Class,
     },
     /// A sender asks for the total after everything that is under way before this message.
     Sync {
@@ -38,8 +46,9 @@ impl Record {
     /// The bytes of the record: how many bytes follow, the kind, the fields.
     ///
     /// ```
-    /// use furnacejade::Record;
+    /// use furnacejade::{Class, Record};
     /// assert_eq!(Record::Report { sender: 3, amount: -2 }.bytes(), [4, 1, 3, 0xFF, 0xFE]);
+    /// assert_eq!(Record::ClassedReport { sender: 3, amount: -2, class: Class::M }.bytes(), [5, 1, 3, 0xFF, 0xFE, 3]);
     /// assert_eq!(Record::Handover { receiver: 2, owner: 1 }.bytes(), [3, 3, 2, 1]);
     /// ```
     pub fn bytes(&self) -> Vec<u8> {
@@ -47,6 +56,10 @@ impl Record {
             Record::Report { sender, amount } => {
                 let [high, low] = amount.to_be_bytes();
                 vec![4, 1, sender, high, low]
+            }
+            Record::ClassedReport { sender, amount, class } => {
+                let [high, low] = amount.to_be_bytes();
+                vec![5, 1, sender, high, low, class.0]
             }
             Record::Sync { sender } => vec![2, 2, sender],
             Record::Handover { receiver, owner } => vec![3, 3, receiver, owner],
@@ -58,14 +71,14 @@ impl Record {
     }
 }
 
-/// A run file of n controllers with these records.
+/// A run file of a version, 1 or 2, and of n controllers, with these records.
 ///
 /// ```
 /// use furnacejade::{file_of, Record};
-/// assert_eq!(file_of(2, &[Record::Sync { sender: 1 }]), [1, 2, 2, 2, 1]);
+/// assert_eq!(file_of(1, 3, &[Record::Sync { sender: 2 }]), [1, 3, 2, 2, 2]);
 /// ```
-pub fn file_of(n: u8, records: &[Record]) -> Vec<u8> {
-    let mut file = vec![VERSION, n];
+pub fn file_of(version: u8, n: u8, records: &[Record]) -> Vec<u8> {
+    let mut file = vec![version, n];
     file.extend(records.iter().flat_map(Record::bytes));
     file
 }

@@ -33,7 +33,7 @@ macro_rules! refusals {
 refusals! {
     (0, ACCEPTED, "none: accepted"),
     (1, FILE_LENGTH, "Has the file 2 to 65,535 bytes?"),
-    (2, VERSION, "Is the version 1?"),
+    (2, VERSION, "Is the version 1 or 2?"),
     (3, COUNT, "Is the number of controllers from 1 to 7?"),
     (4, TABLE, "Is the table well formed?"),
     (5, RECORD, "Are the length byte and all the bytes it counts there?"),
@@ -48,6 +48,7 @@ refusals! {
     (14, KEPT, "Is the length kept at most the log's, and at least every read position in it?"),
     (15, SCRATCH_LENGTH, "Has the scratch area 4,096 bytes or more?"),
     (16, LISTING_LENGTH, "Does the line fit in what is left of the listing?"),
+    (17, CLASS, "Is the class of a report of version 2 from 1 to 4?"),
 }
 
 impl Refusal {

@@ -1,13 +1,28 @@
-//! The calls as a user makes them: the worked run, what a refusal leaves, and the numbers' texts.
+//! The calls as a user makes them: the worked run, a run with classes, what a refusal leaves, and the numbers' texts.
 
 use furnacejade::{calls, event, file_of, fresh, look, run};
-use furnacejade::{Answer, LookAnswer, MessageNumber, Name, Panel, Record, Refusal, RunAnswer, Table, SCRATCH};
+use furnacejade::{
+    Answer, Class, FreshAnswer, LookAnswer, MessageNumber, Name, Panel, Record, Refusal, RunAnswer, Table, SCRATCH,
+};
 use std::mem::size_of;
 
 const WORKED: &[u8] = include_bytes!("../../worked.run");
+const CLASSES: &[u8] = include_bytes!("../../classes.run");
 
 fn name(sender: u8, number: u8) -> Name {
     Name { sender, number: MessageNumber(number) }
+}
+
+/// The table and the answers of a file's records, carried out one by one.
+fn events_of(file: &[u8]) -> (Table, Vec<Answer>) {
+    let (mut table, mut scratch) = (fresh(file[0] as usize, file[1] as usize).unwrap(), [0; SCRATCH]);
+    let (mut rest, mut answers) = (&file[2..], vec![]);
+    while !rest.is_empty() {
+        let (answer, left) = event(&mut table, rest, &mut scratch).unwrap();
+        answers.push(answer);
+        rest = left;
+    }
+    (table, answers)
 }
 
 #[test]
@@ -15,39 +30,68 @@ fn a_file_and_its_events_end_in_the_same_table() {
     let (mut listing, mut scratch) = ([0; 256], [7; SCRATCH]);
     let answer = run(WORKED, &mut listing, &mut scratch);
     assert_eq!((answer.number, answer.events), (Refusal::ACCEPTED, 11));
-    let mut table = fresh(3).unwrap();
-    let mut rest = &WORKED[2..];
-    let mut sets = vec![];
-    while !rest.is_empty() {
-        let (answer, left) = event(&mut table, rest, &mut scratch).unwrap();
-        sets.extend(answer.applied().to_vec());
-        rest = left;
-    }
+    let (table, answers) = events_of(WORKED);
+    let sets: Vec<Name> = answers.iter().flat_map(|answer| answer.applied().to_vec()).collect();
     assert_eq!(sets, [name(1, 1), name(1, 1), name(3, 1), name(1, 1), name(3, 1)]);
     assert_eq!(table, answer.table);
-    assert_eq!(look(&table, 2), Ok(Panel { total: 28 }));
+    assert_eq!(look(&table, 2), Ok(Panel { total: 28, classes: [28, 0, 0, 0, 0] }));
     assert_eq!(&listing[..answer.written], b"4 1 30 1.1\n7 2 30 1.1\n8 2 28 3.1\n11 3 28 1.1 3.1\n");
 }
 
 #[test]
-fn a_sync_answers_the_panel_when_it_is_finished() {
-    let (mut table, mut scratch) = (fresh(1).unwrap(), [0; SCRATCH]);
-    let handover = Record::Handover { receiver: 1, owner: 1 };
-    let records = [Record::Report { sender: 1, amount: -7 }, handover, Record::Sync { sender: 1 }, handover];
-    let file = file_of(1, &records);
-    let mut rest = &file[2..];
-    let mut answers = vec![];
-    while !rest.is_empty() {
-        let (answer, left) = event(&mut table, rest, &mut scratch).unwrap();
-        answers.push(answer.sync_answer().cloned());
-        rest = left;
+fn a_panel_shows_each_class() {
+    let (mut listing, mut scratch) = ([0; 256], [0; SCRATCH]);
+    let answer = run(CLASSES, &mut listing, &mut scratch);
+    assert_eq!((answer.number, answer.events), (Refusal::ACCEPTED, 15));
+    let (table, answers) = events_of(CLASSES);
+    assert_eq!((table.version, answers.len()), (2, 15));
+    assert_eq!(table, answer.table);
+    let classes: Vec<Class> = table.messages[..3].iter().map(|message| message.payload.class).collect();
+    assert_eq!(classes, [Class::XL, Class::M, Class::S]);
+    for c in 1..=2 {
+        let panel = look(&table, c).unwrap();
+        assert_eq!(panel, Panel { total: 40, classes: [0, 30, 0, 12, -2] });
+        assert_eq!(panel.of(Class::M), Some(12));
     }
-    assert_eq!(answers, [None, None, None, Some(Panel { total: -7 })]);
+    assert_eq!(&listing[..answer.written], b"7 1 42 1.1 2.1\n10 2 42 1.1 2.1\n13 2 40 2.3\n14 1 40 2.3\n");
+}
+
+#[test]
+fn a_sync_answers_the_total_when_it_is_finished() {
+    let handover = Record::Handover { receiver: 1, owner: 1 };
+    let (plain, classed) =
+        (Record::Report { sender: 1, amount: -7 }, Record::ClassedReport { sender: 1, amount: -7, class: Class::S });
+    for (version, report) in [(1, plain), (2, classed)] {
+        let (_, answers) = events_of(&file_of(version, 1, &[report, handover, Record::Sync { sender: 1 }, handover]));
+        let answers: Vec<_> = answers.iter().map(Answer::sync_answer).collect();
+        assert_eq!(answers, [None, None, None, Some(-7)]);
+    }
+}
+
+#[test]
+fn the_version_says_what_a_report_is() {
+    let mut scratch = [0; SCRATCH];
+    let report = Record::Report { sender: 1, amount: 5 };
+    let classed = |amount, class| Record::ClassedReport { sender: 1, amount, class };
+    for (version, record, refusal) in [
+        (1, report, None),
+        (1, classed(5, Class::L), Some(Refusal::LENGTH)),
+        (2, report, Some(Refusal::LENGTH)),
+        (2, classed(5, Class::NONE), Some(Refusal::CLASS)),
+        (2, classed(5, Class::XL), None),
+        (2, classed(5, Class::S), None),
+        (2, classed(5, Class(5)), Some(Refusal::CLASS)),
+        (2, classed(0, Class(5)), Some(Refusal::AMOUNT)),
+    ] {
+        let mut table = fresh(version, 2).unwrap();
+        assert_eq!(table.version, version);
+        assert_eq!(event(&mut table, &record.bytes(), &mut scratch).err(), refusal, "{record:?}");
+    }
 }
 
 #[test]
 fn a_refused_call_changes_nothing() {
-    let mut table = fresh(2).unwrap();
+    let mut table = fresh(2, 2).unwrap();
     let mut scratch = [7; SCRATCH];
     let before = table.clone();
     for (bytes, refusal) in [
@@ -55,7 +99,8 @@ fn a_refused_call_changes_nothing() {
         (vec![1, 9], Refusal::KIND),
         (vec![1, 2], Refusal::LENGTH),
         (Record::Sync { sender: 3 }.bytes(), Refusal::CONTROLLER),
-        (Record::Report { sender: 1, amount: 361 }.bytes(), Refusal::AMOUNT),
+        (Record::ClassedReport { sender: 1, amount: 361, class: Class::M }.bytes(), Refusal::AMOUNT),
+        (Record::ClassedReport { sender: 1, amount: 360, class: Class(0) }.bytes(), Refusal::CLASS),
         (Record::Handover { receiver: 1, owner: 2 }.bytes(), Refusal::NO_ENTRY),
         (Record::Stop { controller: 2, kept: 256 }.bytes(), Refusal::KEPT),
     ] {
@@ -72,13 +117,18 @@ fn a_refused_answer_is_blank_but_for_its_number() {
     let (mut table, mut answer) = (Table::BLANK, Answer { size: 9, finished: 1, ..Answer::BLANK });
     assert_eq!(calls::event(&mut table, &[1, 2, 3], &mut [], &mut answer), 3);
     assert_eq!(answer, Answer { number: Refusal::TABLE, ..Answer::BLANK });
-    let mut answer = LookAnswer { number: Refusal::ACCEPTED, panel: Panel { total: 9 } };
+    let mut answer = LookAnswer { number: Refusal::ACCEPTED, panel: Panel { total: 9, classes: [9; 5] } };
     calls::look(&table, 1, &mut answer);
     assert_eq!(answer, LookAnswer { number: Refusal::TABLE, panel: Panel::BLANK });
-    for (file, number) in [(&[1][..], Refusal::FILE_LENGTH), (&[2, 3], Refusal::VERSION), (&[1, 8], Refusal::COUNT)] {
+    for (file, number) in [(&[1][..], Refusal::FILE_LENGTH), (&[3, 3], Refusal::VERSION), (&[2, 8], Refusal::COUNT)] {
         assert_eq!(run(file, &mut [], &mut []), RunAnswer { number, ..RunAnswer::BLANK });
     }
-    assert_eq!(fresh(8), Err(Refusal::COUNT));
+    for (version, n, number) in [(0, 3, Refusal::VERSION), (3, 8, Refusal::VERSION), (2, 8, Refusal::COUNT)] {
+        let mut answer = FreshAnswer { number: Refusal::ACCEPTED, table: fresh(2, 7).unwrap() };
+        calls::fresh(version, n, &mut answer);
+        assert_eq!(answer, FreshAnswer { number, ..FreshAnswer::BLANK });
+        assert_eq!(fresh(version, n), Err(number));
+    }
 }
 
 #[test]
@@ -88,6 +138,12 @@ fn any_bytes_are_a_table() {
     assert_eq!(look(&table, 1), Err(Refusal::TABLE));
     assert_eq!(event(&mut table, &[], &mut []), Err(Refusal::TABLE));
     assert_eq!(*table.as_bytes(), before);
+}
+
+#[test]
+fn classes_have_names() {
+    assert_eq!(Class::ALL.map(|class| class.to_string()), ["XL", "L", "M", "S"]);
+    assert_eq!((Class::NONE.to_string(), Class(5).to_string()), ("none".into(), "no class has the number 5".into()));
 }
 
 #[test]
