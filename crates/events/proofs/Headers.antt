@@ -5,13 +5,12 @@ use mathlib.Core.Bool.{true, false, _&&_}
 use mathlib.Core.List.{List}
 use Prim.Native.Nat.{ℕ}
 use lib.ListN.{length}
-use lib.Dec.{leb, ltb}
+use lib.Dec.{leb}
 use borrow.Author.Tests.{ne-eqb}
 use Rattle.lists.proofs.Tests.{cond-false}
 use Rattle.model.specs.Tables.{zeroTable}
 use Rattle.model.specs.Records.{byte}
-use Rattle.model.specs.WellFormed.{known}
-use Rattle.model.specs.Questions.{firstNo, versionKnown, controllerCount, fileQuestions}
+use Rattle.model.specs.Questions.{firstNo, freshQuestions, fileQuestions}
 use Rattle.model.specs.Runs.{RunOutcome, progress, ran, fileRun}
 use Rattle.model.specs.declared.Table.{Table}
 use Rattle.model.specs.declared.RunAnswer.{RunAnswer}
@@ -24,19 +23,9 @@ module _ (s : List ℕ) where
   unfolding firstNo fileQuestions
   length-refused f = rw f refl
 
-  module _ (long : (leb 2 (length s) && leb (length s) 65535) ≡ true) (v : ℕ) (e : v ≡ byte s 0) where
-    pub version-refused : known v ≡ false → 2 ≡ firstNo (fileQuestions s)
-    unfolding firstNo fileQuestions versionKnown
-    version-refused f = rw (long, ← e, f) refl
-
-    module _ (k : known v ≡ true) (n : ℕ) (q : n ≡ byte s 1) where
-      pub count-refused : (ltb 0 n && leb n 7) ≡ false → 3 ≡ firstNo (fileQuestions s)
-      unfolding firstNo fileQuestions versionKnown controllerCount
-      count-refused f = rw (long, ← e, k, ← q, f) refl
-
-      pub file-passed : (ltb 0 n && leb n 7) ≡ true → 0 ≡ firstNo (fileQuestions s)
-      unfolding firstNo fileQuestions versionKnown controllerCount
-      file-passed f = rw (long, ← e, k, ← q, f) refl
+  pub file-asked : (leb 2 (length s) && leb (length s) 65535) ≡ true → (v n k : ℕ) → v ≡ byte s 0 → n ≡ byte s 1 → k ≡ firstNo (freshQuestions v n) → k ≡ firstNo (fileQuestions s)
+  unfolding firstNo fileQuestions
+  file-asked long v n k ev en e = rw (long, ← ev, ← en) e
 
 module _ (s l w : List ℕ) (k : ℕ) (e : k ≡ firstNo (fileQuestions s)) where
   run-isnt : k ≢ 0

@@ -1,12 +1,14 @@
 -- The answers of a panel look and of a request for a fresh table, from the tests that the code makes. Assumes nothing.
 use mathlib.Core.Path.{_≡_, refl}
+use mathlib.Core.Logic.{_≢_}
 use mathlib.Core.Bool.{true, false, _&&_}
 use Prim.Native.Nat.{ℕ}
 use lib.Dec.{leb, ltb}
+use borrow.Author.Tests.{eq-eqb, ne-eqb}
 use Rattle.model.specs.Tables.{noPanel, fresh, zeroTable}
 use Rattle.model.specs.Events.{panelOf}
 use Rattle.model.specs.WellFormed.{named, known, wellFormed}
-use Rattle.model.specs.Questions.{firstNo, lentTable, versionKnown, controllerCount}
+use Rattle.model.specs.Questions.{firstNo, freshQuestions, lentTable}
 use Rattle.model.specs.Calls.{look, freshTable}
 use Rattle.model.specs.declared.Panel.{Panel}
 use Rattle.model.specs.declared.Table.{Table}
@@ -29,15 +31,24 @@ module _ (t : Table) (c : ℕ) where
   look-shown w f x e = rw (w, f, e) refl
 
 module _ (v n : ℕ) where
-  pub fresh-refused-two : known v ≡ false → (x : Table) → x ≡ zeroTable → _≡_ {A = FreshAnswer} (record { number = 2; table = x }) (freshTable v n)
-  unfolding freshTable firstNo versionKnown
-  fresh-refused-two f x e = rw (f, e) refl
+  pub version-refuses : known v ≡ false → 2 ≡ firstNo (freshQuestions v n)
+  unfolding firstNo freshQuestions
+  version-refuses f = rw f refl
 
-  module _ (k : known v ≡ true) where
-    pub fresh-refused-three : (ltb 0 n && leb n 7) ≡ false → (x : Table) → x ≡ zeroTable → _≡_ {A = FreshAnswer} (record { number = 3; table = x }) (freshTable v n)
-    unfolding freshTable firstNo versionKnown controllerCount
-    fresh-refused-three f x e = rw (k, f, e) refl
+  module _ (q : known v ≡ true) where
+    pub count-refuses : (ltb 0 n && leb n 7) ≡ false → 3 ≡ firstNo (freshQuestions v n)
+    unfolding firstNo freshQuestions
+    count-refuses f = rw (q, f) refl
 
-    pub fresh-given : (ltb 0 n && leb n 7) ≡ true → (x : Table) → x ≡ fresh v n → _≡_ {A = FreshAnswer} (record { number = 0; table = x }) (freshTable v n)
-    unfolding freshTable firstNo versionKnown controllerCount
-    fresh-given f x e = rw (k, f, e) refl
+    pub none-refuses : (ltb 0 n && leb n 7) ≡ true → 0 ≡ firstNo (freshQuestions v n)
+    unfolding firstNo freshQuestions
+    none-refuses f = rw (q, f) refl
+
+  module _ (k : ℕ) (e : k ≡ firstNo (freshQuestions v n)) where
+    pub fresh-refused : k ≢ 0 → (x : Table) → x ≡ zeroTable → _≡_ {A = FreshAnswer} (record { number = k; table = x }) (freshTable v n)
+    unfolding freshTable
+    fresh-refused d x ex = rw (← e, ne-eqb k 0 d, ex) refl
+
+    pub fresh-given : k ≡ 0 → (x : Table) → x ≡ fresh v n → _≡_ {A = FreshAnswer} (record { number = k; table = x }) (freshTable v n)
+    unfolding freshTable
+    fresh-given z x ex = rw (← e, eq-eqb k 0 z, ex) refl

@@ -188,14 +188,8 @@ pub fn refusal_of(bytes: &[u8]) -> u8
         return refusal::FILE_LENGTH;
     }
     let version = records::byte_at(bytes, 0) as usize;
-    if !Table::known(version) {
-        return refusal::VERSION;
-    }
     let n = records::byte_at(bytes, 1) as usize;
-    if !((0 < n) & (n <= Table::CONTROLLERS)) {
-        return refusal::COUNT;
-    }
-    refusal::ACCEPTED
+    crate::fresh_refusal(version, n)
 }
 
 // Carries out a run file and lists the sets applied.

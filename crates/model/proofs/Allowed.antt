@@ -14,7 +14,7 @@ use Rattle.model.specs.Tables.{seats, capacity, lastClass, sync, yes?, a
 use Rattle.model.specs.Events.{subject}
 use Rattle.model.specs.Records.{byte, kind, word, classIn, reported, decode}
 use Rattle.model.specs.WellFormed.{named, fairAmount, fairClass, known}
-use Rattle.model.specs.Questions.{Question, ask, firstNo, versionKnown, controllerCount, fileQuestions, kindQuestions, recordQuestions, ownPending, unread, keepable, eventQuestions, scratchRoom, stepQuestions, lineFits}
+use Rattle.model.specs.Questions.{Question, ask, firstNo, freshQuestions, fileQuestions, kindQuestions, recordQuestions, ownPending, unread, keepable, eventQuestions, scratchRoom, stepQuestions, lineFits}
 use Rattle.model.specs.declared.Payload.{Payload}
 use Rattle.model.specs.declared.Table.{Table}
 use Rattle.model.specs.declared.Event.{Event}
@@ -69,23 +69,17 @@ line-asked k line left =
     (λ q v. (eqb-true k 0 q, leb-true line left (no-no 15 (leb line left) [] v .0))) (λ q v. absurd (eqb-false k 0 q v))
 
 -- questions 2 and 3, of a file or of a request for a fresh table
-pub count-asked : (n : ℕ) → firstNo (controllerCount n ∷ []) ≡ 0 → (0 < n) × (n ≤ seats)
-unfolding controllerCount
-count-asked n e =
-    let a = no-no 2 (ltb 0 n && leb n seats) [] e .0 in
-    (ltb-true 0 n (and-left (ltb 0 n) (leb n seats) a), leb-true n seats (and-right (ltb 0 n) (leb n seats) a))
-
 pub record FreshAllowed (v n : ℕ) : Type 0 where
   pub version : known v ≡ true
   pub some : 0 < n
   pub few : n ≤ seats
 
-pub fresh-allowed : (v n : ℕ) → firstNo (versionKnown v ∷ controllerCount n ∷ []) ≡ 0 → FreshAllowed v n
-unfolding versionKnown
+pub fresh-allowed : (v n : ℕ) → firstNo (freshQuestions v n) ≡ 0 → FreshAllowed v n
+unfolding freshQuestions
 fresh-allowed v n e =
-    let q2 = no-no 1 (known v) _ e in
-    let q3 = count-asked n (q2 .1) in
-    record { version = q2 .0; some = q3 .0; few = q3 .1 }
+    let q2 = no-no _ _ _ e in
+    let q3 = no-no _ _ _ (q2 .1) .0 in
+    record { version = q2 .0; some = ltb-true 0 n (and-left (ltb 0 n) (leb n seats) q3); few = leb-true n seats (and-right (ltb 0 n) (leb n seats) q3) }
 
 pub record FileAllowed (s : List ℕ) : Type 0 where
   pub long : 2 ≤ length s

@@ -10,7 +10,7 @@ use Rattle.model.specs.Tables.{capacity, scratchSize, noName, noPanel, f
 use Rattle.model.specs.Events.{subject, next, appliedBy, panelOf, namesOf, finishes}
 use Rattle.model.specs.Records.{behind, decode}
 use Rattle.model.specs.WellFormed.{named}
-use Rattle.model.specs.Questions.{ask, firstNo, versionKnown, controllerCount, lentTable, stepQuestions}
+use Rattle.model.specs.Questions.{ask, firstNo, freshQuestions, lentTable, stepQuestions}
 use Rattle.model.specs.declared.Name.{Name}
 use Rattle.model.specs.declared.Table.{Table}
 use Rattle.model.specs.declared.Answer.{Answer}
@@ -91,7 +91,7 @@ answerOf a = record {
 
 unfoldable pub freshTable : ℕ → ℕ → FreshAnswer
 freshTable v n =
-    let k = firstNo (versionKnown v ∷ controllerCount n ∷ []) in
+    let k = firstNo (freshQuestions v n) in
     record { number = k; table = cond (eqb k 0) (fresh v n) zeroTable }
 
 -- THE PANEL LOOK (a local read)

@@ -25,19 +25,13 @@ unfoldable pub firstNo : List Question → ℕ
 firstNo [] = 0
 firstNo (q ∷ qs) = let r = firstNo qs in cond (q .yes) r (q .number)
 
--- questions 1 to 3, put to a file; 2 and 3 also to a request for a fresh table
-unfoldable pub versionKnown : ℕ → Question
-versionKnown v = ask 2 (known v)
+-- questions 2 and 3, of a version and a number of controllers: put to a file, and to a request for a fresh table
+unfoldable pub freshQuestions : ℕ → ℕ → List Question
+freshQuestions v n = ask 2 (known v) ∷ ask 3 (ltb 0 n && leb n seats) ∷ []
 
-unfoldable pub controllerCount : ℕ → Question
-controllerCount n = ask 3 (ltb 0 n && leb n seats)
-
+-- questions 1 to 3, put to a file
 unfoldable pub fileQuestions : List ℕ → List Question
-fileQuestions s =
-    ask 1 (leb 2 (length s) && leb (length s) 65535)
-    ∷ versionKnown (byte s 0)
-    ∷ controllerCount (byte s 1)
-    ∷ []
+fileQuestions s = ask 1 (leb 2 (length s) && leb (length s) 65535) ∷ freshQuestions (byte s 0) (byte s 1)
 
 -- question 4, put to every call that is lent a table
 unfoldable pub lentTable : Table → Question
