@@ -148,9 +148,10 @@ element-copy-out-y c = indices (c .before .before) .1
 
 turn-requires : tie.Need-turn-requires Inv-loop μ-loop
 turn-requires c κs =
-    let k = looked c in (
+    let k = looked c in
+    let t = inside k .loop .table in (
       run-before _ _ _ _ _ _ _ _ (inside k .loop .inv),
-      record { record-is = found-is k; allowed = λ q. allowed-at _ _ q _ _ (subject-at k) (owner-at k) },
+      record { record-is = found-is k; allowed = λ q. allowed-at t (decode (t .version) (inside k .loop .left .now)) q _ _ (subject-at k) (owner-at k) },
     )
 
 behind-requires-2 : tie.Need-behind-requires-2 Inv-loop μ-loop
