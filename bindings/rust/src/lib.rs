@@ -72,7 +72,8 @@ pub fn fresh(version: usize, n: usize) -> Result<Table, Refusal> {
 }
 
 /// Carries out the record with which the bytes begin: the set applied and a finished sync's answer, and the part of the
-/// bytes that is unread. The table's version says whether a report has a class byte. It needs [`SCRATCH`] bytes of scratch, and leaves them zero. A refused event leaves table and
+/// bytes that is unread. The table's version says whether a report has a class byte. It needs [`SCRATCH`] bytes of
+/// scratch, and leaves them zero. A refused event leaves table and
 /// scratch as they were.
 pub fn event<'a>(table: &mut Table, bytes: &'a [u8], scratch: &mut [u8]) -> Result<(Answer, &'a [u8]), Refusal> {
     let mut answer = Answer::BLANK;

@@ -8,7 +8,7 @@ use native.Mathlib.Omega.{arith}
 use lib.IntN.{pos, negℤ, _+ℤ_, _-ℤ_, +ℤ-idr, +ℤ-assoc, +ℤ-invr, negℤ-+ℤ, pos-+ℤ-pos}
 use lib.Dec.{eqb, ltb}
 use Rattle.model.specs.Tables.{report, sync}
-use Rattle.model.specs.Records.{byte, kind, word, classIn as classByte, reported, decode}
+use Rattle.model.specs.Records.{byte, kind, word, reportClass, reported, decode}
 use Rattle.model.specs.Events.{next, appliedBy, namesOf}
 use Rattle.model.specs.Questions.{firstNo, eventQuestions}
 use Rattle.model.specs.WellFormed.{fairMagnitude, fairAmount}
@@ -54,13 +54,13 @@ reported-says k x = go (ltb x 32768)
         ap (λ z. record { amount = z; class = k }) (subst (λ y. pos x -ℤ pos y ≡ pos 0 -ℤ pos (65536 - x)) q (minus-sum x (65536 - x)))
 
 pub decoded-said : (v : ℕ) (s : List ℕ) (c : ℕ) (p : Payload) → decode v s ≡ Send c p → fairAmount p ≡ true → said v s ≡ saidOf p
-unfolding decode said amountIn classIn classByte
+unfolding decode said amountIn classIn reportClass
 decoded-said v s c p = go (eqb (kind s) 1) (eqb (kind s) 2) (eqb (kind s) 3)
   where
     go : (a b d : Bool)
-        → cond a (Send (byte s 2) (reported (classByte v s) (word s 3))) (cond b (Send (byte s 2) sync) (cond d (Handover (byte s 2) (byte s 3)) (Stop (byte s 2) (word s 3)))) ≡ Send c p
+        → cond a (Send (byte s 2) (reported (reportClass v s) (word s 3))) (cond b (Send (byte s 2) sync) (cond d (Handover (byte s 2) (byte s 3)) (Stop (byte s 2) (word s 3)))) ≡ Send c p
         → fairAmount p ≡ true → record { amount = cond a (twos (word s 3)) (pos 0); class = cond (a && eqb v 2) (byte s 5) 0 } ≡ saidOf p
-    go true b d e f = let q : reported (classByte v s) (word s 3) ≡ p = cc in rw (← q) (reported-says (classByte v s) (word s 3) (rw q f))
+    go true b d e f = let q : reported (reportClass v s) (word s 3) ≡ p = cc in rw (← q) (reported-says (reportClass v s) (word s 3) (rw q f))
     go false true d e f = let q : sync ≡ p = cc in rw (← q)
     go false false true e f = let q : _≡_ {A = ℕ} 0 1 = cc in absurd (omega arith)
     go false false false e f = let q : _≡_ {A = ℕ} 0 1 = cc in absurd (omega arith)

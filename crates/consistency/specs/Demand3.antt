@@ -259,7 +259,7 @@ unfoldable pub Heads : Head → Type 0
 Heads (request v n) = freshTable v n .number ≡ 0
 Heads (file s listing scratch) = firstNo (fileQuestions s) ≡ 0
 
--- the head's version: "the fresh request's argument, or the file's byte 0"
+-- the version that its records are read in: that of the request, or byte 0 of the file
 unfoldable pub version : Head → ℕ
 version (request v n) = v
 version (file s listing scratch) = byte s 0

@@ -12,7 +12,7 @@ use Rattle.lists.proofs.Tests.{cond-case, and-left, and-right, both}
 use Rattle.lists.proofs.Below.{count-pos}
 use Rattle.model.specs.Tables.{seats, capacity, lastClass, sync, yes?, at, message, place, held}
 use Rattle.model.specs.Events.{subject}
-use Rattle.model.specs.Records.{byte, kind, word, classIn, reported, decode}
+use Rattle.model.specs.Records.{byte, kind, word, reportClass, reported, decode}
 use Rattle.model.specs.WellFormed.{named, fairAmount, fairClass, known}
 use Rattle.model.specs.Questions.{Question, ask, firstNo, freshQuestions, fileQuestions, kindQuestions, recordQuestions, ownPending, unread, keepable, eventQuestions, scratchRoom, stepQuestions, lineFits}
 use Rattle.model.specs.declared.Payload.{Payload}
@@ -174,7 +174,7 @@ subject-allowed t (Stop c k) q = stop-allowed t c k q .controller
 
 -- Question 17 refuses reports of version 2 alone: any other message that a record sends has class 0, as it must.
 pub unclassed-fair : (v : ℕ) (s : List ℕ) (c : ℕ) (p : Payload) → decode v s ≡ Send c p → (eqb v 2 && eqb (kind s) 1) ≡ false → fairClass v p ≡ true
-unfolding decode classIn fairClass
+unfolding decode reportClass fairClass
 unclassed-fair v s c p = go (eqb v 2) (eqb (kind s) 1) (eqb (kind s) 2) (eqb (kind s) 3)
   where
     go : (w a b d : Bool)

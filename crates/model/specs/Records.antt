@@ -32,8 +32,8 @@ unfoldable pub sizeOf : ℕ → ℕ → ℕ
 sizeOf v k = getD (0 ∷ cond (eqb v 2) 5 4 ∷ 2 ∷ 3 ∷ 4 ∷ []) k 0
 
 -- the class of a report: the byte after the amount in version 2, and 0 in version 1
-unfoldable pub classIn : ℕ → List ℕ → ℕ
-classIn v s = cond (eqb v 2) (byte s 5) 0
+unfoldable pub reportClass : ℕ → List ℕ → ℕ
+reportClass v s = cond (eqb v 2) (byte s 5) 0
 
 -- a report of class k, its amount in two's complement, as what it adds and what it withdraws
 unfoldable pub reported : ℕ → ℕ → Payload
@@ -42,7 +42,7 @@ reported k x = cond (ltb x 32768) (report k x 0) (report k 0 (65536 - x))
 -- the event of a record of kind 1 to 4 and of that kind's length
 unfoldable pub decode : ℕ → List ℕ → Event
 decode v s =
-    cond (eqb (kind s) 1) (Send (byte s 2) (reported (classIn v s) (word s 3)))
+    cond (eqb (kind s) 1) (Send (byte s 2) (reported (reportClass v s) (word s 3)))
     (cond (eqb (kind s) 2) (Send (byte s 2) sync)
     (cond (eqb (kind s) 3) (Handover (byte s 2) (byte s 3))
     (Stop (byte s 2) (word s 3))))

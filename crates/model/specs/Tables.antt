@@ -114,7 +114,7 @@ idle f m = record {
 unfoldable pub start : ℕ → ℕ → ℕ → ℕ → Table
 start v n f m = record { version = v; n = n; count = 0; messages = replicate 64 noMessage; controllers = replicate 7 (idle f m) }
 
--- of files of version v; all n controllers run
+-- its records are read in version v, and all n controllers run
 unfoldable pub fresh : ℕ → ℕ → Table
 fresh v n = start v n 1 absent
 

@@ -202,13 +202,16 @@ impl Payload {
 }
 
 impl Panel {
+    // Those of the four weight classes, and that of none.
+    pub const CLASSES: usize = 5;
+
     // The panel that shows nothing, which a refused look answers.
     pub fn zero() -> Panel
         ensures { λ r. ⌜ r ≡ noPanel ⌝ }
     {
         Panel {
             total: 0,
-            classes: [0; 5],
+            classes: [0; Panel::CLASSES],
         }
     }
 }

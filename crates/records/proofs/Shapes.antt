@@ -9,7 +9,7 @@ use lib.Dec.{eqb, ltb, leb}
 use lib.ListN.{getD}
 use Rattle.lists.proofs.Tests.{and-left, and-right}
 use Rattle.model.specs.Tables.{sync}
-use Rattle.model.specs.Records.{byte, size, kind, word, sizeOf, classIn, reported, decode}
+use Rattle.model.specs.Records.{byte, size, kind, word, sizeOf, reportClass, reported, decode}
 use Rattle.model.specs.Questions.{firstNo, kindQuestions, recordQuestions}
 use Rattle.model.specs.declared.Event.{Event}
 use Rattle.model.specs.declared.Event.the-variants.{Send, Handover, Stop}
@@ -76,7 +76,7 @@ record-read v s k n e q z m d = rw (← q, eq-eqb k 0 z, m, d)
 -- THE EVENT
 
 module _ (v : ℕ) (s : List ℕ) (k : ℕ) (e : k ≡ kind s) where
-  pub decode-report : k ≡ 1 → Send (byte s 2) (reported (classIn v s) (word s 3)) ≡ decode v s
+  pub decode-report : k ≡ 1 → Send (byte s 2) (reported (reportClass v s) (word s 3)) ≡ decode v s
   unfolding decode
   decode-report h = rw (eq-eqb (kind s) 1 (sym e ∙ h))
 

@@ -8,7 +8,7 @@ ghost use Prim.Native.Nat.{_<_};
 ghost use mathlib.Core.Bool.{_&&_};
 ghost use lib.Dec.{leb, ltb};
 ghost use lib.ListN.{drop};
-ghost use Rattle.model.specs.Records.{byte, word, sizeOf, classIn, reported, decode};
+ghost use Rattle.model.specs.Records.{byte, word, sizeOf, reportClass, reported, decode};
 ghost use Rattle.model.specs.Questions.{firstNo, kindQuestions};
 ghost use Rattle.records.specs.Cuts.{cut, found, recordOf};
 
@@ -111,7 +111,7 @@ fn word_at(bytes: &[u8], i: usize) -> u16
 
 // The class of a report: the byte after the amount in version 2, and 0 in version 1.
 fn class_of(version: usize, bytes: &[u8]) -> u8
-    ensures { λ r. ⌜ r ≡ classIn version (now (bytes .entry)) ⌝ }
+    ensures { λ r. ⌜ r ≡ reportClass version (now (bytes .entry)) ⌝ }
 {
     if version == Table::CLASSED {
         return byte_at(bytes, 5);

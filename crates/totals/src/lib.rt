@@ -1,4 +1,5 @@
-// What a panel shows, of all messages and of each class, and whether a set holds a sync of a controller's own: on every table, what no array holds being zero.
+// What a panel shows, of all messages and of each class, and whether a set holds a sync of a controller's own: on every
+// table, what no array holds being zero.
 ghost use mathlib.Core.Path.{_≡_};
 ghost use mathlib.Core.Bool.{cond};
 ghost use Prim.Native.Nat.{_≤_};
@@ -15,9 +16,6 @@ use model::Payload;
 use model::Table;
 
 // WHAT A PANEL SHOWS
-
-// The weight classes are 1 to 4, and 0 is none.
-const CLASSES: usize = 5;
 
 // What was added and what was withdrawn.
 struct Amounts {
@@ -76,7 +74,7 @@ fn add_to(sums: &mut [u32; 5], class: u8, amount: u32)
     ensures { λ r. ⌜ now (sums .exit) ≡ withAmount (now (sums .entry)) class amount ⌝ }
 {
     let k = class as usize;
-    if k < CLASSES {
+    if k < Panel::CLASSES {
         sums[k] = sums[k] + amount;
     }
 }
@@ -85,8 +83,8 @@ fn add_to(sums: &mut [u32; 5], class: u8, amount: u32)
 fn classed(count: usize, messages: [Message; 64], applied: [u8; 64]) -> ClassAmounts
     ensures { λ r. ⌜ Classed count messages applied r ⌝ }
 {
-    let mut added: [u32; 5] = [0; CLASSES];
-    let mut withdrawn: [u32; 5] = [0; CLASSES];
+    let mut added: [u32; 5] = [0; Panel::CLASSES];
+    let mut withdrawn: [u32; 5] = [0; Panel::CLASSES];
     for s in 0..numbers::at_most(count, Table::MESSAGES) {
         let flag = applied[s];
         let m = messages[s];
@@ -104,8 +102,8 @@ fn differences(s: ClassAmounts) -> [i32; 5]
 {
     let added = s.added;
     let withdrawn = s.withdrawn;
-    let mut totals: [i32; 5] = [0; CLASSES];
-    for k in 0..CLASSES {
+    let mut totals: [i32; 5] = [0; Panel::CLASSES];
+    for k in 0..Panel::CLASSES {
         totals[k] = difference(Amounts {
             added: added[k],
             withdrawn: withdrawn[k],
