@@ -28,6 +28,7 @@ use Rattle.model.specs.declared.Event.the-variants.{Handover}
 use Rattle.model.proofs.Lengths.{length-insert}
 use Rattle.delivery.specs.Apply.{applyAnswer, applyScratch, Applied}
 use Rattle.naming.specs.declared.Names.{Names}
+use Rattle.naming.proofs.Sets.{names-part}
 use Rattle.naming.specs.Ordering.{padded}
 use Rattle.events.specs.declared.effects.Effect.{Effect}
 use Rattle.events.specs.Conditions.{OfRun}
@@ -48,16 +49,6 @@ scratch-cleared w v h a = a .scratch ∙ cond-true _ _ (le-leb scratchSize (leng
 
 -- THE NAMES
 
--- they rest on the messages alone
-names-part : (k : ℕ) (t : Table) (S : Slots) → namesBelow k (part 0 0 (t .count) (t .messages)) S ≡ namesBelow k t S
-unfolding namesBelow message
-names-part zero t S = refl
-names-part (suc k) t S = rw (names-part k t S) refl
-
-pub names-are : (t : Table) (S : Slots) → namesOf (part 0 0 (t .count) (t .messages)) S ≡ namesOf t S
-unfolding namesOf
-names-are t S = names-part (t .count) t S
-
 -- a set of which no message is named has none of the run
 unnamed : (k : ℕ) (t : Table) (S : Slots) → length (namesBelow k t S) ≡ 0 → (s : ℕ) → s < k → has S s ≡ false
 unfolding namesBelow
@@ -76,7 +67,7 @@ none-in t S run e s = refuted (has S s) (λ m. contradiction m (unnamed (t .coun
 
 pub none-counted : (t : Table) (S : Slots) (a : Names) → a ≡ padded (namesOf (part 0 0 (t .count) (t .messages)) S) → a .size ≡ 0 → length (namesOf t S) ≡ 0
 unfolding padded
-none-counted t S a e n = sym (ap length (names-are t S)) ∙ (sym (ap (λ (b : Names). b .size) e) ∙ n)
+none-counted t S a e n = ap length (names-part t S) ∙ (sym (ap (λ (b : Names). b .size) e) ∙ n)
 
 -- THE EFFECT
 
@@ -87,7 +78,7 @@ module _ (t : Table) (r o : ℕ) (z : Sized t) (h : Among seats r) (c : Controll
       → _≡_ {A = Effect} (record { answer = record { number = 0; finished = g; total = y; size = a .size; names = a .names }; controller = x })
       (effectOf t (Handover r o))
   unfolding effectOf answerOf next subject after withSent appliedBy padded finishes message
-  handed-effect a ea f ef x ex y ey g eg = rw (eg, ey, total-shown t r x z h, ef, ea, names-are t S, ex, ec, es) refl
+  handed-effect a ea f ef x ex y ey g eg = rw (eg, ey, total-shown t r x z h, ef, ea, ← names-part t S, ex, ec, es) refl
 
   -- where nothing is named nothing is applied
   pub handed-none : SizedController c → t .count ≤ 64 → OfRun t S → length (namesOf t S) ≡ 0 → (b : Answer) → b ≡ noSet 0

@@ -1,4 +1,4 @@
 pub mod Owned
-pub mod Padded
+pub mod Sets
 pub mod Inserting
 pub mod Collecting
