@@ -120,6 +120,17 @@ unfolding report handover minus
 worked =
     report 1 30 ∷ handover 1 1 ∷ handover 2 1 ∷ handover 1 2 ∷ report 3 (minus 2) ∷ handover 2 3 ∷ handover 2 2 ∷ handover 2 2 ∷ handover 3 2 ∷ handover 3 2 ∷ []
 
+-- the run of RULES.md, section 25 (A run with classes), and its sets
+graded : List (List ℕ)
+unfolding classed handover minus
+graded =
+    classed 1 30 1 ∷ classed 2 12 3 ∷ handover 1 2 ∷ handover 2 1 ∷ handover 1 2 ∷ handover 1 1 ∷ handover 1 1 ∷ handover 2 1 ∷ handover 2 2 ∷ handover 2 2
+    ∷ classed 2 (minus 2) 4 ∷ handover 1 2 ∷ handover 2 1 ∷ handover 1 1 ∷ handover 2 2 ∷ []
+
+gradedSets : List (List ℕ)
+unfolding times
+gradedSets = times 6 ([] ∷ []) ++ ((101 ∷ 201 ∷ []) ∷ [] ∷ [] ∷ (101 ∷ 201 ∷ []) ∷ [] ∷ [] ∷ (203 ∷ []) ∷ (203 ∷ []) ∷ [] ∷ [])
+
 -- log 1 is of length 3, and read to place 2
 three : List (List ℕ)
 unfolding report handover
@@ -135,7 +146,7 @@ each zero x = []
 each (suc k) x = [] ∷ (x ∷ []) ∷ each k (suc x)
 
 table : List Row
-unfolding report classed sync handover stop minus times worked three full each none
+unfolding report classed sync handover stop minus times worked graded gradedSets three full each none
 table =
     -- P: the sets of the worked run; event 10 applies nothing
     case 3 worked (handover 3 1) 4096 0 ([] ∷ [] ∷ [] ∷ (101 ∷ []) ∷ [] ∷ [] ∷ (101 ∷ []) ∷ (301 ∷ []) ∷ [] ∷ [] ∷ (101 ∷ 301 ∷ []) ∷ [])
@@ -251,6 +262,9 @@ table =
     ∷ shows 1 1 (report 1 (minus 7) ∷ handover 1 1 ∷ stop 1 1 ∷ []) 1 ([] ∷ (101 ∷ []) ∷ [] ∷ []) (negsuc 6) (negsuc 6 ∷ none ∷ none ∷ none ∷ none ∷ [])
     ∷ shows 2 1 (classed 1 30 2 ∷ handover 1 1 ∷ classed 1 (minus 7) 4 ∷ handover 1 1 ∷ classed 1 5 2 ∷ handover 1 1 ∷ []) 1 (each 3 101) (pos 28)
     (none ∷ none ∷ pos 35 ∷ none ∷ negsuc 6 ∷ [])
+    -- P: the run with classes, its sets and what both panels show of each class
+    ∷ shows 2 2 graded 1 gradedSets (pos 40) (none ∷ pos 30 ∷ none ∷ pos 12 ∷ negsuc 1 ∷ [])
+    ∷ shows 2 2 graded 2 gradedSets (pos 40) (none ∷ pos 30 ∷ none ∷ pos 12 ∷ negsuc 1 ∷ [])
     ∷ []
 
 results : List Row → List Given
@@ -265,5 +279,5 @@ pub record AllCases : Type 0 where
   hold : results table ≡ expected table
 
 pub all-cases : AllCases
-unfolding computed results expected table called played given report classed sync handover stop minus times worked three full each none
+unfolding computed results expected table called played given report classed sync handover stop minus times worked graded gradedSets three full each none
 all-cases = record { hold = refl }
