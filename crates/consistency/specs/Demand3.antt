@@ -1,6 +1,6 @@
 -- Demand 3 (RULES.md, sections 20 and 21): one claim about a whole list of calls, read from
 -- the calls' arguments and answers. That it holds of every list is proofs/Theorem.antt.
-use Prim.Native.Nat.{ℕ, zero, suc, _+_, _-_, _*_, _<_}
+use Prim.Native.Nat.{ℕ, zero, suc, _+_, _-_, _*_, _≤_, _<_}
 use mathlib.Core.Path.{_≡_}
 use mathlib.Core.Logic.{_⊎_}
 use mathlib.Core.Bool.{Bool, true, false, _&&_, _||_, cond}
@@ -10,7 +10,7 @@ use lib.IntN.{ℤ, pos, _+ℤ_, _-ℤ_}
 use lib.Dec.{eqb, ltb}
 use Rattle.lists.specs.Below.{count}
 use Rattle.lists.specs.Build.{tabulate}
-use Rattle.model.specs.Tables.{classCount, messageNumber, noName, Among}
+use Rattle.model.specs.Tables.{classCount, scratchSize, messageNumber, noName, Among}
 use Rattle.model.specs.Records.{byte, kind, word, behind, decode}
 use Rattle.model.specs.Questions.{firstNo, fileQuestions}
 use Rattle.model.specs.Calls.{EventAnswer, event, freshTable, look}
@@ -21,6 +21,8 @@ use Rattle.model.specs.declared.Panel.{Panel}
 use Rattle.model.specs.declared.Table.{Table}
 use Rattle.model.specs.declared.Event.{Event}
 use Rattle.model.specs.declared.Event.the-variants.{Send, Handover, Stop}
+use Rattle.model.specs.declared.Command.{Command}
+use Rattle.model.specs.declared.Command.the-variants.{Act, Read}
 use Rattle.model.specs.declared.LookAnswer.{LookAnswer}
 
 -- NAMES
@@ -101,11 +103,16 @@ said v s = record { amount = amountIn s; class = classIn v s }
 pub data Step : Type 0 where
   carried : Said → Event → (set : List Name) → Step
 
+-- "An event or call that a request adds stands in a list for what it does": a local read moves nothing
+unfoldable pub stepsOf : Said → Command → List Name → List Step
+stepsOf r (Act e) ms = carried r e ms ∷ []
+stepsOf r (Read c) ms = []
+
 -- "A call is accepted when its number is 0; a refused one moves nothing here." The head's version is v.
 unfoldable pub steps : ℕ → Entry → List Step
-steps v (answered s w a) = cond (eqb (a .number) 0) (carried (said v s) (decode v s) (a .names) ∷ []) []
+steps v (answered s w a) = cond (eqb (a .number) 0) (stepsOf (said v s) (decode v s) (a .names)) []
 steps v (looked c a) = []
-steps v (listed s ms) = carried (said v s) (decode v s) ms ∷ []
+steps v (listed s ms) = stepsOf (said v s) (decode v s) ms
 
 -- what entries did
 abbrev pub did : ℕ → List Entry → List Step
@@ -312,6 +319,20 @@ pub record LookShows (h : Head) (calls : List Call) (r : ℕ) (panel : Panel) : 
   pub accepted : answer .number ≡ 0
   pub shown : answer .panel ≡ panel
 
+-- the record of a local read of c, and a record that is one
+abbrev pub readRecord : ℕ → List ℕ
+readRecord c = 2 ∷ 5 ∷ c ∷ []
+
+abbrev pub IsRead : List ℕ → Type 0
+IsRead s = kind s ≡ 5
+
+-- a local read of r behind these calls, lent this scratch area, and what it is answered: it is not refused, and gives this total
+pub record ReadGives (h : Head) (calls : List Call) (r : ℕ) (scratch : List ℕ) (total : ℤ) : Type 0 where
+  pub answer : EventAnswer
+  pub last : entries h (calls ++ (singleEvent (readRecord r) scratch ∷ [])) ≡ entries h calls ++ (answered (readRecord r) scratch answer ∷ [])
+  pub accepted : answer .number ≡ 0
+  pub given : answer .total ≡ total
+
 -- "Demand 3 is a single claim about the whole list, and not one for each call."
 pub record Consistent (h : Head) (calls : List Call) : Type 0 where
   -- "at any two moments of the list, what one controller has applied at one of them contains what another has applied at the
@@ -330,6 +351,19 @@ pub record Consistent (h : Head) (calls : List Call) : Type 0 where
   pub looks : (i c : ℕ) (a : LookAnswer) (after : List Entry) → drop i (entries h calls) ≡ looked c a ∷ after
       → let l = moment h calls i in
       a .number ≡ 0 → a .panel ≡ showing (l .sent) (applied l c)
+  -- each local read that is not refused gives the same sum; its controller is the byte behind its kind
+  pub reads : (i : ℕ) (s w : List ℕ) (a : EventAnswer) (after : List Entry) → drop i (entries h calls) ≡ answered s w a ∷ after
+      → let l = moment h calls i in
+      IsRead s → a .number ≡ 0 → a .total ≡ showing (l .sent) (applied l (byte s 2)) .total
+  -- and rests on every message that its controller has sent
+  pub reads-own : (i : ℕ) (s w : List ℕ) (a : EventAnswer) (after : List Entry) → drop i (entries h calls) ≡ answered s w a ∷ after
+      → let l = moment h calls i in
+      IsRead s → a .number ≡ 0 → Contains (applied l (byte s 2)) (ownOf (byte s 2) (sentNames l))
+  -- "Two reports of one sender are applied in number order or together": whoever has applied c.k has applied each c.j that was sent
+  -- with j below k
+  pub in-order : (i r c j k : ℕ)
+      → let l = moment h calls i in
+      j < k → has (name c k) (applied l r) ≡ true → has (name c j) (sentNames l) ≡ true → has (name c j) (applied l r) ≡ true
   -- "Whenever more than half of all controllers run and each of these has read every log to its end, each of these has applied
   -- exactly the messages sent, less those cut off with a stopped sender's log"
   pub ending : (i r : ℕ)
@@ -342,3 +376,9 @@ pub record Consistent (h : Head) (calls : List Call) : Type 0 where
       let l = ledger (did (version h) (entries h now)) in
       ReadOut (controllers h) l → Runs (controllers h) l r
       → LookShows h now r (showing (l .sent) (remaining l))
+  -- and so does a local read of it, which is not refused where it is lent enough scratch: nothing of its own is pending
+  pub ending-read : (i r : ℕ) (w : List ℕ)
+      → let now = take i calls in
+      let l = ledger (did (version h) (entries h now)) in
+      ReadOut (controllers h) l → Runs (controllers h) l r → scratchSize ≤ length w
+      → ReadGives h now r w (showing (l .sent) (remaining l) .total)

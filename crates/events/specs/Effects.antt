@@ -21,6 +21,10 @@ Leaves t e c = Accepted t e × (c ≡ after t e)
 unfoldable pub noSet : ℕ → Answer
 noSet k = answerOf (record { number = k; names = []; finished = false; total = pos 0; rest = [] })
 
+-- the answer of a local read of c
+unfoldable pub readAnswer : Table → ℕ → Answer
+readAnswer t c = answerOf (record { number = 0; names = []; finished = false; total = panelOf t c .total; rest = [] })
+
 unfoldable pub effectOf : Table → Event → Effect
 effectOf t e =
     let f = finishes t (appliedBy t e) (subject e) in

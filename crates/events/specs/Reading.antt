@@ -9,6 +9,7 @@ use Rattle.model.specs.declared.Controller.{Controller}
 use Rattle.model.specs.declared.Table.{Table}
 use Rattle.model.specs.declared.Event.{Event}
 use Rattle.model.specs.declared.Event.the-variants.{Send, Handover, Stop}
+use Rattle.model.specs.declared.Command.the-variants.{Act}
 use Rattle.records.specs.Cuts.{recordOf}
 use Rattle.records.specs.declared.Record.{Record}
 use Rattle.events.specs.declared.effects.Parties.{Parties}
@@ -44,7 +45,7 @@ pub record Reading (t : Table) (x y : Controller) (o : ℕ) : Type 0 where
   pub receiver : ℕ
   pub allowed : Allowed t (Handover receiver o) x y
 
--- the record f was read off the bytes s, and its event, if no question refuses it, has x and y
+-- the record f was read off the bytes s, and its event, if it has one that no question refuses, has x and y
 pub record Found (t : Table) (f : Record) (s : List ℕ) (x y : Controller) : Type 0 where
   pub record-is : f ≡ recordOf (t .version) s
-  pub allowed : Accepted t (decode (t .version) s) → Allowed t (decode (t .version) s) x y
+  pub allowed : (e : Event) → decode (t .version) s ≡ Act e → Accepted t e → Allowed t e x y

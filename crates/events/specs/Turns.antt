@@ -12,6 +12,9 @@ use Rattle.model.specs.WellFormed.{wellFormed}
 use Rattle.model.specs.Calls.{step, scratchAfter}
 use Rattle.model.specs.Runs.{Progress, advance, progress, ran}
 use Rattle.model.specs.declared.Table.{Table}
+use Rattle.model.specs.declared.Event.{Event}
+use Rattle.model.specs.declared.Command.{Command}
+use Rattle.model.specs.declared.Command.the-variants.{Act, Read}
 use Rattle.model.specs.declared.RunAnswer.{RunAnswer}
 use Rattle.records.specs.Cuts.{recordOf}
 use Rattle.events.specs.declared.files.Ahead.{Ahead}
@@ -20,9 +23,13 @@ use Rattle.events.specs.declared.files.Advance.{Advance}
 use Rattle.events.specs.Reading.{ownerOf, seatOf}
 use Rattle.events.specs.Effects.{Leaves}
 
--- the record that s begins with, in a file of version v, and the indices of the controllers that its event reads
+-- the record that s begins with, in a file of version v, and the indices of the controllers that its event reads, 0 where it has none
+unfoldable pub seatsOf : Command → ℕ × ℕ
+seatsOf (Act e) = (seatOf (subject e), seatOf (ownerOf e))
+seatsOf (Read c) = (0, 0)
+
 unfoldable pub aheadOf : ℕ → List ℕ → Ahead
-aheadOf v s = record { found = recordOf v s; subject = seatOf (subject (decode v s)); owner = seatOf (ownerOf (decode v s)) }
+aheadOf v s = record { found = recordOf v s; subject = seatsOf (decode v s) .0; owner = seatsOf (decode v s) .1 }
 
 unfoldable pub progressOf : Cursor → Table → List ℕ → Progress
 progressOf c t l = record { number = c .number; events = c .events; lines = take (c .written) l; table = t }
@@ -46,7 +53,7 @@ pub record Turned (c : Cursor) (t : Table) (s l w : List ℕ) (answer : Advance)
   pub events : answer .cursor .events ≡ turned c t s l (length w) .events
   pub written : answer .cursor .written ≡ length (turned c t s l (length w) .lines)
   pub used : answer .used ≡ cond (eqb (turned c t s l (length w) .number) 0) (size s + 1) (length s)
-  pub leaves : turned c t s l (length w) .number ≡ 0 → Leaves t (decode (t .version) s) (answer .controller)
+  pub leaves : turned c t s l (length w) .number ≡ 0 → (e : Event) → decode (t .version) s ≡ Act e → Leaves t e (answer .controller)
   pub listed : listing ≡ overlay (turned c t s l (length w) .lines) l
   pub clear : scratch ≡ scratchAfter (step t s (length w) .answer .number) w
 

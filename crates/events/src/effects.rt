@@ -11,7 +11,7 @@ ghost use Rattle.model.specs.declared.Event.the-variants.{Handover};
 ghost use Rattle.events.specs.Conditions.{Accepted, Receivable, OfRun};
 ghost use Rattle.events.specs.Reading.{ownerOf, seatOf, partiesOf, Allowed, taken, Reading};
 ghost use Rattle.events.specs.Applying.{withApplied};
-ghost use Rattle.events.specs.Effects.{Leaves, Effected, noSet};
+ghost use Rattle.events.specs.Effects.{Leaves, Effected, noSet, readAnswer};
 use model::Answer;
 use model::Controller;
 use model::Event;
@@ -237,6 +237,18 @@ pub(crate) fn total(t: Table, c: Controller) -> i32
     let messages = t.messages;
     let applied = c.applied;
     totals::total(t.count, messages, applied)
+}
+
+// What a local read answers: the total that the panel shows.
+pub(crate) fn read_answer(t: Table, c: u8) -> Answer
+    requires { ⌜ (0 < c) × (c ≤ 7) ⌝ }
+    ensures { λ r. ⌜ r ≡ readAnswer t c ⌝ }
+{
+    let i = c as usize - 1;
+    let x = t.controllers[i];
+    let mut answer = no_set(0);
+    answer.total = total(t, x);
+    answer
 }
 
 // A finished sync's answer, where the controller has applied its set; 0 where none is finished.

@@ -11,6 +11,7 @@ ghost use Rattle.events.specs.Stepped.{Runs};
 use crate::effects;
 use crate::effects::Effect;
 use listing::Put;
+use model::Command;
 use model::Controller;
 use model::Event;
 use model::Message;
@@ -53,7 +54,8 @@ fn list_line(tail: &mut [u8], event: usize, e: Event, t: Table, done: Effect) ->
     listing::put_line(tail, event, effects::subject(e), total, names, size)
 }
 
-// The record that the bytes left begin with, and the indices of the controllers that its event reads.
+// The record that the bytes left begin with, and the indices of the controllers that its event reads; those of a local read are
+// not used.
 struct Ahead {
     found: Record,
     subject: usize,
@@ -64,11 +66,17 @@ fn look_ahead(version: usize, left: &[u8]) -> Ahead
     ensures { λ r. ⌜ r ≡ aheadOf version (now (left .entry)) ⌝ }
 {
     let found = records::read_record(version, left);
-    let e = found.event;
-    Ahead {
-        found,
-        subject: effects::seat(effects::subject(e)),
-        owner: effects::seat(effects::owner(e)),
+    match found.command {
+        Command::Act(e) => Ahead {
+            found,
+            subject: effects::seat(effects::subject(e)),
+            owner: effects::seat(effects::owner(e)),
+        },
+        Command::Read(c) => Ahead {
+            found,
+            subject: 0,
+            owner: 0,
+        },
     }
 }
 
@@ -84,7 +92,7 @@ fn ended(cursor: Cursor, number: u8) -> Cursor
 }
 
 // Carries out the record that was read off the bytes left, and lists it; a refusal ends the run. Its event's subject is x, and it
-// reads the log of y.
+// reads the log of y. A local read has no line, and its total is not asked for.
 fn turn(
     cursor: Cursor,
     t: Table,
@@ -99,7 +107,6 @@ fn turn(
     ensures { λ r. ⌜ Turned cursor t (now (left .entry)) (now (listing .entry)) (now (scratch .entry)) r (now (listing .exit)) (now (scratch .exit)) ⌝ }
 {
     let start = cursor.written;
-    let event = found.event;
     let number = crate::refusal_of(t, found, scratch.len());
     if number != 0 {
         return Advance {
@@ -108,6 +115,19 @@ fn turn(
             controller: x,
         };
     }
+    let command = found.command;
+    let Command::Act(event) = command else {
+        delivery::clear(scratch);
+        return Advance {
+            cursor: Cursor {
+                number: refusal::ACCEPTED,
+                events: cursor.events + 1,
+                written: start,
+            },
+            used: found.used,
+            controller: x,
+        };
+    };
     let done = effects::carry_out(t, x, y, event, scratch);
     let controller = done.controller;
     let put = list_line(&mut listing[start..], cursor.events + 1, event, t, done);
@@ -160,9 +180,12 @@ fn run_records(bytes: &[u8], listing: &mut [u8], scratch: &mut [u8]) -> RunAnswe
         if verdict != 0 {
             continue;
         }
+        let command = found.command;
+        let Command::Act(e) = command else {
+            continue;
+        };
         let c = done.controller;
         table.controllers[i] = c;
-        let e = found.event;
         let Event::Send { sender, payload } = e else {
             continue;
         };

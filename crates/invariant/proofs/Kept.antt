@@ -9,17 +9,19 @@ use native.Mathlib.Omega.{arith}
 use lib.ListN.{getD-replicate}
 use Rattle.lists.specs.Below.{greatest}
 use Rattle.model.specs.Tables.{seats, capacity, absent, yes?, at, none, noController, noPending, unheld, idle, start, fresh}
-use Rattle.model.specs.Events.{subject, after, withSent, next}
+use Rattle.model.specs.Events.{subject, after, withSent, next, resulting}
 use Rattle.model.specs.Records.{decode}
 use Rattle.model.specs.Sized.{Sized}
 use Rattle.model.specs.WellFormed.{greatestApplied, wellFormed}
-use Rattle.model.specs.Questions.{firstNo, eventQuestions}
+use Rattle.model.specs.Questions.{firstNo, eventQuestions, commandQuestions}
 use Rattle.model.specs.Calls.{Outcome, accepted, refused, step, event}
 use Rattle.model.specs.declared.MessageNumber.{MessageNumber}
 use Rattle.model.specs.declared.Pending.{Pending}
 use Rattle.model.specs.declared.Table.{Table}
 use Rattle.model.specs.declared.Event.{Event}
 use Rattle.model.specs.declared.Event.the-variants.{Send, Handover, Stop}
+use Rattle.model.specs.declared.Command.{Command}
+use Rattle.model.specs.declared.Command.the-variants.{Act, Read}
 use Rattle.model.specs.Facts.{Among, GoodController, WellFormed}
 use Rattle.model.proofs.Tested.{facts, tested}
 use Rattle.model.proofs.Allowed.{FreshAllowed, step-asked, send-allowed, handover-allowed, stop-allowed}
@@ -74,15 +76,18 @@ next-well-formed t (Send c p) z w q = send-well-formed t w z c p (send-allowed t
 next-well-formed t (Handover r o) z w q = handover-well-formed t w z r o (handover-allowed t r o q)
 next-well-formed t (Stop c k) z w q = stop-well-formed t w z c k (stop-allowed t c k q)
 
+pub resulting-kept : (t : Table) (a : Command) → Sized t → WellFormed t → firstNo (commandQuestions t a) ≡ 0 → Sized (resulting t a) × WellFormed (resulting t a)
+unfolding resulting commandQuestions
+resulting-kept t (Act e) z w q = (next-sized t e z, next-well-formed t e z w q)
+resulting-kept t (Read c) z w q = (z, w)
+
 -- CALLS
 
 pub step-kept : (t : Table) (s : List ℕ) (room : ℕ) → Sized t → wellFormed t ≡ true → Sized (step t s room .table) × (wellFormed (step t s room .table) ≡ true)
 unfolding accepted refused
 step-kept t s room z w =
     step-case t s room (λ (o : Outcome). Sized (o .table) × (wellFormed (o .table) ≡ true))
-    (λ e.
-    let d = decode (t .version) s in
-    (next-sized t d z, tested (next t d) (next-well-formed t d z (facts t w) (step-asked t s room e .1))))
+    (λ e. let k = resulting-kept t (decode (t .version) s) z (facts t w) (step-asked t s room e .1) in (k .0, tested _ (k .1)))
     (λ _. (z, w))
 
 pub event-kept : (t : Table) (s : List ℕ) (room : ℕ) → Sized t → wellFormed t ≡ true → Sized (event t s room .table) × (wellFormed (event t s room .table) ≡ true)

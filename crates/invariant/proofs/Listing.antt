@@ -18,23 +18,25 @@ use Rattle.lists.proofs.Below.{sum-ext, sum-bound}
 use Rattle.lists.proofs.Every.{Every}
 use Rattle.model.specs.Tables.{at, message, applied}
 use Rattle.model.specs.Delivery.{Slots, has}
-use Rattle.model.specs.Events.{subject, next, appliedBy, weigh, shown, panelOf, earlier, insert, namesBelow, namesOf, nameOf}
+use Rattle.model.specs.Events.{subject, next, appliedBy, controllerOf, resulting, weigh, shown, panelOf, earlier, insert, namesBelow, namesOf, nameOf}
 use Rattle.model.specs.Records.{byte, behind, decode}
 use Rattle.model.specs.Sized.{Sized}
-use Rattle.model.specs.Questions.{firstNo, fileQuestions, eventQuestions, lineFits}
-use Rattle.model.specs.Calls.{accepted, step}
+use Rattle.model.specs.Questions.{firstNo, fileQuestions, kindQuestions, recordQuestions, eventQuestions, commandQuestions, lineFits}
+use Rattle.model.specs.Calls.{answering, accepted, step}
 use Rattle.model.specs.Runs.{line, lineOf, Progress, lineAt, verdict, records, begun, progress}
 use Rattle.model.specs.declared.Name.{Name}
 use Rattle.model.specs.declared.Table.{Table}
 use Rattle.model.specs.declared.Event.{Event}
+use Rattle.model.specs.declared.Command.{Command}
+use Rattle.model.specs.declared.Command.the-variants.{Act, Read}
 use Rattle.model.specs.Facts.{Among, WellFormed}
 use Rattle.model.proofs.Allowed.{step-asked, file-allowed, subject-allowed}
 use Rattle.model.proofs.Steps.{step-number, step-is-accepted, accepted-asked}
 use Rattle.model.proofs.Runs.{gone, verdict-passed, advance-case}
 use Rattle.model.proofs.Decimals.{decimal-bound}
 use Rattle.model.proofs.Lengths.{length-insert, SmallName, signed-bound, names-bound, length-line}
-use Rattle.invariant.proofs.Sizes.{next-sized, next-n, fresh-sized}
-use Rattle.invariant.proofs.Kept.{next-well-formed, fresh-well-formed}
+use Rattle.invariant.proofs.Sizes.{next-n, fresh-sized}
+use Rattle.invariant.proofs.Kept.{next-well-formed, resulting-kept, fresh-well-formed}
 use Rattle.invariant.proofs.Refusals.{step-number-range}
 use Rattle.invariant.proofs.Counter.{weighSet, weigh-next}
 use Rattle.invariant.proofs.Bounds.{total-bounds}
@@ -152,6 +154,19 @@ deliveries-next t e z w q =
 
 -- ONE RECORD
 
+-- the line of a record that no question refuses takes no more than what it delivers allows; a local read delivers nothing and has none
+line-delivers : (t : Table) (a : Command) (r : List ℕ) → Sized t → WellFormed t → firstNo (commandQuestions t a) ≡ 0 → (k : ℕ) → k < 100000
+    → length (lineOf k (controllerOf a) (panelOf (resulting t a) (controllerOf a) .total) (answering t a r .names)) + 31 * deliveries t ≤ 31 * deliveries (resulting t a)
+unfolding resulting answering controllerOf commandQuestions lineOf
+line-delivers t (Act e) r z w q k h =
+    let ms = namesOf t (appliedBy t e) in
+    omega (
+      arith,
+      deliveries-next t e z w q,
+      lineOf-length k (subject e) (panelOf (next t e) (subject e) .total) ms (small-line t e z w q k h),
+    )
+line-delivers t (Read c) r z w q k h = omega arith
+
 -- a run that goes on with at most f records, and has listed no more than its deliveries allow
 record Listed (f : ℕ) (p : Progress) : Type 0 where
   going : p .number ≡ 0
@@ -169,19 +184,17 @@ module _ (p : Progress) (s : List ℕ) (room space f : ℕ) (h : Listed (suc f) 
       let a = accepted-asked t s room e in
       let q = step-asked t s room a .1 in
       let d = decode (t .version) s in
-      let ms = namesOf t (appliedBy t d) in
+      let k = resulting-kept t d (h .sized) (h .formed) q in
       rw (step-is-accepted t s room a) (record {
         going = refl;
         few = omega (arith, h .few);
-        sized = next-sized t d (h .sized);
-        formed = next-well-formed t d (h .sized) (h .formed) q;
+        sized = k .0;
+        formed = k .1;
         lines = omega (
           arith,
           h .lines,
-          deliveries-next t d (h .sized) (h .formed) q,
-          length-append (p .lines) (lineOf (p .events + 1) (subject d) (panelOf (next t d) (subject d) .total) ms),
-          lineOf-length (p .events + 1) (subject d) (panelOf (next t d) (subject d) .total) ms
-              (small-line t d (h .sized) (h .formed) q (p .events + 1) (omega (arith, h .few))),
+          length-append (p .lines) (lineOf (p .events + 1) (controllerOf d) (panelOf (resulting t d) (controllerOf d) .total) (answering t d (behind s) .names)),
+          line-delivers t d (behind s) (h .sized) (h .formed) q (p .events + 1) (omega (arith, h .few)),
         );
       })
 
@@ -226,3 +239,52 @@ listing-fits s room space q h =
     let r = records-fit (length s) (begun (byte s 0) (byte s 1)) (drop 2 s) room space h
     (record { going = refl; few = omega (arith, a .short); sized = fresh-sized (byte s 0) (byte s 1); formed = fresh-well-formed (a .fresh); lines = omega arith }) in
     (r .not-16, r .short)
+
+-- HOW MANY EVENTS
+
+-- a record has at least three bytes, its length byte counted
+size-least : (v k : ℕ) → 0 < k → k ≤ 5 → 2 ≤ sizeOf v k
+unfolding sizeOf all
+size-least v k l h =
+    let P : Bool → ℕ → Bool = λ b j. eqb j 0 || leb 2 (getD (0 ∷ cond b 5 4 ∷ 2 ∷ 3 ∷ 4 ∷ 2 ∷ []) j 0) in
+    cond-case (λ n. 2 ≤ getD (0 ∷ n ∷ 2 ∷ 3 ∷ 4 ∷ 2 ∷ []) k 0) (eqb v 2) 5 4
+    (λ _. leb-true 2 _ (or-right (ne-eqb k 0 (omega arith)) (all-at 6 (P true) refl k (omega arith))))
+    (λ _. leb-true 2 _ (or-right (ne-eqb k 0 (omega arith)) (all-at 6 (P false) refl k (omega arith))))
+
+accepted-size : (v : ℕ) (s : List ℕ) → firstNo (recordQuestions v s) ≡ 0 → 2 ≤ size s
+unfolding recordQuestions kindQuestions
+accepted-size v s e =
+    let q5 = no-no _ _ _ e in
+    let q6 = no-no _ _ _ (q5 .1) in
+    let q7 = no-no _ _ _ (q6 .1) in
+    let k = and-right (ltb 0 (size s)) _ (q6 .0) in
+    omega (
+      arith,
+      eqb-true (size s) (sizeOf v (kind s)) (q7 .0),
+      size-least v (kind s) (ltb-true 0 (kind s) (and-left _ _ k)) (leb-true (kind s) 5 (and-right (ltb 0 (kind s)) _ k)),
+    )
+
+records-count : (f : ℕ) (p : Progress) (s : List ℕ) (room space : ℕ) → 3 * records f p s room space .events ≤ 3 * p .events + length s
+unfolding records
+records-count zero p s room space = omega arith
+records-count (suc f) p [] room space = omega arith
+records-count (suc f) p (b ∷ s) room space =
+    advance-case p (b ∷ s) room space (λ q. 3 * (cond (eqb (q .number) 0) (records f q (behind (b ∷ s)) room space) q) .events ≤ 3 * p .events + length (b ∷ s))
+    (λ v.
+    let e = verdict-passed p (b ∷ s) room space v .0 in
+    let a = accepted-asked (p .table) (b ∷ s) room e in
+    omega (
+      arith,
+      records-count f (gone p (b ∷ s) room space) (behind (b ∷ s)) room space,
+      accepted-size (p .table .version) (b ∷ s) (step-asked (p .table) (b ∷ s) room a .0),
+      accepted-within (p .table) (b ∷ s) room e,
+      unfold behind in (length-drop (size (b ∷ s) + 1) (b ∷ s)),
+    ))
+    (λ d. rw (ne-eqb (verdict p (b ∷ s) room space) 0 d) (omega arith))
+
+-- No file has more than 21,844 events.
+pub events-bound : (s : List ℕ) (room space : ℕ) → firstNo (fileQuestions s) ≡ 0 → progress s room space .events ≤ 21844
+unfolding progress begun
+events-bound s room space q =
+    let a = file-allowed s q in
+    omega (arith, a .long, a .short, length-drop 2 s, records-count (length s) (begun (byte s 0) (byte s 1)) (drop 2 s) room space)

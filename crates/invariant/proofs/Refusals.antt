@@ -1,4 +1,4 @@
--- The numbers that a step can give: 0, 5 to 15, or 17. Assumes nothing.
+-- The numbers that a step can give: 0, 5 to 15, 17 or 18. Assumes nothing.
 use mathlib.Core.Path.{_≡_, refl}
 use mathlib.Core.Logic.{_≢_, _⊎_, inl, inr}
 use mathlib.Core.List.{List, [], _∷_, _++_}
@@ -6,13 +6,14 @@ use Prim.Native.Nat.{ℕ, _≤_}
 use native.Mathlib.Omega.{arith}
 use Rattle.lists.proofs.Tests.{cond-case}
 use Rattle.model.specs.Records.{decode}
-use Rattle.model.specs.Questions.{Question, firstNo, kindQuestions, recordQuestions, eventQuestions, scratchRoom, stepQuestions}
+use Rattle.model.specs.Questions.{Question, firstNo, kindQuestions, recordQuestions, eventQuestions, commandQuestions, scratchRoom, stepQuestions}
 use Rattle.model.specs.declared.Table.{Table}
-use Rattle.model.specs.declared.Event.{Event}
 use Rattle.model.specs.declared.Event.the-variants.{Send, Handover, Stop}
+use Rattle.model.specs.declared.Command.{Command}
+use Rattle.model.specs.declared.Command.the-variants.{Act, Read}
 
 abbrev pub StepNumber : ℕ → Type 0
-StepNumber k = (5 ≤ k) × (k ≤ 17) × (k ≢ 16)
+StepNumber k = (5 ≤ k) × (k ≤ 18) × (k ≢ 16)
 
 -- every question has such a number
 abbrev Numbers : List Question → Type 0
@@ -24,11 +25,12 @@ unfolding firstNo
 first-number [] w = inl refl
 first-number (q ∷ qs) w = cond-case (λ k. (k ≡ 0) ⊎ StepNumber k) (q .yes) (firstNo qs) (q .number) (λ _. first-number qs (w .1)) (λ _. inr (w .0))
 
-step-numbers : (t : Table) (v : ℕ) (s : List ℕ) (room : ℕ) (e : Event) → Numbers (recordQuestions v s ++ (eventQuestions t e ++ (scratchRoom room ∷ [])))
-unfolding recordQuestions kindQuestions eventQuestions scratchRoom
-step-numbers t v s room (Send c p) = omega arith
-step-numbers t v s room (Handover r o) = omega arith
-step-numbers t v s room (Stop c k) = omega arith
+step-numbers : (t : Table) (v : ℕ) (s : List ℕ) (room : ℕ) (a : Command) → Numbers (recordQuestions v s ++ (commandQuestions t a ++ (scratchRoom room ∷ [])))
+unfolding recordQuestions kindQuestions eventQuestions commandQuestions scratchRoom
+step-numbers t v s room (Act (Send c p)) = omega arith
+step-numbers t v s room (Act (Handover r o)) = omega arith
+step-numbers t v s room (Act (Stop c k)) = omega arith
+step-numbers t v s room (Read c) = omega arith
 
 pub step-number-range : (t : Table) (s : List ℕ) (room : ℕ) → (firstNo (stepQuestions t s room) ≡ 0) ⊎ StepNumber (firstNo (stepQuestions t s room))
 unfolding stepQuestions

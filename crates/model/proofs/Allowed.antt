@@ -11,14 +11,16 @@ use Rattle.lists.specs.Below.{count}
 use Rattle.lists.proofs.Tests.{cond-case, and-left, and-right, both}
 use Rattle.lists.proofs.Below.{count-pos}
 use Rattle.model.specs.Tables.{seats, capacity, lastClass, sync, yes?, at, message, place, held}
-use Rattle.model.specs.Events.{subject}
+use Rattle.model.specs.Events.{subject, controllerOf}
 use Rattle.model.specs.Records.{byte, kind, word, reportClass, reported, decode}
 use Rattle.model.specs.WellFormed.{named, fairAmount, fairClass, known}
-use Rattle.model.specs.Questions.{Question, ask, firstNo, freshQuestions, fileQuestions, kindQuestions, recordQuestions, ownPending, unread, keepable, eventQuestions, scratchRoom, stepQuestions, lineFits}
+use Rattle.model.specs.Questions.{Question, ask, firstNo, freshQuestions, fileQuestions, kindQuestions, recordQuestions, ownPending, unread, keepable, eventQuestions, commandQuestions, scratchRoom, stepQuestions, lineFits}
 use Rattle.model.specs.declared.Payload.{Payload}
 use Rattle.model.specs.declared.Table.{Table}
 use Rattle.model.specs.declared.Event.{Event}
 use Rattle.model.specs.declared.Event.the-variants.{Send, Handover, Stop}
+use Rattle.model.specs.declared.Command.{Command}
+use Rattle.model.specs.declared.Command.the-variants.{Act, Read}
 use Rattle.model.specs.Facts.{Among}
 use Rattle.model.proofs.Tested.{named-at, all-named}
 
@@ -47,18 +49,23 @@ event-numbered t (Send c p) = more (more (more (more (more (more none)))))
 event-numbered t (Handover r o) = more (more (more none))
 event-numbered t (Stop c k) = more (more (more none))
 
+pub command-numbered : (t : Table) (a : Command) → Numbered (commandQuestions t a)
+unfolding commandQuestions
+command-numbered t (Act e) = event-numbered t e
+command-numbered t (Read c) = more (more (more none))
+
 pub record-numbered : (v : ℕ) (s : List ℕ) → Numbered (recordQuestions v s)
 unfolding recordQuestions kindQuestions
 record-numbered v s = more (more (more none))
 
--- the questions of a step: of the record, of the event, and of the scratch area
+-- the questions of a step: of the record, of what it asks for, and of the scratch area
 pub step-asked : (t : Table) (s : List ℕ) (room : ℕ) → firstNo (stepQuestions t s room) ≡ 0
-    → (firstNo (recordQuestions (t .version) s) ≡ 0) × (firstNo (eventQuestions t (decode (t .version) s)) ≡ 0) × (firstNo (scratchRoom room ∷ []) ≡ 0)
+    → (firstNo (recordQuestions (t .version) s) ≡ 0) × (firstNo (commandQuestions t (decode (t .version) s)) ≡ 0) × (firstNo (scratchRoom room ∷ []) ≡ 0)
 unfolding stepQuestions
 step-asked t s room e =
     let d = decode (t .version) s in
-    let q = no-no-append (record-numbered (t .version) s) (eventQuestions t d ++ (scratchRoom room ∷ [])) e in
-    let r = no-no-append (event-numbered t d) (scratchRoom room ∷ []) (q .1) in
+    let q = no-no-append (record-numbered (t .version) s) (commandQuestions t d ++ (scratchRoom room ∷ [])) e in
+    let r = no-no-append (command-numbered t d) (scratchRoom room ∷ []) (q .1) in
     (q .0, r .0, r .1)
 
 -- a step's number, and question 16 of its line
@@ -101,7 +108,6 @@ pub record SendAllowed (t : Table) (c : ℕ) (p : Payload) : Type 0 where
   pub amount : fairAmount p ≡ true
   pub class : fairClass (t .version) p ≡ true
   pub running : yes? (at t c .running) ≡ true
-  pub none-pending : (s : ℕ) → s < t .count → held (at t c) s ≡ true → message t s .sender ≡ c → ⊥
   pub room : t .count < capacity
 
 pub record HandoverAllowed (t : Table) (r o : ℕ) : Type 0 where
@@ -117,7 +123,7 @@ pub record StopAllowed (t : Table) (c k : ℕ) : Type 0 where
   pub read-kept : (r : ℕ) → Among (t .n) r → place (at t r) c ≤ k
 
 pub send-allowed : (t : Table) (c : ℕ) (p : Payload) → firstNo (eventQuestions t (Send c p)) ≡ 0 → SendAllowed t c p
-unfolding eventQuestions ownPending
+unfolding eventQuestions
 send-allowed t c p e =
     let q8 = no-no _ _ _ e in
     let q9 = no-no _ _ _ (q8 .1) in
@@ -130,11 +136,6 @@ send-allowed t c p e =
       amount = q9 .0;
       class = q17 .0;
       running = q10 .0;
-      none-pending = λ s h p q. omega (
-        arith,
-        count-pos (t .count) (λ s. held (at t c) s && eqb (message t s .sender) c) s h (both p (eq-eqb (message t s .sender) c q)),
-        ltb-false 0 (count (t .count) (λ s. held (at t c) s && eqb (message t s .sender) c)) (not-true (ownPending t c) (q11 .0)),
-      );
       room = ltb-true (t .count) capacity (q12 .0);
     }
 
@@ -165,6 +166,27 @@ stop-allowed t c k e =
           (all-named (t .n) (λ r. leb (place (at t r) c) k) (and-right (leb k (at t c .length)) _ (q14 .0)) r h);
     }
 
+pub record ReadAllowed (t : Table) (c : ℕ) : Type 0 where
+  pub controller : Among (t .n) c
+  pub running : yes? (at t c .running) ≡ true
+  pub none-pending : (s : ℕ) → s < t .count → held (at t c) s ≡ true → message t s .sender ≡ c → ⊥
+
+pub read-allowed : (t : Table) (c : ℕ) → firstNo (commandQuestions t (Read c)) ≡ 0 → ReadAllowed t c
+unfolding commandQuestions ownPending
+read-allowed t c e =
+    let q8 = no-no _ _ _ e in
+    let q10 = no-no _ _ _ (q8 .1) in
+    let q18 = no-no _ _ _ (q10 .1) in
+    record {
+      controller = named-at t c (q8 .0);
+      running = q10 .0;
+      none-pending = λ s h p q. omega (
+        arith,
+        count-pos (t .count) (λ s. held (at t c) s && eqb (message t s .sender) c) s h (both p (eq-eqb (message t s .sender) c q)),
+        ltb-false 0 (count (t .count) (λ s. held (at t c) s && eqb (message t s .sender) c)) (not-true (ownPending t c) (q18 .0)),
+      );
+    }
+
 -- an event that is allowed changes a controller of the table
 pub subject-allowed : (t : Table) (e : Event) → firstNo (eventQuestions t e) ≡ 0 → Among (t .n) (subject e)
 unfolding subject
@@ -172,19 +194,38 @@ subject-allowed t (Send c p) q = send-allowed t c p q .sender
 subject-allowed t (Handover r o) q = handover-allowed t r o q .receiver
 subject-allowed t (Stop c k) q = stop-allowed t c k q .controller
 
--- Question 17 refuses reports of version 2 alone: any other message that a record sends has class 0, as it must.
-pub unclassed-fair : (v : ℕ) (s : List ℕ) (c : ℕ) (p : Payload) → decode v s ≡ Send c p → (eqb v 2 && eqb (kind s) 1) ≡ false → fairClass v p ≡ true
-unfolding decode reportClass fairClass
-unclassed-fair v s c p = go (eqb v 2) (eqb (kind s) 1) (eqb (kind s) 2) (eqb (kind s) 3)
+pub controller-allowed : (t : Table) (a : Command) → firstNo (commandQuestions t a) ≡ 0 → Among (t .n) (controllerOf a)
+unfolding controllerOf commandQuestions
+controller-allowed t (Act e) q = subject-allowed t e q
+controller-allowed t (Read c) q = read-allowed t c q .controller
+
+-- a record that sends is a report's, or a sync's
+pub data SendRecord (v : ℕ) (s : List ℕ) (p : Payload) : Type 0 where
+  reports : eqb (kind s) 1 ≡ true → p ≡ reported (reportClass v s) (word s 3) → SendRecord v s p
+  syncs : eqb (kind s) 1 ≡ false → p ≡ sync → SendRecord v s p
+
+pub send-record : (v : ℕ) (s : List ℕ) (c : ℕ) (p : Payload) → decode v s ≡ Act (Send c p) → SendRecord v s p
+unfolding decode
+send-record v s c p = go (eqb (kind s) 1) refl (eqb (kind s) 2) (eqb (kind s) 3) (eqb (kind s) 4)
   where
-    go : (w a b d : Bool)
-        → cond a (Send (byte s 2) (reported (cond w (byte s 5) 0) (word s 3))) (cond b (Send (byte s 2) sync) (cond d (Handover (byte s 2) (byte s 3)) (Stop (byte s 2) (word s 3)))) ≡ Send c p
-        → (w && a) ≡ false → cond (w && eqb (p .kind) 1) (ltb 0 (p .class) && leb (p .class) lastClass) (eqb (p .class) 0) ≡ true
-    go true true b d e f = absurd (true≢false f)
-    go false true b d e f =
-        let q : reported 0 (word s 3) ≡ p = cc in
-        rw (← q) (unfold reported in (cond-case (λ (r : Payload). eqb (r .class) 0 ≡ true) (ltb (word s 3) 32768) _ _ (λ _. refl) (λ _. refl)))
-    go true false true d e f = let q : sync ≡ p = cc in rw (← q)
-    go false false true d e f = let q : sync ≡ p = cc in rw (← q)
-    go w false false true e f = let q : _≡_ {A = ℕ} 0 1 = cc in absurd (omega arith)
-    go w false false false e f = let q : _≡_ {A = ℕ} 0 1 = cc in absurd (omega arith)
+    go : (a : Bool) → eqb (kind s) 1 ≡ a → (b d f : Bool)
+        → cond a (Act (Send (byte s 2) (reported (reportClass v s) (word s 3))))
+        (cond b (Act (Send (byte s 2) sync)) (cond d (Act (Handover (byte s 2) (byte s 3))) (cond f (Act (Stop (byte s 2) (word s 3))) (Read (byte s 2))))) ≡ Act (Send c p)
+        → SendRecord v s p
+    go true q b d f e = reports q cc
+    go false q true d f e = syncs q cc
+    go false q false true f e = let r : _≡_ {A = ℕ} 0 1 = cc in absurd (omega arith)
+    go false q false false true e = let r : _≡_ {A = ℕ} 0 1 = cc in absurd (omega arith)
+    go false q false false false e = let r : _≡_ {A = ℕ} 0 1 = cc in absurd (omega arith)
+
+-- Question 17 refuses reports of version 2 alone: any other message that a record sends has class 0, as it must.
+pub unclassed-fair : (v : ℕ) (s : List ℕ) (c : ℕ) (p : Payload) → decode v s ≡ Act (Send c p) → (eqb v 2 && eqb (kind s) 1) ≡ false → fairClass v p ≡ true
+unfolding reportClass fairClass
+unclassed-fair v s c p e f = go (eqb v 2) refl (send-record v s c p e)
+  where
+    go : (w : Bool) → eqb v 2 ≡ w → SendRecord v s p → fairClass v p ≡ true
+    go true z (reports q r) = absurd (true≢false (rw (z, q) at f))
+    go false z (reports q r) =
+        rw (r, z) (unfold reported in (cond-case (λ (x : Payload). eqb (x .class) 0 ≡ true) (ltb (word s 3) 32768) _ _ (λ _. refl) (λ _. refl)))
+    go true z (syncs q r) = rw (r, z) refl
+    go false z (syncs q r) = rw (r, z) refl

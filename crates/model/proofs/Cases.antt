@@ -3,8 +3,8 @@
 -- Assumes nothing.
 use mathlib.Core.Path.{_≡_, refl}
 use Prim.Native.Nat.{ℕ, zero, suc, _+_, _*_, _/_, _%_, _-_}
-use mathlib.Core.Bool.{cond}
-use mathlib.Core.List.{List, [], _∷_, _++_, map}
+use mathlib.Core.Bool.{Bool, true, false, cond}
+use mathlib.Core.List.{List, [], _∷_, _++_, map, flatten}
 use lib.Dec.{eqb}
 use lib.IntN.{ℤ, pos, negsuc}
 use Rattle.model.specs.Tables.{noPanel, fresh}
@@ -33,6 +33,10 @@ handover r o = 3 ∷ 3 ∷ r ∷ o ∷ []
 stop : ℕ → ℕ → List ℕ
 stop c k = 4 ∷ 4 ∷ c ∷ 0 ∷ k ∷ []
 
+-- a local read
+local : ℕ → List ℕ
+local c = 2 ∷ 5 ∷ c ∷ []
+
 minus : ℕ → ℕ
 minus x = 65536 - x
 
@@ -57,11 +61,17 @@ data Case : Type 0 where
   -- the records of a file past question 3, and how many bytes of scratch and of listing
   run : List ℕ → ℕ → ℕ → Case
 
--- the number; the set of each accepted event, a message as 100 times its sender plus its number; and what a look shows
+-- the number; the set of each accepted event, a message as 100 times its sender plus its number; what a look shows, or in its total the
+-- answer's total; whether an own sync is finished; and the lines of a run
 record Given : Type 0 where
   number : ℕ
   sets : List (List ℕ)
   shown : Panel
+  finished : Bool
+  lines : List ℕ
+
+abbrev totalled : ℤ → Panel
+totalled x = record { total = x; classes = noPanel .classes }
 
 abbrev coded : Name → ℕ
 coded m = m .sender * 100 + m .number .0
@@ -73,28 +83,34 @@ setOf a = cond (eqb (a .number) 0) (map coded (a .names)) ((1000 + a .number) �
 called : Table → Call → Given
 called t (single s room) =
     let a = event t s room .answer in
-    record { number = a .number; sets = cond (eqb (a .number) 0) (map coded (a .names) ∷ []) []; shown = noPanel }
-called t (panel c) = let a = look t c in record { number = a .number; sets = []; shown = a .panel }
+    record { number = a .number; sets = cond (eqb (a .number) 0) (map coded (a .names) ∷ []) []; shown = totalled (a .total); finished = a .finished; lines = [] }
+called t (panel c) = let a = look t c in record { number = a .number; sets = []; shown = a .panel; finished = false; lines = [] }
 
 played : Table → List (List ℕ) → Call → Given
 played t [] c = called t c
 played t (r ∷ rs) c =
     let o = step t r 4096 in
     let g = played (o .table) rs c in
-    record { number = g .number; sets = setOf (o .answer) ∷ g .sets; shown = g .shown }
+    record { number = g .number; sets = setOf (o .answer) ∷ g .sets; shown = g .shown; finished = g .finished; lines = [] }
 
 given : Case → Given
 given (events v n rs c) = played (fresh v n) rs c
-given (request v n) = record { number = freshTable v n .number; sets = []; shown = noPanel }
-given (file s) = record { number = fileRun s [] [] .answer .number; sets = []; shown = noPanel }
-given (run s room space) = record { number = progress s room space .number; sets = []; shown = noPanel }
+given (request v n) = record { number = freshTable v n .number; sets = []; shown = noPanel; finished = false; lines = [] }
+given (file s) = record { number = fileRun s [] [] .answer .number; sets = []; shown = noPanel; finished = false; lines = [] }
+given (run s room space) =
+    let p = progress s room space in
+    record { number = p .number; sets = []; shown = noPanel; finished = false; lines = p .lines }
 
 record Row : Type 0 where
   of : Case
   gives : Given
 
 abbrev row : Case → ℕ → List (List ℕ) → Row
-row c k ss = record { of = c; gives = record { number = k; sets = ss; shown = noPanel } }
+row c k ss = record { of = c; gives = record { number = k; sets = ss; shown = noPanel; finished = false; lines = [] } }
+
+-- a run and its lines
+abbrev lists : List ℕ → ℕ → ℕ → ℕ → List ℕ → Row
+lists s room space k ls = record { of = run s room space; gives = record { number = k; sets = []; shown = noPanel; finished = false; lines = ls } }
 
 -- accepted events before a single event, and their sets
 abbrev case : ℕ → List (List ℕ) → List ℕ → ℕ → ℕ → List (List ℕ) → Row
@@ -109,7 +125,11 @@ quiet₂ n rs s room k j = row (events 2 n rs (single s room)) k (times j ([] �
 
 -- a look shows a total, and that of each class
 abbrev shows : ℕ → ℕ → List (List ℕ) → ℕ → List (List ℕ) → ℤ → List ℤ → Row
-shows v n rs c ss x xs = record { of = events v n rs (panel c); gives = record { number = 0; sets = ss; shown = record { total = x; classes = xs } } }
+shows v n rs c ss x xs = record { of = events v n rs (panel c); gives = record { number = 0; sets = ss; shown = record { total = x; classes = xs }; finished = false; lines = [] } }
+
+-- an event whose answer has this total, and whether it finishes an own sync
+abbrev totals : ℕ → ℕ → List (List ℕ) → List ℕ → List (List ℕ) → Bool → ℤ → Row
+totals v n rs s ss f x = record { of = events v n rs (single s 4096); gives = record { number = 0; sets = ss; shown = totalled x; finished = f; lines = [] } }
 
 none : ℤ
 none = pos 0
@@ -131,6 +151,18 @@ gradedSets : List (List ℕ)
 unfolding times
 gradedSets = times 6 ([] ∷ []) ++ ((101 ∷ 201 ∷ []) ∷ [] ∷ [] ∷ (101 ∷ 201 ∷ []) ∷ [] ∷ [] ∷ (203 ∷ []) ∷ (203 ∷ []) ∷ [] ∷ [])
 
+-- the run of RULES.md, section 26 (A run with reports under way): its first seven records, and their sets; and all but the last
+underway : List (List ℕ)
+unfolding report handover local
+underway = report 1 30 ∷ report 1 20 ∷ handover 2 1 ∷ handover 2 2 ∷ local 2 ∷ handover 2 1 ∷ handover 1 2 ∷ []
+
+further : List (List ℕ)
+unfolding underway handover local
+further = underway ++ (handover 1 2 ∷ local 1 ∷ handover 3 1 ∷ handover 3 1 ∷ handover 3 2 ∷ [])
+
+underwaySets : List (List ℕ)
+underwaySets = [] ∷ [] ∷ [] ∷ (101 ∷ []) ∷ [] ∷ [] ∷ (101 ∷ []) ∷ []
+
 -- log 1 is of length 3, and read to place 2
 three : List (List ℕ)
 unfolding report handover
@@ -146,7 +178,7 @@ each zero x = []
 each (suc k) x = [] ∷ (x ∷ []) ∷ each k (suc x)
 
 table : List Row
-unfolding report classed sync handover stop minus times worked graded gradedSets three full each none
+unfolding report classed sync handover stop local minus times worked graded gradedSets underway further underwaySets three full each none
 table =
     -- P: the sets of the worked run; event 10 applies nothing
     case 3 worked (handover 3 1) 4096 0 ([] ∷ [] ∷ [] ∷ (101 ∷ []) ∷ [] ∷ [] ∷ (101 ∷ []) ∷ (301 ∷ []) ∷ [] ∷ [] ∷ (101 ∷ 301 ∷ []) ∷ [])
@@ -174,8 +206,47 @@ table =
     ∷ quiet₂ 1 [] (sync 1) 4096 0 1
     ∷ quiet₂ 1 [] (stop 1 0) 4096 0 1
     ∷ quiet₂ 2 (classed 2 1 1 ∷ []) (handover 1 2) 4096 0 2
-    -- P: the second report while the first is pending
-    ∷ quiet 2 (report 1 1 ∷ []) (report 1 1) 4096 11 1
+    -- P: a second report while the first is pending, and the 64th; a sync is refused
+    ∷ quiet 2 (report 1 1 ∷ []) (report 1 1) 4096 0 2
+    ∷ quiet 2 (times 63 (report 1 1 ∷ [])) (report 1 1) 4096 0 64
+    ∷ quiet 2 (times 64 (report 1 1 ∷ [])) (report 1 1) 0 12 64
+    ∷ quiet 2 (report 1 1 ∷ []) (sync 1) 4096 11 1
+    ∷ quiet 2 (report 1 1 ∷ report 1 1 ∷ []) (sync 1) 4096 11 2
+    -- so is a sync after a sync, but not a report
+    ∷ quiet 2 (sync 1 ∷ []) (sync 1) 4096 11 1
+    ∷ quiet 2 (sync 1 ∷ []) (report 1 1) 4096 0 2
+    -- P: reports of one sender are applied in number order or, here, together; the entries of what was applied are passed over
+    ∷ case 1 (report 1 5 ∷ report 1 7 ∷ report 1 (minus 2) ∷ handover 1 1 ∷ handover 1 1 ∷ []) (handover 1 1) 4096 0 ([] ∷ [] ∷ [] ∷ (101 ∷ 102 ∷ 103 ∷ []) ∷ [] ∷ [] ∷ [])
+    -- a stop can then cut off what was applied
+    ∷ case 1 (report 1 5 ∷ report 1 7 ∷ handover 1 1 ∷ []) (stop 1 1) 4096 0 ([] ∷ [] ∷ (101 ∷ 102 ∷ []) ∷ [] ∷ [])
+    -- P: the run with reports under way: its sets, what a local read gives in it, and a local read that is refused in between
+    ∷ case 3 further (handover 3 2) 4096 0 (underwaySets ++ ((102 ∷ []) ∷ [] ∷ [] ∷ [] ∷ (101 ∷ []) ∷ (102 ∷ []) ∷ []))
+    ∷ totals 1 3 underway (local 2) (underwaySets ++ ([] ∷ [])) false (pos 30)
+    ∷ case 3 underway (local 1) 4096 18 underwaySets
+    ∷ totals 1 3 further (local 1) (underwaySets ++ ((102 ∷ []) ∷ [] ∷ [] ∷ [] ∷ (101 ∷ []) ∷ [] ∷ [])) false (pos 50)
+    ∷ lists (1 ∷ 3 ∷ flatten further) 4096 16384 0
+    (52 ∷ 32 ∷ 50 ∷ 32 ∷ 51 ∷ 48 ∷ 32 ∷ 49 ∷ 46 ∷ 49 ∷ 10
+    ∷ 55 ∷ 32 ∷ 49 ∷ 32 ∷ 51 ∷ 48 ∷ 32 ∷ 49 ∷ 46 ∷ 49 ∷ 10
+    ∷ 56 ∷ 32 ∷ 49 ∷ 32 ∷ 53 ∷ 48 ∷ 32 ∷ 49 ∷ 46 ∷ 50 ∷ 10
+    ∷ 49 ∷ 50 ∷ 32 ∷ 51 ∷ 32 ∷ 51 ∷ 48 ∷ 32 ∷ 49 ∷ 46 ∷ 49 ∷ 10
+    ∷ [])
+    -- P: a local read counts what its panel has applied, in both versions; the answer's total is else that of an own sync that is finished
+    ∷ totals 1 1 [] (local 1) ([] ∷ []) false (pos 0)
+    ∷ totals 2 1 (classed 1 30 2 ∷ handover 1 1 ∷ classed 1 (minus 37) 4 ∷ handover 1 1 ∷ []) (local 1) (each 2 101 ++ ([] ∷ [])) false (negsuc 6)
+    ∷ totals 1 2 (report 2 9 ∷ handover 1 2 ∷ []) (local 1) ([] ∷ [] ∷ [] ∷ []) false (pos 0)
+    ∷ totals 1 1 (report 1 5 ∷ []) (handover 1 1) ([] ∷ (101 ∷ []) ∷ []) false (pos 0)
+    ∷ totals 1 1 (report 1 5 ∷ handover 1 1 ∷ sync 1 ∷ []) (handover 1 1) ([] ∷ (101 ∷ []) ∷ [] ∷ (102 ∷ []) ∷ []) true (pos 5)
+    -- a local read: 7 before 8 before 10 before 18 before 15
+    ∷ quiet 1 [] (1 ∷ 5 ∷ []) 4096 7 0
+    ∷ quiet 1 [] (3 ∷ 5 ∷ 9 ∷ 0 ∷ []) 0 7 0
+    ∷ quiet 1 [] (2 ∷ 6 ∷ 1 ∷ []) 4096 6 0
+    ∷ quiet 2 [] (local 0) 4096 8 0
+    ∷ quiet 2 [] (local 3) 4096 8 0
+    ∷ quiet 2 [] (local 8) 0 8 0
+    ∷ quiet 2 (report 1 1 ∷ stop 1 1 ∷ []) (local 1) 0 10 2
+    ∷ quiet 2 (report 1 1 ∷ []) (local 1) 0 18 1
+    ∷ quiet 2 (sync 1 ∷ []) (local 1) 0 18 1
+    ∷ quiet 2 [] (local 1) 4095 15 0
     -- P: a stop at log length 3, highest read position 2
     ∷ quiet 4 three (stop 1 1) 4096 14 7
     ∷ quiet 4 three (stop 1 2) 4096 0 8
@@ -190,7 +261,7 @@ table =
     ∷ quiet 1 [] (0 ∷ 1 ∷ []) 0 6 0
     ∷ quiet 1 [] (1 ∷ 9 ∷ []) 0 6 0
     ∷ quiet 1 [] (3 ∷ 1 ∷ 9 ∷ 0 ∷ []) 0 7 0
-    -- a report: 8 before 9 before 10 before 11 before 12 before 15
+    -- a report: 8 before 9 before 10 before 12 before 15
     ∷ quiet 1 [] (report 2 361) 0 8 0
     ∷ quiet 2 (stop 1 0 ∷ []) (report 1 361) 0 9 1
     ∷ quiet 2 (report 1 1 ∷ stop 1 1 ∷ []) (report 1 360) 0 10 2
@@ -199,9 +270,8 @@ table =
     ∷ quiet₂ 2 (stop 1 0 ∷ []) (classed 1 361 5) 0 9 1
     ∷ quiet₂ 2 (stop 1 0 ∷ []) (classed 1 360 5) 0 17 1
     ∷ quiet₂ 2 (stop 1 0 ∷ []) (classed 1 360 4) 0 10 1
-    -- P: the 64th message is accepted, and the next gives 11 while it is pending
-    ∷ case 1 (full 63 ++ (report 1 1 ∷ [])) (report 1 1) 0 11 (each 63 101 ++ ([] ∷ []))
-    -- P: the 65th message gives 12
+    -- P: the 64th message is accepted, and the 65th gives 12
+    ∷ case 1 (full 63) (report 1 1) 4096 0 (each 63 101 ++ ([] ∷ []))
     ∷ case 1 (full 64) (report 1 1) 0 12 (each 64 101)
     ∷ quiet 1 [] (report 1 1) 4095 15 0
     -- a sync: 8 before 10 before 11 before 12 before 15; no controller 8 runs
@@ -236,9 +306,11 @@ table =
     ∷ row (file (1 ∷ 1 ∷ 9 ∷ [])) 5 []
     ∷ row (run (1 ∷ 1 ∷ report 1 5 ++ handover 1 1) 4095 0) 15 []
     ∷ row (run (1 ∷ 1 ∷ report 1 5 ++ handover 1 1) 4096 9) 16 []
-    ∷ row (run (1 ∷ 1 ∷ report 1 5 ++ handover 1 1) 4096 10) 0 []
+    ∷ lists (1 ∷ 1 ∷ report 1 5 ++ handover 1 1) 4096 10 0 (50 ∷ 32 ∷ 49 ∷ 32 ∷ 53 ∷ 32 ∷ 49 ∷ 46 ∷ 49 ∷ 10 ∷ [])
+    -- a local read counts as an event and has no line
+    ∷ lists (1 ∷ 1 ∷ local 1 ++ (report 1 5 ++ (handover 1 1 ++ local 1))) 4096 10 0 (51 ∷ 32 ∷ 49 ∷ 32 ∷ 53 ∷ 32 ∷ 49 ∷ 46 ∷ 49 ∷ 10 ∷ [])
     -- the length of a record goes by the file's version
-    ∷ row (run (2 ∷ 1 ∷ classed 1 5 2 ++ handover 1 1) 4096 10) 0 []
+    ∷ lists (2 ∷ 1 ∷ classed 1 5 2 ++ handover 1 1) 4096 10 0 (50 ∷ 32 ∷ 49 ∷ 32 ∷ 53 ∷ 32 ∷ 49 ∷ 46 ∷ 49 ∷ 10 ∷ [])
     ∷ row (run (2 ∷ 1 ∷ report 1 5 ++ handover 1 1) 4096 10) 7 []
     ∷ row (run (1 ∷ 1 ∷ classed 1 5 2 ++ handover 1 1) 4096 10) 7 []
     -- a fresh table: 2 before 3; versions 1 and 2, 1 to 7 controllers
@@ -279,5 +351,5 @@ pub record AllCases : Type 0 where
   hold : results table ≡ expected table
 
 pub all-cases : AllCases
-unfolding computed results expected table called played given report classed sync handover stop minus times worked graded gradedSets three full each none
+unfolding computed results expected table called played given report classed sync handover stop local minus times worked graded gradedSets underway further underwaySets three full each none
 all-cases = record { hold = refl }

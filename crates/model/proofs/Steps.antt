@@ -9,19 +9,31 @@ use lib.ListN.{length, length-drop}
 use lib.Dec.{eqb, leb, ltb}
 use borrow.Author.Tests.{ltb-true, leb-true, eqb-true, eqb-false, eq-eqb}
 use Rattle.lists.proofs.Tests.{cond-case, cond-true}
-use Rattle.model.specs.Events.{next}
+use Rattle.model.specs.Events.{resulting}
 use Rattle.model.specs.Records.{size, behind, decode}
 use Rattle.model.specs.WellFormed.{wellFormed}
 use Rattle.model.specs.Questions.{firstNo, fileQuestions, lentTable, recordQuestions, scratchRoom, stepQuestions}
-use Rattle.model.specs.Calls.{Outcome, accepted, refused, settled, step, event}
+use Rattle.model.specs.Calls.{Outcome, answering, accepted, refused, settled, step, event}
 use Rattle.model.specs.Runs.{progress, ran, fileRun}
 use Rattle.model.specs.declared.Table.{Table}
+use Rattle.model.specs.declared.Command.{Command}
+use Rattle.model.specs.declared.Command.the-variants.{Act, Read}
 use Rattle.model.proofs.Allowed.{no-no, step-asked}
 
 -- a property that the accepted outcome has where no question refuses, and the refused one where one does
 pub settled-case : (P : Outcome → Type 0) (t : Table) (s : List ℕ) (k : ℕ) → (k ≡ 0 → P (accepted t s)) → (k ≢ 0 → P (refused t s k)) → P (settled t s k)
 unfolding settled
 settled-case P t s k f g = cond-case P (eqb k 0) (accepted t s) (refused t s k) (λ e. f (eqb-true k 0 e)) (λ e. g (eqb-false k 0 e))
+
+answering-rest : (t : Table) (a : Command) (r : List ℕ) → answering t a r .rest ≡ r
+unfolding answering
+answering-rest t (Act e) r = refl
+answering-rest t (Read c) r = refl
+
+answering-number : (t : Table) (a : Command) (r : List ℕ) → answering t a r .number ≡ 0
+unfolding answering
+answering-number t (Act e) r = refl
+answering-number t (Read c) r = refl
 
 module _ (t : Table) (s : List ℕ) (room : ℕ) where
   pub step-case : (P : Outcome → Type 0) → (firstNo (stepQuestions t s room) ≡ 0 → P (accepted t s))
@@ -31,7 +43,7 @@ module _ (t : Table) (s : List ℕ) (room : ℕ) where
 
   pub step-number : step t s room .answer .number ≡ firstNo (stepQuestions t s room)
   unfolding accepted refused
-  step-number = step-case (λ (o : Outcome). o .answer .number ≡ firstNo (stepQuestions t s room)) (λ e. sym e) (λ _. refl)
+  step-number = step-case (λ (o : Outcome). o .answer .number ≡ firstNo (stepQuestions t s room)) (λ e. answering-number t _ _ ∙ sym e) (λ _. refl)
 
   pub step-is-accepted : firstNo (stepQuestions t s room) ≡ 0 → step t s room ≡ accepted t s
   step-is-accepted e = step-case (λ (o : Outcome). o ≡ accepted t s) (λ _. refl) (λ n. absurd (n e))
@@ -50,13 +62,13 @@ module _ (t : Table) (s : List ℕ) (room : ℕ) where
     pub accepted-asked : firstNo (stepQuestions t s room) ≡ 0
     accepted-asked = sym step-number ∙ z
 
-    pub accepted-table : step t s room .table ≡ next t (decode (t .version) s)
+    pub accepted-table : step t s room .table ≡ resulting t (decode (t .version) s)
     unfolding accepted
     accepted-table = ap (λ (o : Outcome). o .table) (step-is-accepted accepted-asked)
 
     pub accepted-rest : step t s room .answer .rest ≡ behind s
     unfolding accepted
-    accepted-rest = ap (λ (o : Outcome). o .answer .rest) (step-is-accepted accepted-asked)
+    accepted-rest = ap (λ (o : Outcome). o .answer .rest) (step-is-accepted accepted-asked) ∙ answering-rest t (decode (t .version) s) (behind s)
 
     pub accepted-within : size s < length s
     unfolding recordQuestions
@@ -79,7 +91,7 @@ event-shorter t s room =
     (λ e _.
     let a = no-no 3 (wellFormed t) (stepQuestions t s room) e .1 in
     let z = step-number t s room ∙ a in
-    rw (← accepted-rest t s room z) (accepted-shorter t s room z))
+    rw (answering-rest t _ _, ← accepted-rest t s room z) (accepted-shorter t s room z))
     (λ n z. absurd (n z))
 
 -- a file run past question 3

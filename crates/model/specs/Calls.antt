@@ -7,12 +7,14 @@ use lib.IntN.{ℤ, pos}
 use lib.Dec.{eqb}
 use Rattle.lists.specs.Build.{over, overlay}
 use Rattle.model.specs.Tables.{capacity, scratchSize, noName, noPanel, fresh, zeroTable}
-use Rattle.model.specs.Events.{subject, next, appliedBy, panelOf, namesOf, finishes}
+use Rattle.model.specs.Events.{subject, next, appliedBy, resulting, panelOf, namesOf, finishes}
 use Rattle.model.specs.Records.{behind, decode}
 use Rattle.model.specs.WellFormed.{named}
 use Rattle.model.specs.Questions.{ask, firstNo, freshQuestions, lentTable, stepQuestions}
 use Rattle.model.specs.declared.Name.{Name}
 use Rattle.model.specs.declared.Table.{Table}
+use Rattle.model.specs.declared.Command.{Command}
+use Rattle.model.specs.declared.Command.the-variants.{Act, Read}
 use Rattle.model.specs.declared.Answer.{Answer}
 use Rattle.model.specs.declared.FreshAnswer.{FreshAnswer}
 use Rattle.model.specs.declared.LookAnswer.{LookAnswer}
@@ -20,7 +22,8 @@ use Rattle.model.specs.declared.LookAnswer.{LookAnswer}
 -- THE SINGLE EVENT
 
 -- The answer: the refusal number, 0 if accepted; the set applied, by sender and then number; whether a sync of the
--- receiver's own is in it, and then that sync's answer, the total after the set; the unread rest of the bytes.
+-- receiver's own is in it, and then that sync's answer, the total after the set, or the total that a local read gives;
+-- the unread rest of the bytes.
 pub record EventAnswer : Type 0 where
   pub number : ℕ
   pub names : List Name
@@ -33,23 +36,17 @@ pub record Outcome : Type 0 where
   pub answer : EventAnswer
   pub table : Table
 
-unfoldable pub accepted : Table → List ℕ → Outcome
-accepted t s =
-    let e = decode (t .version) s in
-    let t′ = next t e in
+-- what is answered to a record that is accepted, with r behind it
+unfoldable pub answering : Table → Command → List ℕ → EventAnswer
+answering t (Act e) r =
     let S = appliedBy t e in
     let f = finishes t S (subject e) in
-    let z = panelOf t′ (subject e) .total in
-    record {
-      answer = record {
-        number = 0;
-        names = namesOf t S;
-        finished = f;
-        total = cond f z (pos 0);
-        rest = behind s;
-      };
-      table = t′;
-    }
+    let z = panelOf (next t e) (subject e) .total in
+    record { number = 0; names = namesOf t S; finished = f; total = cond f z (pos 0); rest = r }
+answering t (Read c) r = record { number = 0; names = []; finished = false; total = panelOf t c .total; rest = r }
+
+unfoldable pub accepted : Table → List ℕ → Outcome
+accepted t s = let a = decode (t .version) s in record { answer = answering t a (behind s); table = resulting t a }
 
 unfoldable pub refused : Table → List ℕ → ℕ → Outcome
 refused t s k = record {

@@ -17,6 +17,8 @@ use Rattle.model.specs.declared.Panel.{Panel}
 use Rattle.model.specs.declared.Table.{Table}
 use Rattle.model.specs.declared.Event.{Event}
 use Rattle.model.specs.declared.Event.the-variants.{Send, Handover, Stop}
+use Rattle.model.specs.declared.Command.{Command}
+use Rattle.model.specs.declared.Command.the-variants.{Act, Read}
 
 -- 1. REPORT AND SYNC (scd-broadcast): lines 1 and 5 to 12 with i = sd = g
 
@@ -96,6 +98,17 @@ unfoldable pub appliedBy : Table → Event → Slots
 appliedBy t (Send c p) = []
 appliedBy t (Handover r o) = handoverSet t r o
 appliedBy t (Stop c k) = []
+
+-- 5. LOCAL READ (Algorithm 5), and every record: a local read leaves the table as it is
+
+-- the controller that it changes, or whose panel it reads
+unfoldable pub controllerOf : Command → ℕ
+controllerOf (Act e) = subject e
+controllerOf (Read c) = c
+
+unfoldable pub resulting : Table → Command → Table
+resulting t (Act e) = next t e
+resulting t (Read c) = t
 
 -- WHAT A PANEL SHOWS (a local read): the counter of Algorithm 4, widened to signed amounts, of all messages and of each class
 

@@ -1,6 +1,6 @@
 -- The questions and their order (RULES.md, sections 13 and 14): the refusal is the number of the first no.
 use Prim.Native.Nat.{ℕ, suc}
-use mathlib.Core.Bool.{Bool, not, _&&_, cond}
+use mathlib.Core.Bool.{Bool, not, _&&_, _||_, cond}
 use mathlib.Core.List.{List, [], _∷_, _++_}
 use lib.ListN.{length}
 use lib.Dec.{eqb, leb, ltb}
@@ -11,6 +11,8 @@ use Rattle.model.specs.WellFormed.{named, fairAmount, fairClass, known, 
 use Rattle.model.specs.declared.Table.{Table}
 use Rattle.model.specs.declared.Event.{Event}
 use Rattle.model.specs.declared.Event.the-variants.{Send, Handover, Stop}
+use Rattle.model.specs.declared.Command.{Command}
+use Rattle.model.specs.declared.Command.the-variants.{Act, Read}
 
 -- a question: its number, and whether the answer is yes
 pub record Question : Type 0 where
@@ -40,7 +42,7 @@ lentTable t = ask 4 (wellFormed t)
 -- questions 6 and 7, in version v, of a record of this kind with so many bytes behind its length byte
 unfoldable pub kindQuestions : ℕ → ℕ → ℕ → List Question
 kindQuestions v n k =
-    ask 6 (ltb 0 n && (ltb 0 k && leb k 4))
+    ask 6 (ltb 0 n && (ltb 0 k && leb k 5))
     ∷ ask 7 (eqb n (sizeOf v k))
     ∷ []
 
@@ -48,7 +50,7 @@ kindQuestions v n k =
 unfoldable pub recordQuestions : ℕ → List ℕ → List Question
 recordQuestions v s = ask 5 (ltb (size s) (length s)) ∷ kindQuestions v (size s) (kind s)
 
--- 11: c has a message of its own in its buffer
+-- 11 and 18: c has a message of its own in its buffer
 unfoldable pub ownPending : Table → ℕ → Bool
 ownPending t c = ltb 0 (count (t .count) (λ s. held (at t c) s && eqb (message t s .sender) c))
 
@@ -60,12 +62,12 @@ unread t r o = ltb (place (at t r) o) (at t o .length)
 unfoldable pub keepable : Table → ℕ → ℕ → Bool
 keepable t c k = leb k (at t c .length) && all (t .n) (λ r. leb (place (at t (suc r)) c) k)
 
--- questions 8 to 14 and 17, by the kind of event
+-- questions 8 to 14 and 17, by the kind of event; 11 is not put to a report, which may follow on pending ones
 unfoldable pub eventQuestions : Table → Event → List Question
 eventQuestions t (Send c p) =
     ask 8 (named t c)
     ∷ ask 9 (fairAmount p) ∷ ask 17 (fairClass (t .version) p) ∷ ask 10 (yes? (at t c .running))
-    ∷ ask 11 (not (ownPending t c))
+    ∷ ask 11 (eqb (p .kind) 1 || not (ownPending t c))
     ∷ ask 12 (ltb (t .count) capacity)
     ∷ []
 eventQuestions t (Handover r o) =
@@ -79,13 +81,22 @@ eventQuestions t (Stop c k) =
     ∷ ask 14 (keepable t c k)
     ∷ []
 
+-- questions 8 to 14, 17 and 18, of what a record asks for
+unfoldable pub commandQuestions : Table → Command → List Question
+commandQuestions t (Act e) = eventQuestions t e
+commandQuestions t (Read c) =
+    ask 8 (named t c)
+    ∷ ask 10 (yes? (at t c .running))
+    ∷ ask 18 (not (ownPending t c))
+    ∷ []
+
 -- question 15, of a scratch area of so many bytes
 unfoldable pub scratchRoom : ℕ → Question
 scratchRoom room = ask 15 (leb scratchSize room)
 
--- questions 5 to 15 and 17, the record's bytes read as the table's version says
+-- questions 5 to 15, 17 and 18, the record's bytes read as the table's version says
 unfoldable pub stepQuestions : Table → List ℕ → ℕ → List Question
-stepQuestions t s room = recordQuestions (t .version) s ++ (eventQuestions t (decode (t .version) s) ++ (scratchRoom room ∷ []))
+stepQuestions t s room = recordQuestions (t .version) s ++ (commandQuestions t (decode (t .version) s) ++ (scratchRoom room ∷ []))
 
 -- question 16: a line of so many bytes fits in what is left of the listing
 unfoldable pub lineFits : ℕ → ℕ → Question

@@ -1,4 +1,4 @@
--- The records of a run file: a length byte, a kind byte, fields; and the event that a record names.
+-- The records of a run file: a length byte, a kind byte, fields; and what a record asks for.
 use Prim.Native.Nat.{ℕ, _+_, _-_, _*_}
 use mathlib.Core.Bool.{cond}
 use mathlib.Core.List.{List, [], _∷_}
@@ -6,8 +6,9 @@ use lib.ListN.{getD, drop}
 use lib.Dec.{eqb, ltb}
 use Rattle.model.specs.Tables.{report, sync}
 use Rattle.model.specs.declared.Payload.{Payload}
-use Rattle.model.specs.declared.Event.{Event}
 use Rattle.model.specs.declared.Event.the-variants.{Send, Handover, Stop}
+use Rattle.model.specs.declared.Command.{Command}
+use Rattle.model.specs.declared.Command.the-variants.{Act, Read}
 
 -- byte i; 0 past the end
 abbrev pub byte : List ℕ → ℕ → ℕ
@@ -27,9 +28,10 @@ kind s = byte s 1
 abbrev pub word : List ℕ → ℕ → ℕ
 word s i = byte s i * 256 + byte s (i + 1)
 
--- the lengths of the kinds 1 report, 2 sync, 3 handover, 4 stop, in files of version v: in version 2 a report has a class byte more
+-- the lengths of the kinds 1 report, 2 sync, 3 handover, 4 stop, 5 local read, in files of version v: in version 2 a report has a class
+-- byte more
 unfoldable pub sizeOf : ℕ → ℕ → ℕ
-sizeOf v k = getD (0 ∷ cond (eqb v 2) 5 4 ∷ 2 ∷ 3 ∷ 4 ∷ []) k 0
+sizeOf v k = getD (0 ∷ cond (eqb v 2) 5 4 ∷ 2 ∷ 3 ∷ 4 ∷ 2 ∷ []) k 0
 
 -- the class of a report: the byte after the amount in version 2, and 0 in version 1
 unfoldable pub reportClass : ℕ → List ℕ → ℕ
@@ -39,10 +41,11 @@ reportClass v s = cond (eqb v 2) (byte s 5) 0
 unfoldable pub reported : ℕ → ℕ → Payload
 reported k x = cond (ltb x 32768) (report k x 0) (report k 0 (65536 - x))
 
--- the event of a record of kind 1 to 4 and of that kind's length
-unfoldable pub decode : ℕ → List ℕ → Event
+-- what a record of kind 1 to 5 and of that kind's length asks for
+unfoldable pub decode : ℕ → List ℕ → Command
 decode v s =
-    cond (eqb (kind s) 1) (Send (byte s 2) (reported (reportClass v s) (word s 3)))
-    (cond (eqb (kind s) 2) (Send (byte s 2) sync)
-    (cond (eqb (kind s) 3) (Handover (byte s 2) (byte s 3))
-    (Stop (byte s 2) (word s 3))))
+    cond (eqb (kind s) 1) (Act (Send (byte s 2) (reported (reportClass v s) (word s 3))))
+    (cond (eqb (kind s) 2) (Act (Send (byte s 2) sync))
+    (cond (eqb (kind s) 3) (Act (Handover (byte s 2) (byte s 3)))
+    (cond (eqb (kind s) 4) (Act (Stop (byte s 2) (word s 3)))
+    (Read (byte s 2)))))

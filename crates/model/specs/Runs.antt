@@ -7,7 +7,7 @@ use lib.IntN.{ℤ, pos, negsuc}
 use lib.Dec.{eqb}
 use Rattle.lists.specs.Build.{overlay}
 use Rattle.model.specs.Tables.{fresh, zeroTable}
-use Rattle.model.specs.Events.{subject, panelOf}
+use Rattle.model.specs.Events.{controllerOf, panelOf}
 use Rattle.model.specs.Records.{byte, behind, decode}
 use Rattle.model.specs.Questions.{ask, firstNo, fileQuestions, lineFits}
 use Rattle.model.specs.Calls.{step, cleared}
@@ -59,7 +59,7 @@ pub record Progress : Type 0 where
 unfoldable pub lineAt : Progress → List ℕ → ℕ → List ℕ
 lineAt p s room =
     let o = step (p .table) s room in
-    let c = subject (decode (p .table .version) s) in
+    let c = controllerOf (decode (p .table .version) s) in
     lineOf (p .events + 1) c (panelOf (o .table) c .total) (o .answer .names)
 
 -- its refusal number, question 16 put last

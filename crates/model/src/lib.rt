@@ -111,11 +111,17 @@ pub struct RunAnswer {
     pub table: Table,
 }
 
-// The events: a message is broadcast, an entry of a log is fifo-delivered, a process crashes.
+// The events of Algorithm 1: a message is broadcast, an entry of a log is fifo-delivered, a process crashes.
 pub enum Event {
     Send { sender: u8, payload: Payload },
     Handover { receiver: u8, owner: u8 },
     Stop { controller: u8, kept: usize },
+}
+
+// What a record asks for: an event of Algorithm 1, or a local read (Algorithm 5), which changes nothing.
+pub enum Command {
+    Act(Event),
+    Read(u8),
 }
 
 impl ForwardNumber {

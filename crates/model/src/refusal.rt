@@ -18,7 +18,7 @@ pub const TABLE: u8 = 4;
 // Are the length byte and all the bytes it counts there?
 pub const RECORD: u8 = 5;
 
-// Is there a kind, from 1 to 4?
+// Is there a kind, from 1 to 5?
 pub const KIND: u8 = 6;
 
 // Is the length that of the kind?
@@ -30,10 +30,10 @@ pub const CONTROLLER: u8 = 8;
 // Is a report's amount from -360 to 360 and not 0?
 pub const AMOUNT: u8 = 9;
 
-// Is the sender, receiver or controller to be stopped still running?
+// Is the sender, receiver, or controller to be stopped or read still running?
 pub const STOPPED: u8 = 10;
 
-// Has the sender no message of its own pending?
+// Has the sender of a sync no message of its own pending?
 pub const OWN_PENDING: u8 = 11;
 
 // Has the run fewer than 64 messages?
@@ -53,3 +53,6 @@ pub const LISTING_LENGTH: u8 = 16;
 
 // Is the class of a report of version 2 from 1 to 4?
 pub const CLASS: u8 = 17;
+
+// Has the controller of a local read no message of its own pending?
+pub const READ_PENDING: u8 = 18;

@@ -1,4 +1,4 @@
--- Questions 11, 12 and 14, of the arrays that they read.
+-- Questions 11, 14 and 18, of the arrays that they read.
 use Prim.Native.Nat.{ℕ}
 use mathlib.Core.Bool.{Bool, not, _&&_}
 use mathlib.Core.List.{List, [], _∷_}
@@ -11,13 +11,9 @@ use Rattle.model.specs.declared.Pending.{Pending}
 use Rattle.model.specs.declared.Message.{Message}
 use Rattle.model.specs.declared.Controller.{Controller}
 
--- 11: one of k messages is in the buffer and c's own
+-- 11 and 18: one of k messages is in the buffer and c's own
 unfoldable pub ownAmong : ℕ → List Message → List Pending → ℕ → Bool
 ownAmong k M P c = ltb 0 (count k (λ s. yes? (entry P s .held) && eqb (getD M s noMessage .sender) c))
-
--- 11 and 12
-unfoldable pub roomQuestions : ℕ → List Message → List Pending → ℕ → List Question
-roomQuestions k M P c = ask 11 (not (ownAmong k M P c)) ∷ ask 12 (ltb k capacity) ∷ []
 
 -- 14: none of n controllers has read more than k entries of the log at index o
 unfoldable pub readWithin : ℕ → List Controller → ℕ → ℕ → Bool

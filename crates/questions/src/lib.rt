@@ -1,6 +1,6 @@
-// Questions 8 to 14 and 17, on every table. Past the last controller the definitions read zeros; no value of the
+// Questions 8 to 14, 17 and 18, on every table. Past the last controller the definitions read zeros; no value of the
 // type has empty arrays, so each function that reads a controller answers that case by itself. A function that indexes an
-// array of the table copies it, so a handover and a report have the controllers read in one function.
+// array of the table copies it, so each kind has the controllers read in one function.
 ghost use mathlib.Core.Path.{_≡_};
 ghost use mathlib.Core.Bool.{_&&_};
 ghost use mathlib.Core.List.{[]};
@@ -9,9 +9,11 @@ ghost use lib.Dec.{leb, ltb};
 ghost use lib.ListN.{getD};
 ghost use Rattle.model.specs.Tables.{noController};
 ghost use Rattle.model.specs.Parts.{whole};
-ghost use Rattle.model.specs.Questions.{firstNo, eventQuestions};
+ghost use Rattle.model.specs.Questions.{firstNo, eventQuestions, commandQuestions};
 ghost use Rattle.model.specs.declared.Event.the-variants.{Send, Handover, Stop};
-ghost use Rattle.questions.specs.Arrays.{roomQuestions, readWithin};
+ghost use Rattle.model.specs.declared.Command.the-variants.{Read};
+ghost use Rattle.questions.specs.Arrays.{ownAmong, readWithin};
+use model::Command;
 use model::Controller;
 use model::Event;
 use model::Message;
@@ -27,24 +29,21 @@ fn named(n: usize, c: u8) -> bool
     (0 < c) & (c as usize <= n)
 }
 
-// A REPORT OR SYNC
-
-// Questions 11 and 12, of a sender with this buffer and of a run with so many messages.
-fn room_refusal(count: usize, messages: [Message; 64], pending: [Pending; 64], c: u8) -> u8
-    ensures { λ r. ⌜ r ≡ firstNo (roomQuestions count messages pending c) ⌝ }
+// Whether one of so many messages, clipped to those of an array, is in this buffer and c's own.
+fn own_pending(count: usize, messages: [Message; 64], pending: [Pending; 64], c: u8) -> bool
+    ensures { λ r. ⌜ r ≡ ownAmong count messages pending c ⌝ }
 {
     for s in 0..numbers::at_most(count, Table::MESSAGES) {
         let held = pending[s].held;
         let sender = messages[s].sender;
         if (0 < held) & (sender == c) {
-            return refusal::OWN_PENDING;
+            return true;
         }
     }
-    if Table::MESSAGES <= count {
-        return refusal::FULL;
-    }
-    refusal::ACCEPTED
+    false
 }
+
+// A REPORT OR SYNC
 
 fn send_refusal(
     version: usize,
@@ -76,7 +75,16 @@ fn send_refusal(
         return refusal::STOPPED;
     }
     let pending = x.pending;
-    room_refusal(count, messages, pending, sender)
+    let kind = payload.kind;
+    if kind != Payload::REPORT {
+        if own_pending(count, messages, pending, sender) {
+            return refusal::OWN_PENDING;
+        }
+    }
+    if Table::MESSAGES <= count {
+        return refusal::FULL;
+    }
+    refusal::ACCEPTED
 }
 
 // A HANDOVER
@@ -159,25 +167,65 @@ fn stop_refusal(n: usize, controllers: [Controller; 7], controller: u8, kept: us
     refusal::ACCEPTED
 }
 
-// The first no of questions 8 to 14 and 17, in their order for each kind of event.
-pub fn refusal(t: Table, e: Event) -> u8
-    ensures { λ r. ⌜ r ≡ firstNo (eventQuestions t e) ⌝ }
+// A LOCAL READ
+
+fn read_refusal(
+    n: usize,
+    count: usize,
+    messages: [Message; 64],
+    controllers: [Controller; 7],
+    controller: u8,
+) -> u8
+    ensures { λ r. ⌜ r ≡ firstNo (commandQuestions (whole 0 n count messages controllers) (Read controller)) ⌝ }
+{
+    if !named(n, controller) {
+        return refusal::CONTROLLER;
+    }
+    let i = controller as usize - 1;
+    if Table::CONTROLLERS <= i {
+        return refusal::STOPPED;
+    }
+    let x = controllers[i];
+    let flag = x.running;
+    if flag == 0 {
+        return refusal::STOPPED;
+    }
+    let pending = x.pending;
+    if own_pending(count, messages, pending, controller) {
+        return refusal::READ_PENDING;
+    }
+    refusal::ACCEPTED
+}
+
+// EVERY RECORD
+
+// The first no of questions 8 to 14, 17 and 18, in their order for each kind of record.
+pub fn refusal(t: Table, a: Command) -> u8
+    ensures { λ r. ⌜ r ≡ firstNo (commandQuestions t a) ⌝ }
 {
     let controllers = t.controllers;
-    match e {
-        Event::Send { sender, payload } => {
+    match a {
+        Command::Act(e) => match e {
+            Event::Send { sender, payload } => {
+                let messages = t.messages;
+                send_refusal(
+                    t.version,
+                    t.n,
+                    t.count,
+                    messages,
+                    controllers,
+                    sender,
+                    payload,
+                )
+            }
+            Event::Handover { receiver, owner } => {
+                handover_refusal(t.n, controllers, receiver, owner)
+            }
+            Event::Stop { controller, kept } => stop_refusal(t.n, controllers, controller, kept),
+        },
+        Command::Read(controller) => {
             let messages = t.messages;
-            send_refusal(
-                t.version,
-                t.n,
-                t.count,
-                messages,
-                controllers,
-                sender,
-                payload,
-            )
+            read_refusal(t.n, t.count, messages, controllers, controller)
         }
-        Event::Handover { receiver, owner } => handover_refusal(t.n, controllers, receiver, owner),
-        Event::Stop { controller, kept } => stop_refusal(t.n, controllers, controller, kept),
     }
 }

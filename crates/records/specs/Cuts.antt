@@ -31,4 +31,4 @@ found Short = record { number = 5; size = 0 }
 unfoldable pub recordOf : ℕ → List ℕ → Record
 recordOf v s =
     let k = firstNo (recordQuestions v s) in
-    record { number = k; used = cond (eqb k 0) (size s + 1) 0; event = decode v s }
+    record { number = k; used = cond (eqb k 0) (size s + 1) 0; command = decode v s }

@@ -1,4 +1,5 @@
 // The record cutter and the decoder: what the bytes of a run file say, before any table is asked.
+use model::Command;
 use model::Event;
 use model::Payload;
 use model::Table;
@@ -19,11 +20,11 @@ enum Cut {
 }
 
 // A record that was read: the first no of questions 5 to 7, 0 if there is none; how many bytes it takes, 0 if refused; and
-// the event that it names.
+// what it asks for.
 pub struct Record {
     pub number: u8,
     pub used: usize,
-    pub event: Event,
+    pub command: Command,
 }
 
 // A byte; 0 past the end.
@@ -58,8 +59,8 @@ pub fn behind(bytes: &[u8], used: usize) -> &[u8]
     &bytes[have..]
 }
 
-// The lengths of the kinds 1 report, 2 sync, 3 handover, 4 stop in version 1.
-const SIZES: [usize; 5] = [0, 4, 2, 3, 4];
+// The lengths of the kinds 1 report, 2 sync, 3 handover, 4 stop, 5 local read in version 1.
+const SIZES: [usize; 6] = [0, 4, 2, 3, 4, 2];
 
 // The length of a record of a kind, in files of a version; 0 for what is no kind. A report of version 2 has a class byte more.
 fn size_of_kind(version: usize, kind: u8) -> usize
@@ -68,20 +69,20 @@ fn size_of_kind(version: usize, kind: u8) -> usize
     if (version == Table::CLASSED) & (kind == Payload::REPORT) {
         return 5;
     }
-    if kind < 5 {
+    if kind < 6 {
         return SIZES[kind as usize];
     }
     0
 }
 
-// Question 6, of a record of so many bytes: there is a kind, from 1 to 4.
+// Question 6, of a record of so many bytes: there is a kind, from 1 to 5.
 fn has_kind(size: usize, kind: u8) -> bool
-    ensures { λ r. ⌜ r ≡ (ltb 0 size && (ltb 0 kind && leb kind 4)) ⌝ }
+    ensures { λ r. ⌜ r ≡ (ltb 0 size && (ltb 0 kind && leb kind 5)) ⌝ }
 {
     if size == 0 {
         return false;
     }
-    0 < kind && kind <= 4
+    0 < kind && kind <= 5
 }
 
 // The first no of questions 6 and 7.
@@ -131,46 +132,51 @@ fn report_of(class: u8, x: u16) -> Payload
 
 const HANDOVER: u8 = 3;
 
-// The event of a record of kind 1 to 4 and of that kind's length.
-fn decode_record(version: usize, bytes: &[u8]) -> Event
+const STOP: u8 = 4;
+
+// What a record of kind 1 to 5 and of that kind's length asks for.
+fn decode_record(version: usize, bytes: &[u8]) -> Command
     ensures { λ r. ⌜ r ≡ decode version (now (bytes .entry)) ⌝ }
 {
     let kind = byte_at(bytes, 1);
     let first = byte_at(bytes, 2);
     if kind == Payload::REPORT {
-        return Event::Send {
+        return Command::Act(Event::Send {
             sender: first,
             payload: report_of(class_of(version, bytes), word_at(bytes, 3)),
-        };
+        });
     }
     if kind == Payload::SYNC {
-        return Event::Send {
+        return Command::Act(Event::Send {
             sender: first,
             payload: Payload::sync(),
-        };
+        });
     }
     if kind == HANDOVER {
-        return Event::Handover {
+        return Command::Act(Event::Handover {
             receiver: first,
             owner: byte_at(bytes, 3),
-        };
+        });
     }
-    Event::Stop {
-        controller: first,
-        kept: word_at(bytes, 3) as usize,
+    if kind == STOP {
+        return Command::Act(Event::Stop {
+            controller: first,
+            kept: word_at(bytes, 3) as usize,
+        });
     }
+    Command::Read(first)
 }
 
 // Cuts off the record at the head of the bytes, puts questions 5 to 7 to it and decodes it, as files of a version have it.
 pub fn read_record(version: usize, bytes: &[u8]) -> Record
     ensures { λ r. ⌜ r ≡ recordOf version (now (bytes .entry)) ⌝ }
 {
-    let event = decode_record(version, bytes);
+    let command = decode_record(version, bytes);
     let Cut::Whole(size) = cut_record(bytes) else {
         return Record {
             number: refusal::RECORD,
             used: 0,
-            event,
+            command,
         };
     };
     let number = kind_refusal(version, size, byte_at(bytes, 1));
@@ -178,12 +184,12 @@ pub fn read_record(version: usize, bytes: &[u8]) -> Record
         return Record {
             number,
             used: 0,
-            event,
+            command,
         };
     }
     Record {
         number,
         used: size + 1,
-        event,
+        command,
     }
 }
