@@ -351,5 +351,5 @@ pub record AllCases : Type 0 where
   hold : results table ≡ expected table
 
 pub all-cases : AllCases
-unfolding computed results expected table called played given report classed sync handover stop local minus times worked graded gradedSets underway further underwaySets three full each none
+unfolding computed flatten results expected table called played given report classed sync handover stop local minus times worked graded gradedSets underway further underwaySets three full each none
 all-cases = record { hold = refl }
