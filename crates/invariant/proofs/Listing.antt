@@ -7,19 +7,19 @@ use mathlib.Core.List.{List, [], _∷_}
 use Prim.Native.Nat.{ℕ, zero, suc, _+_, _-_, _*_, _≤_, _<_}
 use native.Mathlib.Omega.{arith}
 use native.Mathlib.Decide.{ℕ-discrete}
-use lib.ListN.{length, length-append, drop}
+use lib.ListN.{length, length-append, length-drop, getD, drop}
 use lib.IntN.{ℤ, pos, negsuc, natAbs}
 use lib.Signed.{leZ}
-use lib.Dec.{eqb}
-use borrow.Author.Tests.{eqb-true, eq-eqb, ne-eqb, leb-true, le-leb}
-use Rattle.lists.specs.Below.{sum}
-use Rattle.lists.proofs.Tests.{cond-case}
-use Rattle.lists.proofs.Below.{sum-ext, sum-bound}
+use lib.Dec.{eqb, leb, ltb}
+use borrow.Author.Tests.{eqb-true, eq-eqb, ne-eqb, ltb-true, leb-true, le-leb}
+use Rattle.lists.specs.Below.{all, sum}
+use Rattle.lists.proofs.Tests.{cond-case, and-left, and-right}
+use Rattle.lists.proofs.Below.{all-at, sum-ext, sum-bound}
 use Rattle.lists.proofs.Every.{Every}
 use Rattle.model.specs.Tables.{at, message, applied}
 use Rattle.model.specs.Delivery.{Slots, has}
 use Rattle.model.specs.Events.{subject, next, appliedBy, controllerOf, resulting, weigh, shown, panelOf, earlier, insert, namesBelow, namesOf, nameOf}
-use Rattle.model.specs.Records.{byte, behind, decode}
+use Rattle.model.specs.Records.{byte, size, behind, kind, sizeOf, decode}
 use Rattle.model.specs.Sized.{Sized}
 use Rattle.model.specs.Questions.{firstNo, fileQuestions, kindQuestions, recordQuestions, eventQuestions, commandQuestions, lineFits}
 use Rattle.model.specs.Calls.{answering, accepted, step}
@@ -30,8 +30,8 @@ use Rattle.model.specs.declared.Event.{Event}
 use Rattle.model.specs.declared.Command.{Command}
 use Rattle.model.specs.declared.Command.the-variants.{Act, Read}
 use Rattle.model.specs.Facts.{Among, WellFormed}
-use Rattle.model.proofs.Allowed.{step-asked, file-allowed, subject-allowed}
-use Rattle.model.proofs.Steps.{step-number, step-is-accepted, accepted-asked}
+use Rattle.model.proofs.Allowed.{no-no, step-asked, file-allowed, subject-allowed}
+use Rattle.model.proofs.Steps.{step-number, step-is-accepted, accepted-asked, accepted-within}
 use Rattle.model.proofs.Runs.{gone, verdict-passed, advance-case}
 use Rattle.model.proofs.Decimals.{decimal-bound}
 use Rattle.model.proofs.Lengths.{length-insert, SmallName, signed-bound, names-bound, length-line}
@@ -245,11 +245,10 @@ listing-fits s room space q h =
 -- a record has at least three bytes, its length byte counted
 size-least : (v k : ℕ) → 0 < k → k ≤ 5 → 2 ≤ sizeOf v k
 unfolding sizeOf all
-size-least v k l h =
-    let P : Bool → ℕ → Bool = λ b j. eqb j 0 || leb 2 (getD (0 ∷ cond b 5 4 ∷ 2 ∷ 3 ∷ 4 ∷ 2 ∷ []) j 0) in
-    cond-case (λ n. 2 ≤ getD (0 ∷ n ∷ 2 ∷ 3 ∷ 4 ∷ 2 ∷ []) k 0) (eqb v 2) 5 4
-    (λ _. leb-true 2 _ (or-right (ne-eqb k 0 (omega arith)) (all-at 6 (P true) refl k (omega arith))))
-    (λ _. leb-true 2 _ (or-right (ne-eqb k 0 (omega arith)) (all-at 6 (P false) refl k (omega arith))))
+size-least v (suc k) l h = cond-case (λ n. 2 ≤ getD (n ∷ 2 ∷ 3 ∷ 4 ∷ 2 ∷ []) k 0) (eqb v 2) 5 4 (λ _. each 5 refl) (λ _. each 4 refl)
+  where
+    each : (n : ℕ) → all 5 (λ j. leb 2 (getD (n ∷ 2 ∷ 3 ∷ 4 ∷ 2 ∷ []) j 0)) ≡ true → 2 ≤ getD (n ∷ 2 ∷ 3 ∷ 4 ∷ 2 ∷ []) k 0
+    each n e = leb-true 2 _ (all-at 5 (λ j. leb 2 (getD (n ∷ 2 ∷ 3 ∷ 4 ∷ 2 ∷ []) j 0)) e k (omega arith))
 
 accepted-size : (v : ℕ) (s : List ℕ) → firstNo (recordQuestions v s) ≡ 0 → 2 ≤ size s
 unfolding recordQuestions kindQuestions
@@ -263,6 +262,10 @@ accepted-size v s e =
       eqb-true (size s) (sizeOf v (kind s)) (q7 .0),
       size-least v (kind s) (ltb-true 0 (kind s) (and-left _ _ k)) (leb-true (kind s) 5 (and-right (ltb 0 (kind s)) _ k)),
     )
+
+length-behind : (s : List ℕ) → length (behind s) ≡ length s - (size s + 1)
+unfolding behind
+length-behind s = length-drop (size s + 1) s
 
 records-count : (f : ℕ) (p : Progress) (s : List ℕ) (room space : ℕ) → 3 * records f p s room space .events ≤ 3 * p .events + length s
 unfolding records
@@ -278,7 +281,7 @@ records-count (suc f) p (b ∷ s) room space =
       records-count f (gone p (b ∷ s) room space) (behind (b ∷ s)) room space,
       accepted-size (p .table .version) (b ∷ s) (step-asked (p .table) (b ∷ s) room a .0),
       accepted-within (p .table) (b ∷ s) room e,
-      unfold behind in (length-drop (size (b ∷ s) + 1) (b ∷ s)),
+      length-behind (b ∷ s),
     ))
     (λ d. rw (ne-eqb (verdict p (b ∷ s) room space) 0 d) (omega arith))
 
