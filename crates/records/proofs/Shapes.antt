@@ -11,8 +11,9 @@ use Rattle.lists.proofs.Tests.{and-left, and-right}
 use Rattle.model.specs.Tables.{sync}
 use Rattle.model.specs.Records.{byte, size, kind, word, sizeOf, reportClass, reported, decode}
 use Rattle.model.specs.Questions.{firstNo, kindQuestions, recordQuestions}
-use Rattle.model.specs.declared.Event.{Event}
 use Rattle.model.specs.declared.Event.the-variants.{Send, Handover, Stop}
+use Rattle.model.specs.declared.Command.{Command}
+use Rattle.model.specs.declared.Command.the-variants.{Act, Read}
 use Rattle.records.specs.declared.Record.{Record}
 use Rattle.records.specs.Cuts.{whole, recordOf}
 use Rattle.records.proofs.Cuts.{IsWhole}
@@ -24,7 +25,7 @@ pub size-classed : (v k : ℕ) → (eqb v 2 && eqb k 1) ≡ true → 5 ≡ sizeO
 unfolding sizeOf
 size-classed v k e = rw (eqb-true k 1 (and-right (eqb v 2) _ e), and-left (eqb v 2) _ e)
 
-pub size-other : (v k : ℕ) → (eqb v 2 && eqb k 1) ≡ false → getD (0 ∷ 4 ∷ 2 ∷ 3 ∷ 4 ∷ []) k 0 ≡ sizeOf v k
+pub size-other : (v k : ℕ) → (eqb v 2 && eqb k 1) ≡ false → getD (0 ∷ 4 ∷ 2 ∷ 3 ∷ 4 ∷ 2 ∷ []) k 0 ≡ sizeOf v k
 unfolding sizeOf
 size-other v zero e = refl
 size-other v (suc zero) e = go (eqb v 2) e
@@ -38,7 +39,7 @@ size-other v (suc (suc k)) e = refl
 
 -- question 6, as the code puts it
 abbrev pub hasKind : ℕ → ℕ → Bool
-hasKind n k = ltb 0 n && (ltb 0 k && leb k 4)
+hasKind n k = ltb 0 n && (ltb 0 k && leb k 5)
 
 pub refused-five : (v : ℕ) (s : List ℕ) → whole s ≡ false → 5 ≡ firstNo (recordQuestions v s)
 unfolding whole firstNo recordQuestions
@@ -63,31 +64,35 @@ kind-left v s n k w e = rw (w .test, ← w .counted, ← e)
 
 -- THE RECORD
 
-pub record-refused : (v : ℕ) (s : List ℕ) (k : ℕ) (e : Event) → k ≡ firstNo (recordQuestions v s) → k ≢ 0 → e ≡ decode v s
-    → record { number = k; used = 0; event = e } ≡ recordOf v s
+pub record-refused : (v : ℕ) (s : List ℕ) (k : ℕ) (a : Command) → k ≡ firstNo (recordQuestions v s) → k ≢ 0 → a ≡ decode v s
+    → record { number = k; used = 0; command = a } ≡ recordOf v s
 unfolding recordOf
-record-refused v s k e q n d = rw (← q, ne-eqb k 0 n, d)
+record-refused v s k a q n d = rw (← q, ne-eqb k 0 n, d)
 
-pub record-read : (v : ℕ) (s : List ℕ) (k n : ℕ) (e : Event) → k ≡ firstNo (recordQuestions v s) → k ≡ 0 → n ≡ size s → e ≡ decode v s
-    → record { number = k; used = n + 1; event = e } ≡ recordOf v s
+pub record-read : (v : ℕ) (s : List ℕ) (k n : ℕ) (a : Command) → k ≡ firstNo (recordQuestions v s) → k ≡ 0 → n ≡ size s → a ≡ decode v s
+    → record { number = k; used = n + 1; command = a } ≡ recordOf v s
 unfolding recordOf
-record-read v s k n e q z m d = rw (← q, eq-eqb k 0 z, m, d)
+record-read v s k n a q z m d = rw (← q, eq-eqb k 0 z, m, d)
 
--- THE EVENT
+-- WHAT IT ASKS FOR
 
 module _ (v : ℕ) (s : List ℕ) (k : ℕ) (e : k ≡ kind s) where
-  pub decode-report : k ≡ 1 → Send (byte s 2) (reported (reportClass v s) (word s 3)) ≡ decode v s
+  pub decode-report : k ≡ 1 → Act (Send (byte s 2) (reported (reportClass v s) (word s 3))) ≡ decode v s
   unfolding decode
   decode-report h = rw (eq-eqb (kind s) 1 (sym e ∙ h))
 
-  pub decode-sync : k ≡ 2 → Send (byte s 2) sync ≡ decode v s
+  pub decode-sync : k ≡ 2 → Act (Send (byte s 2) sync) ≡ decode v s
   unfolding decode
   decode-sync h = rw (sym e ∙ h)
 
-  pub decode-handover : k ≡ 3 → Handover (byte s 2) (byte s 3) ≡ decode v s
+  pub decode-handover : k ≡ 3 → Act (Handover (byte s 2) (byte s 3)) ≡ decode v s
   unfolding decode
   decode-handover h = rw (sym e ∙ h)
 
-  pub decode-stop : (k ≡ 1 → ⊥) → (k ≡ 2 → ⊥) → (k ≡ 3 → ⊥) → Stop (byte s 2) (word s 3) ≡ decode v s
+  pub decode-stop : k ≡ 4 → Act (Stop (byte s 2) (word s 3)) ≡ decode v s
   unfolding decode
-  decode-stop a b c = rw (← e, ne-eqb k 1 a, ne-eqb k 2 b, ne-eqb k 3 c)
+  decode-stop h = rw (sym e ∙ h)
+
+  pub decode-read : (k ≡ 1 → ⊥) → (k ≡ 2 → ⊥) → (k ≡ 3 → ⊥) → (k ≡ 4 → ⊥) → Read (byte s 2) ≡ decode v s
+  unfolding decode
+  decode-read a b c d = rw (← e, ne-eqb k 1 a, ne-eqb k 2 b, ne-eqb k 3 c, ne-eqb k 4 d)

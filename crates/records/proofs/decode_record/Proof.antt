@@ -1,5 +1,5 @@
--- `decode_record` answers the event that a record names. Assumes nothing.
-use Rattle.records.proofs.Shapes.{decode-report, decode-sync, decode-handover, decode-stop}
+-- `decode_record` answers what a record asks for. Assumes nothing.
+use Rattle.records.proofs.Shapes.{decode-report, decode-sync, decode-handover, decode-stop, decode-read}
 use borrow.Author.Needs.{needs}
 use Rattle.records.proofs.decode_record.Statement.{statement}
 use Rattle.records.proofs.decode_record.Tie as tie
@@ -45,11 +45,16 @@ returns-3 c = cc (decode-handover _ _ _ (kind (c .before .before .before) .byte-
 word-at-requires-2 : tie.Need-word-at-requires-2
 word-at-requires-2 c κs = search needs
 
-cast-t12 : tie.Need-cast-t12
-cast-t12 c = search needs
+cast-t15 : tie.Need-cast-t15
+cast-t15 c = search needs
 
 returns-4 : tie.Need-returns-4
-returns-4 c = cc (decode-stop _ _ _ (kind (c .before .before .before) .byte-at .ensures) (c .before .before .before .if1 .left) (c .before .before .if2 .left) (c .before .if3 .left))
+returns-4 c = cc (decode-stop _ _ _ (kind (c .before .before .before .before) .byte-at .ensures) (c .before .if4 .taken))
+
+returns-5 : tie.Need-returns-5
+returns-5 c =
+    let a = c .before .before .before in
+    cc (decode-read _ _ _ (kind a .byte-at .ensures) (a .if1 .left) (c .before .before .if2 .left) (c .before .if3 .left) (c .if4 .left))
 
 pub decode-record-spec : {M : Type 1} → statement M
 decode-record-spec =
@@ -66,5 +71,6 @@ decode-record-spec =
     byte-at-requires-3
     returns-3
     word-at-requires-2
-    cast-t12
-    returns-4)
+    cast-t15
+    returns-4
+    returns-5)
