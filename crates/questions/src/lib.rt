@@ -2,10 +2,10 @@
 // type has empty arrays, so each function that reads a controller answers that case by itself. A function that indexes an
 // array of the table copies it, so each kind has the controllers read in one function.
 ghost use mathlib.Core.Path.{_≡_};
-ghost use mathlib.Core.Bool.{_&&_};
+ghost use mathlib.Core.Bool.{not, _&&_};
 ghost use mathlib.Core.List.{[]};
 ghost use Prim.Native.Nat.{_<_};
-ghost use lib.Dec.{leb, ltb};
+ghost use lib.Dec.{eqb, leb, ltb};
 ghost use lib.ListN.{getD};
 ghost use Rattle.model.specs.Tables.{noController};
 ghost use Rattle.model.specs.Parts.{whole};
@@ -45,6 +45,22 @@ fn own_pending(count: usize, messages: [Message; 64], pending: [Pending; 64], c:
 
 // A REPORT OR SYNC
 
+// Whether a message of this kind has to wait for one of its sender's own: a report has not.
+fn must_wait(
+    kind: u8,
+    count: usize,
+    messages: [Message; 64],
+    pending: [Pending; 64],
+    c: u8,
+) -> bool
+    ensures { λ r. ⌜ r ≡ (not (eqb kind 1) && ownAmong count messages pending c) ⌝ }
+{
+    if kind == Payload::REPORT {
+        return false;
+    }
+    own_pending(count, messages, pending, c)
+}
+
 fn send_refusal(
     version: usize,
     n: usize,
@@ -76,10 +92,8 @@ fn send_refusal(
     }
     let pending = x.pending;
     let kind = payload.kind;
-    if kind != Payload::REPORT {
-        if own_pending(count, messages, pending, sender) {
-            return refusal::OWN_PENDING;
-        }
+    if must_wait(kind, count, messages, pending, sender) {
+        return refusal::OWN_PENDING;
     }
     if Table::MESSAGES <= count {
         return refusal::FULL;

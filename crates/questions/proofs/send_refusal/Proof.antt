@@ -1,9 +1,11 @@
 -- The questions of a report or sync, in order. Assumes nothing.
-use mathlib.Core.Path.{_≡_}
-use mathlib.Core.Bool.{true}
+use mathlib.Core.Path.{_≡_, refl, sym, ap, _∙_}
+use mathlib.Core.Bool.{Bool, true, false, not, _&&_, _||_}
 use mathlib.Core.List.{List, _∷_}
 use Prim.Native.Nat.{ℕ}
 use lib.ListN.{length}
+use lib.Dec.{eqb}
+use borrow.Author.Tests.{lt-ltb, le-ltb}
 use borrow.Author.Needs.{needs}
 use Rattle.model.specs.Tables.{seats, yes?, at, message}
 use Rattle.model.specs.WellFormed.{named, fairAmount, fairClass}
@@ -11,8 +13,8 @@ use Rattle.model.specs.Questions.{Question, ask, firstNo, ownPending, eventQues
 use Rattle.model.specs.Parts.{whole}
 use Rattle.model.specs.declared.Table.{Table}
 use Rattle.model.proofs.Tested.{named-at}
-use Rattle.questions.specs.Arrays.{ownAmong, roomQuestions}
-use Rattle.questions.proofs.Answers.{answered, refused, seen-yes, seen-no}
+use Rattle.questions.specs.Arrays.{ownAmong}
+use Rattle.questions.proofs.Answers.{answered, refused, accepted, seen-yes, seen-no}
 use Rattle.questions.proofs.Controllers.{flagged, stopped-past}
 use Rattle.questions.proofs.send_refusal.Statement.{statement}
 use Rattle.questions.proofs.send_refusal.Tie as tie
@@ -30,7 +32,7 @@ fair c = c .before .before
 abbrev classed : tie.Else5 → tie.Else3
 classed c = c .before .before .before
 
-abbrev runs : tie.After-room-refusal → tie.Else5
+abbrev runs : tie.After-must-wait → tie.Else5
 runs c = c .before .before
 
 -- the table that the questions are put to
@@ -41,6 +43,10 @@ long : (c : tie.Else1) → length (entered c .args .t5) ≡ seats
 long c = entered c .good .1 .1 .1 .1 .0 .1 .0 .1
 
 -- WHAT WAS ANSWERED YES
+
+not-waits : (a b : Bool) → not (not a && b) ≡ (a || not b)
+not-waits true b = refl
+not-waits false b = refl
 
 sender-named : (c : tie.Else1) → named (asked c) (entered c .args .sender) ≡ true
 unfolding named
@@ -107,12 +113,36 @@ returns-5 : tie.Need-returns-5
 unfolding eventQuestions at
 returns-5 c = passed (c .before .before .before) _ (refused _ _ (rw (c .if5 .taken)))
 
-room-refusal-requires : tie.Need-room-refusal-requires
-room-refusal-requires c κs = search needs
+must-wait-requires : tie.Need-must-wait-requires
+must-wait-requires c κs = search needs
+
+-- the answer to question 11
+free : (c : tie.After-must-wait)
+    → let k = known (fair (classed (runs c))) in
+    let s = entered k .args in
+    not (c .must-wait .result) ≡ (eqb (s .payload .kind) 1 || not (ownPending (asked k) (s .sender)))
+unfolding ownPending ownAmong at message
+free c = ap not (c .must-wait .ensures) ∙ not-waits (eqb (entered (known (fair (classed (runs c)))) .args .payload .kind) 1) _
 
 returns-6 : tie.Need-returns-6
-unfolding eventQuestions ownPending roomQuestions ownAmong at message
-returns-6 c = let x = runs c in passed (classed x) _ (answered _ _ (sender-runs x) (c .room-refusal .ensures))
+unfolding eventQuestions
+returns-6 c =
+    let x = runs (c .before) in
+    passed (classed x) _ (answered _ _ (sender-runs x) (refused _ _ (sym (free (c .before)) ∙ ap not (c .if6 .taken))))
+
+past-wait : (c : tie.Else6) {r : ℕ} (qs : List Question)
+    → let k = known (fair (classed (runs (c .before)))) in
+    let s = entered k .args in
+    r ≡ firstNo qs → r ≡ firstNo (ask 10 (yes? (at (asked k) (s .sender) .running)) ∷ ask 11 (eqb (s .payload .kind) 1 || not (ownPending (asked k) (s .sender))) ∷ qs)
+past-wait c qs e = answered _ _ (sender-runs (runs (c .before))) (answered _ _ (sym (free (c .before)) ∙ ap not (c .if6 .left)) e)
+
+returns-7 : tie.Need-returns-7
+unfolding eventQuestions
+returns-7 c = let w = c .before in passed (classed (runs (w .before))) _ (past-wait w _ (refused _ _ (le-ltb _ _ (c .if7 .taken))))
+
+returns-8 : tie.Need-returns-8
+unfolding eventQuestions
+returns-8 c = let w = c .before in passed (classed (runs (w .before))) _ (past-wait w _ (answered _ _ (lt-ltb _ _ (c .if7 .left)) accepted))
 
 pub send-refusal-spec : {M : Type 1} → statement M
 send-refusal-spec =
@@ -129,5 +159,7 @@ send-refusal-spec =
     mul-x
     array-copy-out-x
     returns-5
-    room-refusal-requires
-    returns-6)
+    must-wait-requires
+    returns-6
+    returns-7
+    returns-8)

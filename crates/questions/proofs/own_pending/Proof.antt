@@ -1,22 +1,20 @@
--- `room_refusal` searches the slots for one that is held and c's own; past the 64th none is held. The loop's invariant: none before is.
+-- `own_pending` searches the slots for one that is held and c's own; past the 64th none is held. The loop's invariant: none before is.
 -- Assumes nothing.
-use mathlib.Core.Path.{_≡_, sym, ap}
-use mathlib.Core.Bool.{false, not, _&&_}
+use mathlib.Core.Path.{_≡_}
+use mathlib.Core.Bool.{false, _&&_}
 use Prim.Native.Nat.{ℕ, _-_, _≤_, _<_}
 use native.Mathlib.Nat.{not-suc-le-zero}
 use native.Mathlib.Omega.{arith}
 use lib.ListN.{length, getD}
 use lib.Dec.{eqb}
 use borrow.Author.Count.{below-more}
-use borrow.Author.Tests.{lt-ltb, le-ltb}
 use borrow.Author.Needs.{needs}
 use Rattle.lists.proofs.Clipped.{below-past, any-found, any-none}
 use Rattle.model.specs.Tables.{capacity, yes?, entry, noMessage}
-use Rattle.questions.specs.Arrays.{ownAmong, roomQuestions}
-use Rattle.questions.proofs.Answers.{answered, refused, accepted}
+use Rattle.questions.specs.Arrays.{ownAmong}
 use Rattle.questions.proofs.Controllers.{own-past}
-use Rattle.questions.proofs.room_refusal.Statement.{statement}
-use Rattle.questions.proofs.room_refusal.Tie as tie
+use Rattle.questions.proofs.own_pending.Statement.{statement}
+use Rattle.questions.proofs.own_pending.Tie as tie
 
 abbrev Inv-loop : tie.InvT-loop
 Inv-loop count c messages pending s₀ s-end s =
@@ -52,8 +50,8 @@ element-copy-out-sender : tie.Need-element-copy-out-sender Inv-loop μ-loop
 element-copy-out-sender c = search needs
 
 returns : tie.Need-returns Inv-loop μ-loop
-unfolding roomQuestions ownAmong
-returns c = refused _ _ (ap not (sym (any-found _ _ (c .before .before .loop .s) (omega arith) (c .if1 .taken))))
+unfolding ownAmong
+returns c = any-found _ _ (c .before .before .loop .s) (omega arith) (c .if1 .taken)
 
 add-s : tie.Need-add-s Inv-loop μ-loop
 add-s c = search needs
@@ -64,25 +62,15 @@ loop-less c = search needs
 loop-again : tie.Need-loop-again Inv-loop μ-loop
 loop-again c = (omega arith, below-more _ _ (c .before .before .loop .inv .1) (c .if1 .left))
 
--- the answer to question 11
-none-own : (c : tie.After-loop Inv-loop μ-loop) → let s = entered (c .before) .args in ownAmong (s .count) (s .t2) (s .t3) (s .c) ≡ false
-unfolding ownAmong
-none-own c =
-    let k = c .before in
-    sym
-    (any-none _ _
-    (below-past _ _ capacity _ (k .before .at-most .ensures) (λ j h. k .loop .inv .1 j (omega arith)) (λ j h. own-past (entered k .args .t3) (long k) j h _)))
-
 returns-2 : tie.Need-returns-2 Inv-loop μ-loop
-unfolding roomQuestions
-returns-2 c = answered _ _ (ap not (none-own (c .before))) (refused _ _ (le-ltb _ _ (c .if2 .taken)))
+unfolding ownAmong
+returns-2 c =
+    let k = c .before in
+    any-none _ _
+    (below-past _ _ capacity _ (k .before .at-most .ensures) (λ j h. k .loop .inv .1 j (omega arith)) (λ j h. own-past (entered k .args .t3) (long k) j h _))
 
-returns-3 : tie.Need-returns-3 Inv-loop μ-loop
-unfolding roomQuestions
-returns-3 c = answered _ _ (ap not (none-own (c .before))) (answered _ _ (lt-ltb _ _ (c .if2 .left)) accepted)
-
-pub room-refusal-spec : {M : Type 1} → statement M
-room-refusal-spec =
+pub own-pending-spec : {M : Type 1} → statement M
+own-pending-spec =
     tie.close
     (tie.spec
     Inv-loop
@@ -97,5 +85,4 @@ room-refusal-spec =
     add-s
     loop-less
     loop-again
-    returns-2
-    returns-3)
+    returns-2)
