@@ -7,13 +7,18 @@ use Prim.Native.Nat.{ℕ, _+_, _≤_, _<_}
 use lib.Dec.{eqb}
 use borrow.Author.Tests.{eqb-true, eqb-false, eq-eqb, ne-eqb, le-leb, lt-leb}
 use Rattle.lists.proofs.Tests.{cond-true, cond-false, decided}
-use Rattle.model.specs.Tables.{scratchSize}
+use Rattle.model.specs.Tables.{seats, scratchSize}
 use Rattle.model.specs.Records.{size, decode}
 use Rattle.model.specs.WellFormed.{wellFormed}
-use Rattle.model.specs.Questions.{Question, firstNo, recordQuestions, eventQuestions, scratchRoom, stepQuestions}
+use Rattle.model.specs.Questions.{Question, firstNo, recordQuestions, commandQuestions, scratchRoom, stepQuestions}
 use Rattle.model.specs.declared.Table.{Table}
-use Rattle.model.proofs.Allowed.{Numbered, none, more, no-no, event-numbered, record-numbered, step-asked}
+use Rattle.model.specs.declared.Event.{Event}
+use Rattle.model.specs.declared.Command.the-variants.{Act, Read}
+use Rattle.model.specs.Facts.{Among}
+use Rattle.model.proofs.Tested.{facts}
+use Rattle.model.proofs.Allowed.{Numbered, none, more, no-no, command-numbered, record-numbered, step-asked, read-allowed}
 use Rattle.model.proofs.Steps.{step-number, accepted-room}
+use Rattle.invariant.proofs.Stores.{seated}
 use Rattle.records.specs.Cuts.{recordOf}
 use Rattle.records.specs.declared.Record.{Record}
 use Rattle.events.specs.Conditions.{Accepted}
@@ -38,9 +43,9 @@ first-passed (more {k = k} {b = b} {qs = qs} n) rs e =
 
 -- THE RECORD
 
-pub event-read : (v : ℕ) (s : List ℕ) (r : Record) → r ≡ recordOf v s → r .event ≡ decode v s
+pub command-read : (v : ℕ) (s : List ℕ) (r : Record) → r ≡ recordOf v s → r .command ≡ decode v s
 unfolding recordOf
-event-read v s r e = ap (λ (x : Record). x .event) e
+command-read v s r e = ap (λ (x : Record). x .command) e
 
 -- a record that no question refuses takes the bytes that its length byte counts, and that byte
 pub used-read : (t : Table) (s : List ℕ) (room : ℕ) (r : Record) → r ≡ recordOf (t .version) s → firstNo (stepQuestions t s room) ≡ 0 → r .used ≡ size s + 1
@@ -54,17 +59,17 @@ module _ (t : Table) (r : Record) (room : ℕ) where
   unfolding refusalOf firstNo
   shape-refuses n = sym (cond-false _ _ (ne-eqb (r .number) 0 n))
 
-  module _ (z : r .number ≡ 0) (k : ℕ) (e : k ≡ firstNo (eventQuestions t (r .event))) where
-    past-shape : refusalOf t r room ≡ firstNo (eventQuestions t (r .event) ++ (scratchRoom room ∷ []))
+  module _ (z : r .number ≡ 0) (k : ℕ) (e : k ≡ firstNo (commandQuestions t (r .command))) where
+    past-shape : refusalOf t r room ≡ firstNo (commandQuestions t (r .command) ++ (scratchRoom room ∷ []))
     unfolding refusalOf firstNo
     past-shape = cond-true _ _ (eq-eqb (r .number) 0 z)
 
     pub event-refuses : k ≢ 0 → k ≡ refusalOf t r room
-    event-refuses n = e ∙ sym (past-shape ∙ first-refused (eventQuestions t (r .event)) _ (λ x. n (e ∙ x)))
+    event-refuses n = e ∙ sym (past-shape ∙ first-refused (commandQuestions t (r .command)) _ (λ x. n (e ∙ x)))
 
     module _ (y : k ≡ 0) where
       past-event : refusalOf t r room ≡ firstNo (scratchRoom room ∷ [])
-      past-event = past-shape ∙ first-passed (event-numbered t (r .event)) _ (sym e ∙ y)
+      past-event = past-shape ∙ first-passed (command-numbered t (r .command)) _ (sym e ∙ y)
 
       pub room-refuses : room < scratchSize → 15 ≡ refusalOf t r room
       unfolding firstNo scratchRoom
@@ -84,6 +89,14 @@ module _ (t : Table) (s : List ℕ) (room : ℕ) where
     | inr q ↦ cond-false _ _ q ∙ sym (first-refused (recordQuestions (t .version) s) _ (eqb-false _ 0 q))
   ]
 
-  -- what carrying out an event relies on
-  pub allowed : wellFormed t ≡ true → firstNo (stepQuestions t s room) ≡ 0 → Accepted t (decode (t .version) s) × (scratchSize ≤ room)
-  allowed w e = ((w, step-asked t s room e .1), accepted-room t s room (step-number t s room ∙ e))
+  module _ (w : wellFormed t ≡ true) (e : firstNo (stepQuestions t s room) ≡ 0) where
+    pub enough : scratchSize ≤ room
+    enough = accepted-room t s room (step-number t s room ∙ e)
+
+    -- what carrying out an event, and a local read, relies on
+    pub allowed : (d : Event) → decode (t .version) s ≡ Act d → Accepted t d
+    unfolding commandQuestions
+    allowed d q = (w, rw q at (step-asked t s room e .1))
+
+    pub readable : (c : ℕ) → decode (t .version) s ≡ Read c → Among seats c
+    readable c q = seated (facts t w .few) (read-allowed t c (rw q at (step-asked t s room e .1)) .controller)

@@ -13,15 +13,18 @@ use Rattle.model.specs.declared.Controller.{Controller}
 use Rattle.model.specs.declared.Table.{Table}
 use Rattle.model.specs.declared.Event.{Event}
 use Rattle.model.specs.declared.Event.the-variants.{Send, Handover, Stop}
+use Rattle.model.specs.declared.Command.{Command}
+use Rattle.model.specs.declared.Command.the-variants.{Act, Read}
 use Rattle.records.specs.Cuts.{recordOf}
 use Rattle.records.specs.declared.Record.{Record}
 use Rattle.events.specs.declared.effects.Parties.{Parties}
 use Rattle.events.specs.declared.files.Ahead.{Ahead}
 use Rattle.events.specs.Conditions.{Accepted, Receivable}
 use Rattle.events.specs.Reading.{ownerOf, seatOf, partiesOf, Allowed, taken, Reading}
-use Rattle.events.specs.Turns.{aheadOf}
+use Rattle.events.specs.Turns.{seatsOf, aheadOf}
 use Rattle.events.proofs.Accepted.{sendable, handable, stoppable}
 use Rattle.events.proofs.Subjects.{subject-seated}
+use Rattle.events.proofs.Asking.{command-read}
 
 -- OUT OF THE TABLE
 
@@ -62,11 +65,22 @@ module _ (t : Table) (e : Event) (q : Accepted t e) where
     owner-is = ap (λ (x : Parties). x .owner) ep;
   }
 
--- a record is looked at with the indices of what its event reads
-pub ahead-is : (v : ℕ) (s : List ℕ) (r : Record) → r ≡ recordOf v s → (i j : ℕ) → i ≡ seatOf (subject (r .event)) → j ≡ seatOf (ownerOf (r .event))
-    → _≡_ {A = Ahead} (record { found = r; subject = i; owner = j }) (aheadOf v s)
-unfolding aheadOf recordOf
-ahead-is v s r er i j ei ej = rw (ei, ej, er) refl
+-- a record is looked at with the indices of what its event reads, and a local read's with 0
+module _ (v : ℕ) (s : List ℕ) (r : Record) (er : r ≡ recordOf v s) where
+  pub ahead-acts : (e : Event) → r .command ≡ Act e → (i j : ℕ) → i ≡ seatOf (subject e) → j ≡ seatOf (ownerOf e)
+      → _≡_ {A = Ahead} (record { found = r; subject = i; owner = j }) (aheadOf v s)
+  unfolding aheadOf seatsOf recordOf
+  ahead-acts e q i j ei ej = rw (ei, ej, ← command-read v s r er, q, er) refl
+
+  pub ahead-reads : (c : ℕ) → r .command ≡ Read c → _≡_ {A = Ahead} (record { found = r; subject = 0; owner = 0 }) (aheadOf v s)
+  unfolding aheadOf seatsOf recordOf
+  ahead-reads c q = rw (← command-read v s r er, q, er) refl
+
+-- the indices are those of controllers
+pub seats-low : (a : Command) → (seatsOf a .0 < seats) × (seatsOf a .1 < seats)
+unfolding seatsOf
+seats-low (Act e) = (seat-low (subject e) _ refl, seat-low (ownerOf e) _ refl)
+seats-low (Read c) = (omega arith, omega arith)
 
 -- WHAT EACH KIND DOES
 

@@ -13,14 +13,16 @@ use Rattle.lists.specs.Build.{overlay}
 use Rattle.lists.proofs.Tests.{cond-case, cond-true, cond-false}
 use Rattle.lists.proofs.Build.{length-over, over-over, length-overlay}
 use Rattle.model.specs.Tables.{scratchSize, start, fresh}
-use Rattle.model.specs.Events.{next, namesBelow, namesOf}
-use Rattle.model.specs.Records.{byte, size, decode}
+use Rattle.model.specs.Events.{resulting, namesBelow, namesOf}
+use Rattle.model.specs.Records.{byte, size, behind, decode}
 use Rattle.model.specs.Sized.{Sized}
 use Rattle.model.specs.WellFormed.{wellFormed}
 use Rattle.model.specs.Questions.{firstNo, lineFits, fileQuestions}
-use Rattle.model.specs.Calls.{Outcome, accepted, refused, step, cleared, scratchAfter}
+use Rattle.model.specs.Calls.{Outcome, answering, accepted, refused, step, cleared, scratchAfter}
 use Rattle.model.specs.Runs.{Progress, lineOf, lineAt, verdict, records, begun, progress, ran}
 use Rattle.model.specs.declared.Table.{Table}
+use Rattle.model.specs.declared.Command.{Command}
+use Rattle.model.specs.declared.Command.the-variants.{Act, Read}
 use Rattle.model.specs.declared.RunAnswer.{RunAnswer}
 use Rattle.model.proofs.Tested.{tested}
 use Rattle.model.proofs.Allowed.{file-allowed}
@@ -67,9 +69,14 @@ leaves-cleared : (e : ℕ) (w : List ℕ) → scratchSize ≤ length w → clear
 leaves-cleared e w h = cond-case (λ (v : List ℕ). cleared v ≡ cleared w) (eqb e 0) w (cleared w) (λ _. refl) (λ _. cleared-again w h)
 
 -- where no message was sent no line is listed
+quiet-names : (t : Table) (a : Command) (r : List ℕ) → t .count ≡ 0 → answering t a r .names ≡ []
+unfolding answering namesOf namesBelow
+quiet-names t (Act e) r z = rw z refl
+quiet-names t (Read c) r z = refl
+
 step-quiet : (t : Table) (s : List ℕ) (room : ℕ) → t .count ≡ 0 → step t s room .answer .names ≡ []
-unfolding accepted refused namesOf namesBelow
-step-quiet t s room z = step-case t s room (λ (o : Outcome). o .answer .names ≡ []) (λ _. rw z refl) (λ _. refl)
+unfolding accepted refused
+step-quiet t s room z = step-case t s room (λ (o : Outcome). o .answer .names ≡ []) (λ _. quiet-names t (decode (t .version) s) (behind s) z) (λ _. refl)
 
 quiet-fits : (p : Progress) (s : List ℕ) (room space : ℕ) → p .table .count ≡ 0 → step (p .table) s room .answer .number ≡ 0 → verdict p s room space ≡ 0
 unfolding verdict lineAt lineOf firstNo lineFits
@@ -236,7 +243,7 @@ module _ (s l₀ w₀ l w b : List ℕ) (c : Cursor) (t : Table) (r : Running s 
         (sym (records-turn p b (length w) (length l) h b′ left-is) ∙ rw (scratch-size, r .space) (r .ahead))
 
     -- the table, as the code has stored it
-    module _ (y : Table) (on : a .cursor .number ≡ 0 → y ≡ next t (decode (t .version) b)) (off : a .cursor .number ≢ 0 → y ≡ t) where
+    module _ (y : Table) (on : a .cursor .number ≡ 0 → y ≡ resulting t (decode (t .version) b)) (off : a .cursor .number ≢ 0 → y ≡ t) where
       table-is : y ≡ q .table
       unfolding progressOf
       table-is =

@@ -7,16 +7,19 @@ use Prim.Native.Nat.{ℕ, _+_}
 use native.Mathlib.Omega.{arith}
 use lib.ListN.{length}
 use borrow.Author.Tests.{ne-eqb}
-use Rattle.model.specs.Events.{next}
+use Rattle.model.specs.Events.{next, resulting}
 use Rattle.model.specs.Records.{size, decode}
 use Rattle.model.specs.WellFormed.{wellFormed}
 use Rattle.model.specs.Questions.{firstNo, lentTable, stepQuestions}
-use Rattle.model.specs.Calls.{Outcome, accepted, refused, settled, step, event, cleared, scratchAfter, answerOf}
+use Rattle.model.specs.Calls.{Outcome, answering, accepted, refused, settled, step, event, cleared, scratchAfter, answerOf}
 use Rattle.model.specs.declared.Table.{Table}
+use Rattle.model.specs.declared.Event.{Event}
+use Rattle.model.specs.declared.Command.the-variants.{Act, Read}
+use Rattle.model.specs.declared.Answer.{Answer}
 use Rattle.model.proofs.Steps.{step-is-accepted, step-is-refused, event-number-step}
 use Rattle.events.specs.declared.Stepped.{Stepped}
 use Rattle.events.specs.declared.effects.Effect.{Effect}
-use Rattle.events.specs.Effects.{noSet, effectOf, Effected}
+use Rattle.events.specs.Effects.{noSet, readAnswer, effectOf, Effected}
 use Rattle.events.specs.Stepped.{steppedOf, unchanged, Answers, Steps}
 
 module _ (t : Table) (s w : List ℕ) where
@@ -28,12 +31,18 @@ module _ (t : Table) (s w : List ℕ) where
       → Answers (step t s (length w)) s w r w
   step-refused k e n r d = refused-answer (step t s (length w)) k (rw e (step-is-refused t s (length w) (λ z. n (e ∙ z)))) n r d
 
-  pub step-accepted : firstNo (stepQuestions t s (length w)) ≡ 0 → (d : Effect) (v : List ℕ) → Effected t (decode (t .version) s) w d v → (x : Table) → x ≡ next t (decode (t .version) s)
-      → (u : ℕ) → u ≡ size s + 1
-      → Answers (step t s (length w)) s w (record { answer = d .answer; used = u; table = x }) v
-  unfolding steppedOf accepted effectOf answerOf scratchAfter
-  step-accepted z d v a x ex u eu =
-      rw (step-is-accepted t s (length w) z) (record { outcome = rw (a .effect, ex, eu) refl; clear = a .clear })
+  module _ (z : firstNo (stepQuestions t s (length w)) ≡ 0) (u : ℕ) (eu : u ≡ size s + 1) where
+    pub step-acted : (e : Event) → decode (t .version) s ≡ Act e → (d : Effect) (v : List ℕ) → Effected t e w d v → (x : Table) → x ≡ next t e
+        → Answers (step t s (length w)) s w (record { answer = d .answer; used = u; table = x }) v
+    unfolding steppedOf accepted answering resulting effectOf answerOf scratchAfter
+    step-acted e q d v a x ex =
+        rw (step-is-accepted t s (length w) z) (record { outcome = rw (a .effect, ex, eu, q) refl; clear = rw q (a .clear) })
+
+    pub step-read : (c : ℕ) → decode (t .version) s ≡ Read c → (a : Answer) → a ≡ readAnswer t c → (v : List ℕ) → v ≡ cleared w
+        → Answers (step t s (length w)) s w (record { answer = a; used = u; table = t }) v
+    unfolding steppedOf accepted answering resulting readAnswer answerOf scratchAfter
+    step-read c q a ea v ev =
+        rw (step-is-accepted t s (length w) z) (record { outcome = rw (ea, eu, q) refl; clear = rw q ev })
 
   event-is-refused : (room : ℕ) → wellFormed t ≡ false → event t s room ≡ refused t s 4
   unfolding event settled firstNo lentTable

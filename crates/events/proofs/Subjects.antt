@@ -9,7 +9,7 @@ use lib.ListN.{set}
 use denote.Enum.Declared.{tagOf}
 use Rattle.lists.proofs.Clipped.{any-none}
 use Rattle.model.specs.Tables.{seats, capacity, message, messageNumber, messageOf, withController, withMessage}
-use Rattle.model.specs.Events.{sentMessage, sent, subject, after, withSent, next, appliedBy, weigh, total, shown, panelOf, namesOf, finishes}
+use Rattle.model.specs.Events.{sentMessage, sent, subject, after, withSent, next, appliedBy, resulting, weigh, total, shown, panelOf, namesOf, finishes}
 use Rattle.model.specs.Facts.{Among}
 use Rattle.model.specs.Runs.{lineOf}
 use Rattle.model.specs.Sized.{Sized}
@@ -20,6 +20,8 @@ use Rattle.model.specs.declared.Table.{Table}
 use Rattle.model.specs.declared.Event.{Event}
 use Rattle.model.specs.declared.Answer.{Answer}
 use Rattle.model.specs.declared.Event.the-variants.{Send, Handover, Stop}
+use Rattle.model.specs.declared.Command.{Command}
+use Rattle.model.specs.declared.Command.the-variants.{Act, Read}
 use Rattle.model.proofs.Event as event
 use Rattle.model.proofs.Tested.{facts}
 use Rattle.model.proofs.Allowed.{subject-allowed}
@@ -69,16 +71,22 @@ stored-else t (Send c p) x (inr q) f = absurd (omega arith)
 stored-else t (Handover r o) x q f = rw f refl
 stored-else t (Stop c k) x q f = rw f refl
 
--- the same, of an event e that is known as b, whose subject has the index i
-pub stored-as-send : (t : Table) (e b : Event) (i c : ℕ) (p : Payload) (x : Controller) (m : Message) → e ≡ b → i ≡ subject e - 1 → e ≡ Send c p → x ≡ after t (Send c p)
+-- the same, of a record that asks for e, whose subject has the index i
+pub stored-as-send : (t : Table) (a : Command) (e : Event) (i c : ℕ) (p : Payload) (x : Controller) (m : Message) → a ≡ Act e → i ≡ subject e - 1 → e ≡ Send c p → x ≡ after t (Send c p)
     → m ≡ messageOf c (messageNumber (x .length)) p
-    → _≡_ {A = Table} (record { version = t .version; n = t .n; count = t .count + 1; messages = set (t .messages) (t .count) m; controllers = set (t .controllers) i x }) (next t b)
-unfolding subject
-stored-as-send t e b i c p x m q ei es ex em = rw (← q, ei, es) (stored-send t c p x ex m em)
+    → _≡_ {A = Table} (record { version = t .version; n = t .n; count = t .count + 1; messages = set (t .messages) (t .count) m; controllers = set (t .controllers) i x }) (resulting t a)
+unfolding subject resulting
+stored-as-send t a e i c p x m q ei es ex em = rw (q, ei, es) (stored-send t c p x ex m em)
 
-pub stored-as-else : (t : Table) (e b : Event) (i : ℕ) (x : Controller) → e ≡ b → i ≡ subject e - 1 → (tagOf event.the-type e ≡ 1) ⊎ (tagOf event.the-type e ≡ 2) → x ≡ after t e
-    → _≡_ {A = Table} (record { version = t .version; n = t .n; count = t .count; messages = t .messages; controllers = set (t .controllers) i x }) (next t b)
-stored-as-else t e b i x q ei kind ex = rw (← q, ei) (stored-else t e x kind ex)
+pub stored-as-else : (t : Table) (a : Command) (e : Event) (i : ℕ) (x : Controller) → a ≡ Act e → i ≡ subject e - 1 → (tagOf event.the-type e ≡ 1) ⊎ (tagOf event.the-type e ≡ 2) → x ≡ after t e
+    → _≡_ {A = Table} (record { version = t .version; n = t .n; count = t .count; messages = t .messages; controllers = set (t .controllers) i x }) (resulting t a)
+unfolding resulting
+stored-as-else t a e i x q ei kind ex = rw (q, ei) (stored-else t e x kind ex)
+
+-- a local read leaves the table as it is
+pub read-stays : (t : Table) (a : Command) (c : ℕ) → a ≡ Read c → t ≡ resulting t a
+unfolding resulting
+read-stays t a c q = rw q refl
 
 -- THE LINE
 

@@ -12,15 +12,16 @@ use borrow.Author.Tests.{eq-eqb, ne-eqb, leb-true, le-leb}
 use borrow.Rule.Slice.PartMut.{midOf, postOf, putMid, put-same}
 use Rattle.lists.specs.Build.{overlay}
 use Rattle.lists.proofs.Tests.{cond-true, cond-false, refuted}
-use Rattle.model.specs.Events.{subject, after, appliedBy, total, namesOf}
+use Rattle.model.specs.Events.{subject, after, appliedBy, controllerOf, resulting, total, namesOf}
 use Rattle.model.specs.Records.{size, decode}
 use Rattle.model.specs.Sized.{Sized}
 use Rattle.model.specs.Questions.{firstNo, lineFits, stepQuestions}
-use Rattle.model.specs.Calls.{accepted, step, scratchAfter, answerOf}
+use Rattle.model.specs.Calls.{answering, accepted, step, cleared, scratchAfter, answerOf}
 use Rattle.model.specs.Runs.{Progress, lineOf, lineAt, verdict}
 use Rattle.model.specs.declared.Controller.{Controller}
 use Rattle.model.specs.declared.Table.{Table}
 use Rattle.model.specs.declared.Event.{Event}
+use Rattle.model.specs.declared.Command.the-variants.{Act, Read}
 use Rattle.model.proofs.Allowed.{no-no}
 use Rattle.model.proofs.Steps.{step-number, step-is-accepted}
 use Rattle.model.proofs.Runs.{advance-gone, advance-ended}
@@ -52,6 +53,9 @@ overlay-behind n x l h =
     rw (length-append (take n l) x, m, ← drop-drop (length x) n l) (sym (append-assoc (take n l) x (drop (length x) (drop n l))))
 
 -- FROM THE CODE
+
+act-not-read : (e : Event) (c : ℕ) → Act e ≡ Read c → ⊥
+act-not-read e c q = let r : _≡_ {A = ℕ} 0 1 = cc in omega arith
 
 module _ (c : Cursor) (t : Table) (s l w : List ℕ) (b : Before c t s l) where
   abbrev so-far : Progress
@@ -97,28 +101,57 @@ module _ (c : Cursor) (t : Table) (s l w : List ℕ) (b : Before c t s l) where
       let said = step-number t s (length w) ∙ sym e in
       turn-ended k (verdict-refused (λ z. n (sym said ∙ z)) ∙ said) n x ex y w (sym (rw said (cond-false _ _ (ne-eqb k 0 n))))
 
-  module _ (z : Sized t) (passed : firstNo (stepQuestions t s (length w)) ≡ 0) (d : Effect) (v : List ℕ) (a : Effected t (decode (t .version) s) w d v) where
+  module _ (passed : firstNo (stepQuestions t s (length w)) ≡ 0) where
     number-said : step t s (length w) .answer .number ≡ 0
     number-said = step-number t s (length w) ∙ passed
 
-    leaves : Leaves t (decode (t .version) s) (d .controller)
-    unfolding effectOf
-    leaves = (allowed t s (length w) (b .formed) passed .0, ap (λ (x : Effect). x .controller) (a .effect))
-
-    scratch-said : v ≡ scratchAfter (step t s (length w) .answer .number) w
+    scratch-said : (v : List ℕ) → v ≡ cleared w → v ≡ scratchAfter (step t s (length w) .answer .number) w
     unfolding scratchAfter
-    scratch-said = rw number-said (a .clear)
+    scratch-said v e = rw number-said e
 
-    effect-line : lineOf (c .events + 1) (subject (decode (t .version) s)) (total t (d .controller)) (take (d .answer .size) (d .answer .names))
-        ≡ lineOf (c .events + 1) (subject (decode (t .version) s)) (total t (after t (decode (t .version) s))) (namesOf t (appliedBy t (decode (t .version) s)))
+    -- a local read, which has no line
+    module _ (o : ℕ) (eo : decode (t .version) s ≡ Read o) where
+      no-line-said : lineAt so-far s (length w) ≡ []
+      unfolding lineAt accepted answering lineOf progressOf
+      no-line-said = rw (step-is-accepted t s (length w) passed, eo) refl
+
+      verdict-said : verdict so-far s (length w) (length l) ≡ 0
+      unfolding firstNo lineFits
+      verdict-said = verdict-accepted number-said ∙ rw (no-line-said, le-leb 0 space (omega arith)) refl
+
+      pub turn-read : (u : ℕ) → u ≡ size s + 1 → (y : Controller) (v : List ℕ) → v ≡ cleared w
+          → Turned c t s l w (record { cursor = record { number = 0; events = c .events + 1; written = c .written }; used = u; controller = y }) l v
+      unfolding turned progressOf overlay
+      turn-read u eu y v ev =
+          let on = advance-gone so-far s (length w) (length l) verdict-said in
+          record {
+            number = rw on refl;
+            events = rw on refl;
+            written = rw (on, no-line-said, append-nil (take (c .written) l)) (sym lines-length);
+            used = rw on eu;
+            leaves = λ _ e q. absurd (act-not-read e o (sym q ∙ eo));
+            listed = rw (on, no-line-said, append-nil (take (c .written) l), lines-length) (sym (take-append-drop (c .written) l));
+            clear = scratch-said v ev;
+          }
+
+  module _ (z : Sized t) (passed : firstNo (stepQuestions t s (length w)) ≡ 0) (e : Event) (ee : decode (t .version) s ≡ Act e)
+      (d : Effect) (v : List ℕ) (a : Effected t e w d v) where
+    leaves : (x : Event) → decode (t .version) s ≡ Act x → Leaves t x (d .controller)
+    unfolding effectOf
+    leaves x q =
+        let r : e ≡ x = cc in
+        rw (← r) (allowed t s (length w) (b .formed) passed e ee, ap (λ (y : Effect). y .controller) (a .effect))
+
+    effect-line : lineOf (c .events + 1) (subject e) (total t (d .controller)) (take (d .answer .size) (d .answer .names))
+        ≡ lineOf (c .events + 1) (subject e) (total t (after t e)) (namesOf t (appliedBy t e))
     unfolding effectOf answerOf overlay
     effect-line = rw (a .effect, take-append-seam) refl
 
-    line-said : lineOf (c .events + 1) (subject (decode (t .version) s)) (total t (d .controller)) (take (d .answer .size) (d .answer .names)) ≡ lineAt so-far s (length w)
-    unfolding lineAt accepted progressOf
-    line-said = effect-line ∙ line-shown t (decode (t .version) s) (c .events + 1) z (leaves .0) ∙ rw (step-is-accepted t s (length w) passed) refl
+    line-said : lineOf (c .events + 1) (subject e) (total t (d .controller)) (take (d .answer .size) (d .answer .names)) ≡ lineAt so-far s (length w)
+    unfolding lineAt accepted answering resulting controllerOf progressOf
+    line-said = effect-line ∙ line-shown t e (c .events + 1) z (leaves e ee .0) ∙ rw (step-is-accepted t s (length w) passed, ee) refl
 
-    module _ (e : Event) (ee : e ≡ decode (t .version) s) (q : Put) (m : List ℕ)
+    module _ (q : Put) (m : List ℕ)
         (ew : Wrote (lineOf (c .events + 1) (subject e) (total t (d .controller)) (take (d .answer .size) (d .answer .names))) (midOf (c .written) space l) m q) where
       abbrev x : List ℕ
       x = lineAt so-far s (length w)
@@ -127,14 +160,14 @@ module _ (c : Cursor) (t : Table) (s l w : List ℕ) (b : Before c t s l) where
       mid-is = part-rest (c .written) l
 
       wrote : Wrote x (drop (c .written) l) m q
-      wrote = rw (ee, line-said, mid-is) at ew
+      wrote = rw (line-said, mid-is) at ew
 
       put-number : q .number ≡ firstNo (lineFits (length x) space ∷ [])
       unfolding putAnswer
       put-number = rw (length-drop) at (ap (λ (y : Put). y .number) (wrote .answer))
 
       verdict-put : verdict so-far s (length w) (length l) ≡ q .number
-      verdict-put = verdict-accepted number-said ∙ sym put-number
+      verdict-put = verdict-accepted (number-said passed) ∙ sym put-number
 
       pub turn-full : q .number ≢ 0 → (y : Cursor) → y ≡ ended c (q .number) → (g : Controller)
           → Turned c t s l w (record { cursor = y; used = length s; controller = g }) (putMid (c .written) space l m) v
@@ -143,7 +176,7 @@ module _ (c : Cursor) (t : Table) (s l w : List ℕ) (b : Before c t s l) where
           let out : leb (length x) (length (drop (c .written) l)) ≡ false = rw (length-drop (c .written) l) (unfit (length x) space (λ o. n (put-number ∙ o))) in
           let same : m ≡ midOf (c .written) space l = wrote .tail ∙ cond-false _ _ out ∙ sym mid-is in
           let kept = ap (putMid (c .written) space l) same ∙ put-same (c .written) space l in
-          rw kept (turn-ended (q .number) verdict-put n y ey g v scratch-said)
+          rw kept (turn-ended (q .number) verdict-put n y ey g v (scratch-said passed v (a .clear)))
 
       module _ (n : q .number ≡ 0) where
         fits : leb (length x) (length (drop (c .written) l)) ≡ true
@@ -175,13 +208,13 @@ module _ (c : Cursor) (t : Table) (s l w : List ℕ) (b : Before c t s l) where
               listed = rw on
                   (ap (λ (r : List ℕ). take (c .written) l ++ r) (none-behind m ∙ wrote .tail ∙ cond-true _ _ fits)
                   ∙ overlay-behind (c .written) x l (b .within));
-              clear = scratch-said;
+              clear = scratch-said passed v (a .clear);
             }
 
 -- a turn that does not end the run leaves the subject as its event e does
 pub turn-leaves : {c : Cursor} {t : Table} {s l w m v : List ℕ} {a : Advance} → Turned c t s l w a m v → a .cursor .number ≡ 0
-    → (e : Event) → e ≡ decode (t .version) s → Leaves t e (a .controller)
-turn-leaves d z e q = rw q (d .leaves (sym (d .number) ∙ z))
+    → (e : Event) → decode (t .version) s ≡ Act e → Leaves t e (a .controller)
+turn-leaves d z = d .leaves (sym (d .number) ∙ z)
 
 -- where there is no line nothing is written
 pub no-line : (s : List ℕ) → Wrote [] s s (record { number = 0; written = 0 })

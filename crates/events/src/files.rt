@@ -66,7 +66,8 @@ fn look_ahead(version: usize, left: &[u8]) -> Ahead
     ensures { λ r. ⌜ r ≡ aheadOf version (now (left .entry)) ⌝ }
 {
     let found = records::read_record(version, left);
-    match found.command {
+    let command = found.command;
+    match command {
         Command::Act(e) => Ahead {
             found,
             subject: effects::seat(effects::subject(e)),

@@ -25,12 +25,12 @@ pub settled-case : (P : Outcome → Type 0) (t : Table) (s : List ℕ) (k : ℕ)
 unfolding settled
 settled-case P t s k f g = cond-case P (eqb k 0) (accepted t s) (refused t s k) (λ e. f (eqb-true k 0 e)) (λ e. g (eqb-false k 0 e))
 
-answering-rest : (t : Table) (a : Command) (r : List ℕ) → answering t a r .rest ≡ r
+pub answering-rest : (t : Table) (a : Command) (r : List ℕ) → answering t a r .rest ≡ r
 unfolding answering
 answering-rest t (Act e) r = refl
 answering-rest t (Read c) r = refl
 
-answering-number : (t : Table) (a : Command) (r : List ℕ) → answering t a r .number ≡ 0
+pub answering-number : (t : Table) (a : Command) (r : List ℕ) → answering t a r .number ≡ 0
 unfolding answering
 answering-number t (Act e) r = refl
 answering-number t (Read c) r = refl

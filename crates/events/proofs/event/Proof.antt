@@ -1,26 +1,24 @@
 -- `event` tests the table that it is lent, refuses an event by the first no of its questions, or carries it out. Assumes nothing.
-use mathlib.Core.Path.{_≡_, sym, ap, subst, _∙_}
+use mathlib.Core.Path.{_≡_, sym, ap, _∙_}
 use mathlib.Core.Bool.{true}
 use mathlib.Core.List.{List}
-use Prim.Native.Nat.{ℕ, _≤_}
+use Prim.Native.Nat.{ℕ}
 use lib.ListN.{length}
 use borrow.Author.Tests.{not-true, not-false}
 use borrow.Author.Needs.{needs}
 use denote.Ref.{now}
-use Rattle.model.specs.Tables.{scratchSize}
-use Rattle.model.specs.Events.{next}
 use Rattle.model.specs.Records.{decode}
 use Rattle.model.specs.WellFormed.{wellFormed}
 use Rattle.model.specs.Questions.{firstNo, stepQuestions}
-use Rattle.model.specs.declared.Event.{Event}
+use Rattle.model.specs.declared.Command.the-variants.{Act, Read}
 use Rattle.records.specs.declared.Record.{Record}
 use Rattle.events.specs.declared.effects.Effect.{Effect}
 use Rattle.events.specs.Conditions.{Accepted}
 use Rattle.events.specs.Asking.{refusalOf}
-use Rattle.events.specs.Effects.{effectOf, Effected}
-use Rattle.events.proofs.Asking.{event-read, used-read, refusal-is, allowed}
+use Rattle.events.specs.Effects.{effectOf}
+use Rattle.events.proofs.Asking.{command-read, used-read, refusal-is, enough, allowed, readable}
 use Rattle.events.proofs.Reading.{allowed-parties}
-use Rattle.events.proofs.Stepping.{step-refused, step-accepted, event-refused-four, event-stepped}
+use Rattle.events.proofs.Stepping.{step-refused, step-acted, step-read, event-refused-four, event-stepped}
 use Rattle.events.proofs.event.Statement.{statement}
 use Rattle.events.proofs.event.Tie as tie
 
@@ -31,8 +29,15 @@ carried c = c .before .before .before .before
 abbrev both : tie.After-carry-out-arg → tie.After-both
 both c = c .before .before .before
 
-abbrev asked : tie.After-carry-out → tie.Else2
-asked c = both (c .before) .before
+abbrev commanded : tie.After-both → tie.After-command
+commanded c = c .before .before
+
+-- and of a local read, from behind the cleared scratch area
+abbrev read : tie.After-clear → tie.After-command2
+read c = c .before .before .before
+
+abbrev asked : tie.After-command → tie.Else2
+asked c = c .before .before
 
 abbrev reader : tie.Else2 → tie.After-read-record
 reader c = c .before .before
@@ -60,23 +65,15 @@ number-is c =
 passed : (c : tie.Else2) → firstNo (stepQuestions (start (reader c) .args .t) (bytes (reader c)) (room (reader c))) ≡ 0
 passed c = sym (number-is (c .before)) ∙ c .if2 .left
 
-accepted : (c : tie.Else2) → let d = reader c in Accepted (start d .args .t) (d .read-record .result .event) × (scratchSize ≤ room d)
-accepted c =
-    let d = reader c in
-    subst (λ (e : Event). Accepted (start d .args .t) e × (scratchSize ≤ room d)) (sym (event-read _ _ _ (d .read-record .ensures)))
-    (allowed _ _ _ (formed d) (passed c))
+-- the record asks for an event, which is allowed, or for a local read
+event-is : (c : tie.After-command) → let d = reader (asked c) in decode (start d .args .t .version) (bytes d) ≡ Act (c .command .given .0 .0)
+event-is c = sym (command-read _ _ _ (reader (asked c) .read-record .ensures)) ∙ c .command .given .1
 
--- what carrying it out leaves of the scratch area, and answers, of the event that the bytes name
-abbrev cleared : tie.After-carry-out → List ℕ
-cleared c = c .carry-out .last .1 .1 .1 .1 .0
+read-is : (c : tie.After-command2) → let d = reader (c .before .before) in decode (start d .args .t .version) (bytes d) ≡ Read (c .command2 .given .0 .0)
+read-is c = sym (command-read _ _ _ (reader (c .before .before) .read-record .ensures)) ∙ c .command2 .given .1
 
-effect : (c : tie.After-carry-out)
-    → let d = reader (asked c) in
-    Effected (start d .args .t) (decode (start d .args .t .version) (bytes d)) (now (start d .args .scratch)) (c .carry-out .result) (cleared c)
-effect c =
-    let d = reader (asked c) in
-    subst (λ (e : Event). Effected (start d .args .t) e (now (start d .args .scratch)) (c .carry-out .result) (cleared c))
-    (event-read _ _ _ (d .read-record .ensures)) (c .carry-out .ensures)
+accepted : (c : tie.After-command) → Accepted (start (reader (asked c)) .args .t) (c .command .given .0 .0)
+accepted c = allowed _ _ _ (formed (reader (asked c))) (passed (asked c)) _ (event-is c)
 
 well-formed-requires : tie.Need-well-formed-requires
 well-formed-requires c κs = search needs
@@ -101,32 +98,59 @@ returns-2 c =
     let n = c .before .before in
     event-stepped _ _ _ _ _ (formed (n .before)) (step-refused _ _ _ _ (number-is n) (c .before .if2 .taken) _ (c .refused2 .ensures))
 
+enum-known-command : tie.Need-enum-known-command
+enum-known-command c = search needs
+
 both-requires : tie.Need-both-requires
-both-requires c κs = accepted c .0
+both-requires c κs = accepted (c .before)
 
 carry-out-requires : tie.Need-carry-out-requires
 carry-out-requires c κs =
     let b = both c in
-    (allowed-parties _ _ (accepted (b .before) .0) _ (b .both .ensures), accepted (b .before) .1)
+    let k = commanded b in
+    (allowed-parties _ _ (accepted k) _ (b .both .ensures), enough _ _ _ (formed (reader (asked k))) (passed (asked k)))
 
 stored-requires : tie.Need-stored-requires
 unfolding effectOf
 stored-requires c κs =
-    let k = carried c in
-    let read = event-read _ _ _ (reader (asked k) .read-record .ensures) in
-    (accepted (asked k) .0, rw read (ap (λ (x : Effect). x .controller) (effect k .effect)))
+    let d = carried c in
+    (accepted (commanded (both (d .before))), ap (λ (x : Effect). x .controller) (d .carry-out .ensures .effect))
+
+enum-known-command-2 : tie.Need-enum-known-command-2
+enum-known-command-2 c = search needs
+
+clear-requires : tie.Need-clear-requires
+clear-requires c κs = search needs
+
+read-answer-requires : tie.Need-read-answer-requires
+read-answer-requires c κs =
+    let k = read (c .before .before) in
+    let h = readable _ _ _ (formed (reader (k .before .before))) (passed (k .before .before)) _ (read-is k) in
+    (h .low, h .high)
 
 same-length : tie.Need-same-length
 same-length c = search needs
 
 returns-3 : tie.Need-returns-3
 returns-3 c =
-    let k = carried (c .before) in
-    let d = reader (asked k) in
-    let read = d .read-record .ensures in
+    let d = carried (c .before) in
+    let k = commanded (both (d .before)) in
+    let r = reader (asked k) in
     let z = passed (asked k) in
-    event-stepped _ _ _ _ _ (formed d)
-    (step-accepted _ _ _ z _ _ (effect k) _ (c .stored .ensures ∙ ap (next (start d .args .t)) (event-read _ _ _ read)) _ (used-read _ _ _ _ read z))
+    event-stepped _ _ _ _ _ (formed r)
+    (step-acted _ _ _ z _ (used-read _ _ _ _ (r .read-record .ensures) z) _ (event-is k) _ _ (d .carry-out .ensures) _ (c .stored .ensures))
+
+same-length-2 : tie.Need-same-length-2
+same-length-2 c = search needs
+
+returns-4 : tie.Need-returns-4
+returns-4 c =
+    let d = c .before .before .before in
+    let k = read d in
+    let r = reader (k .before .before) in
+    let z = passed (k .before .before) in
+    event-stepped _ _ _ _ _ (formed r)
+    (step-read _ _ _ z _ (used-read _ _ _ _ (r .read-record .ensures) z) _ (read-is k) _ (c .read-answer .ensures) _ (d .clear .ensures))
 
 pub event-spec : {M : Type 1} → statement M
 event-spec =
@@ -139,8 +163,14 @@ event-spec =
     refusal-of-requires
     refused-requires-2
     returns-2
+    enum-known-command
     both-requires
     carry-out-requires
     stored-requires
+    enum-known-command-2
+    clear-requires
+    read-answer-requires
     same-length
-    returns-3)
+    returns-3
+    same-length-2
+    returns-4)

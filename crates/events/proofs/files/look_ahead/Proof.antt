@@ -2,12 +2,15 @@
 use mathlib.Core.Path.{ap, _∙_}
 use borrow.Author.Needs.{needs}
 use Rattle.events.specs.Reading.{seatOf}
-use Rattle.events.proofs.Reading.{ahead-is}
+use Rattle.events.proofs.Reading.{ahead-acts, ahead-reads}
 use Rattle.events.proofs.files.look_ahead.Statement.{statement}
 use Rattle.events.proofs.files.look_ahead.Tie as tie
 
 read-record-requires : tie.Need-read-record-requires
 read-record-requires c κs = search needs
+
+enum-known-command : tie.Need-enum-known-command
+enum-known-command c = search needs
 
 subject-requires : tie.Need-subject-requires
 subject-requires c κs = search needs
@@ -21,19 +24,29 @@ owner-requires c κs = search needs
 seat-requires-2 : tie.Need-seat-requires-2
 seat-requires-2 c κs = search needs
 
+enum-known-command-2 : tie.Need-enum-known-command-2
+enum-known-command-2 c = search needs
+
 returns : tie.Need-returns
 returns c =
     let i = c .before .before in
-    let r = i .before .before in
-    ahead-is _ _ _ (r .read-record .ensures) _ _ (i .seat .ensures ∙ ap seatOf (i .before .subject .ensures)) (c .seat2 .ensures ∙ ap seatOf (c .before .owner .ensures))
+    let k = i .before .before .before in
+    ahead-acts _ _ _ (k .before .before .read-record .ensures) _ (k .command .given .1) _ _
+    (i .seat .ensures ∙ ap seatOf (i .before .subject .ensures)) (c .seat2 .ensures ∙ ap seatOf (c .before .owner .ensures))
+
+returns-2 : tie.Need-returns-2
+returns-2 c = let k = c .before in ahead-reads _ _ _ (k .before .before .read-record .ensures) _ (k .command2 .given .1)
 
 pub look-ahead-spec : {M : Type 1} → statement M
 look-ahead-spec =
     tie.close
     (tie.spec
     read-record-requires
+    enum-known-command
     subject-requires
     seat-requires
     owner-requires
     seat-requires-2
-    returns)
+    enum-known-command-2
+    returns
+    returns-2)
