@@ -14,8 +14,8 @@ use Rattle.lists.proofs.Tests.{cond-true, cond-false}
 use Rattle.model.specs.Tables.{fresh}
 use Rattle.model.specs.Events.{controllerOf, panelOf}
 use Rattle.model.specs.Records.{byte, behind, decode}
-use Rattle.model.specs.Questions.{firstNo, fileQuestions}
-use Rattle.model.specs.Calls.{Outcome, step}
+use Rattle.model.specs.Questions.{firstNo, fileQuestions, stepQuestions}
+use Rattle.model.specs.Calls.{Outcome, accepted, step}
 use Rattle.model.specs.Runs.{Progress, lineAt, verdict, records, begun, progress, ran, fileRun}
 use Rattle.model.specs.declared.Name.{Name}
 use Rattle.model.proofs.Allowed.{step-asked}
@@ -57,8 +57,11 @@ module _ (p : Progress) (s : List ℕ) (room space : ℕ) (v : verdict p s room 
   abbrev e : ℕ
   e = p .events + 1
 
-  taken : step (p .table) s room .answer .number ≡ 0
-  taken = verdict-passed p s room space v .0
+  asked : firstNo (stepQuestions (p .table) s room) ≡ 0
+  asked = accepted-asked (p .table) s room (verdict-passed p s room space v .0)
+
+  taken : step (p .table) s room ≡ accepted (p .table) s
+  taken = step-is-accepted (p .table) s room asked
 
   module _ (k : ℕ) (tail : List ℕ) (later : (n : ℕ) → n ≤ e → lineSet n (split 10 tail) ≡ []) where
     set-read : (n : ℕ) → lineSet n (split 10 (lineAt p s room ++ tail)) ≡ cond (eqb e n) names (lineSet n (split 10 tail))
@@ -85,9 +88,7 @@ module _ (p : Progress) (s : List ℕ) (room space : ℕ) (v : verdict p s room 
     lines = d .lines ∙ append-assoc (p .lines) (lineAt p s room) (d .tail);
     later = λ n l. other-read (d .many) (d .tail) (d .later) n (omega arith) ∙ d .later n (omega arith);
     course = rw (first-read (d .many) (d .tail) (d .later))
-        (let q = accepted-asked (p .table) s room taken in
-        let a = step-is-accepted (p .table) s room q in
-        ((step-asked (p .table) s room q .1, ap (λ (o : Outcome). o .answer .names) a), rw a at (d .course)));
+        ((step-asked (p .table) s room asked .1, ap (λ (o : Outcome). o .answer .names) taken), rw taken at (d .course));
   }
 
 -- THE RUN

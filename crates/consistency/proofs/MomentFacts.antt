@@ -139,14 +139,14 @@ module _ {n : ℕ} {s₀ : State} {t : Table} {l : Ledger} (m : Moment n s₀ t 
   allowed : ReadAllowed t c
   allowed = read-allowed t c (rw decoded at (step-asked t s (length w) asked .1))
 
-  named-in-run : Among n c
-  named-in-run = omega (arith, allowed .controller, m .related .size)
+  reader : Among n c
+  reader = omega (arith, allowed .controller, m .related .size)
 
   pub read-gives : a .total ≡ showing (l .sent) (applied l c) .total
   unfolding accepted answering
   read-gives =
       rw (is-step, step-is-accepted t s (length w) asked, decoded)
-      (ap (λ (b : Panel). b .total) (panel-applied (m .recorded) c named-in-run))
+      (ap (λ (b : Panel). b .total) (panel-applied (m .recorded) c reader))
 
   -- an own message is in the log, and so applied, for it is not pending
   own-applied : (j : ℕ) → j < t .count → message t j .sender ≡ c → appliedAt (at t c) j ≡ true
@@ -162,7 +162,7 @@ module _ {n : ℕ} {s₀ : State} {t : Table} {l : Ledger} (m : Moment n s₀ t 
       let q = sym (has-own x c (sentNames l)) ∙ f in
       let y = sent-slot (m .recorded) x (and-left (has x (sentNames l)) _ q) in
       rw (← y .named)
-      (m .recorded .applies c named-in-run (y .which) (y .below)
+      (m .recorded .applies c reader (y .which) (y .below)
       ∙ own-applied (y .which) (y .below) (ap (λ (m : Name). m .sender) (y .named) ∙ eqb-true (x .sender) c (and-right (has x (sentNames l)) _ q)))
 
 -- THE ENDING
@@ -177,6 +177,9 @@ module _ {n : ℕ} {s₀ : State} {t : Table} {l : Ledger} (m : Moment n s₀ t 
   abbrev h : Among n r
   h = on .named
 
+  runs-in-table : yes? (at t r .running) ≡ true
+  runs-in-table = sym (p .runs r h) ∙ on .running
+
   read-out : (a o : ℕ) → Among n a → Among n o → yes? (at t a .running) ≡ true → place (at t a) o ≡ at t o .length
   read-out a o ha ho run =
       sym (p .places a o ha ho) ∙ (e .to-end a o (record { named = ha; running = p .runs a ha ∙ run }) ho ∙ (ap length (p .logs o ho) ∙ length-log t (at t o)))
@@ -186,7 +189,7 @@ module _ {n : ℕ} {s₀ : State} {t : Table} {l : Ledger} (m : Moment n s₀ t 
 
   slot-ending : (j : ℕ) → j < t .count → (appliedAt (at t r) j ≡ true) ↔ (inLog (at t (message t j .sender)) j ≡ true)
   slot-ending j k =
-      let x = ending (system n) (m .state) (g .all) (quorum-runs g majority-runs) (all-read g read-out) (r - 1) (omega (arith, few g)) (shown g r h .running ∙ (sym (p .runs r h) ∙ on .running)) (codeAt t j) in
+      let x = ending (system n) (m .state) (g .all) (quorum-runs g majority-runs) (all-read g read-out) (r - 1) (omega (arith, few g)) (shown g r h .running ∙ runs-in-table) (codeAt t j) in
       let y = remains-logged g j k in
       ((λ a. y .0 (x .0 (applied-delivered g r j h k ∙ a))), (λ a. sym (applied-delivered g r j h k) ∙ x .1 (y .1 a)))
 
@@ -200,20 +203,17 @@ module _ {n : ℕ} {s₀ : State} {t : Table} {l : Ledger} (m : Moment n s₀ t 
   pub ending-shows : (look t r .number ≡ 0) × (look t r .panel ≡ showing (l .sent) (remaining l))
   ending-shows = rw (look-is m r h) (refl, panel-remaining p r h moment-ending)
 
-  on-in-table : yes? (at t r .running) ≡ true
-  on-in-table = sym (p .runs r h) ∙ on .running
-
   -- its own messages remain, and so it has applied them
   none-own : ownPending t r ≡ false
   unfolding ownPending
   none-own = sym (any-none (t .count) _ (λ j b. refuted _ (λ q.
       let own = eqb-true (message t j .sender) r (and-right (held (at t r) j) _ q) in
       g .formed .controllers r (omega (arith, g .size)) .apart j b (and-left _ _ q)
-      (slot-ending j b .1 (rw own (own-logged g r j b own on-in-table))))))
+      (slot-ending j b .1 (rw own (own-logged g r j b own runs-in-table))))))
 
   pub ending-gives : (w : List ℕ) → scratchSize ≤ length w
       → let a = event t (readRecord r) (length w) .answer in (a .number ≡ 0) × (a .total ≡ showing (l .sent) (remaining l) .total)
   unfolding event settled accepted answering firstNo lentTable stepQuestions recordQuestions kindQuestions sizeOf decode commandQuestions scratchRoom
   ending-gives w k =
-      rw (tested t (g .formed), named-of t r (omega (arith, g .size)), on-in-table, none-own, le-leb scratchSize (length w) k)
+      rw (tested t (g .formed), named-of t r (omega (arith, g .size)), runs-in-table, none-own, le-leb scratchSize (length w) k)
       (refl, ap (λ (b : Panel). b .total) (panel-remaining p r h moment-ending))

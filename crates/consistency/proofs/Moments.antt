@@ -1,4 +1,4 @@
--- The entries of a list are legal steps one after another, and after every step the table, the ledger and a state of the abstract
+-- The entries of a list stand for legal steps one after another, and after every step the table, the ledger and a state of the abstract
 -- system say the same. Assumes nothing.
 use mathlib.Core.Path.{_≡_, refl, sym, ap, _∙_}
 use mathlib.Core.List.{List, [], _∷_, _++_, append-assoc, flatMap, foldl}
@@ -58,7 +58,7 @@ Takes t (carried s e ms) = Legal t s e ms
 
 -- ENTRIES
 
--- what the definitions of the calls answer
+-- what the definitions of the calls answer; of a file, a record that no question refuses, and the set of its answer
 unfoldable pub Gives : Table → Entry → Type 0
 Gives t (answered s w a) = a ≡ event t s (length w) .answer
 Gives t (looked c a) = a ≡ look t c
