@@ -18,7 +18,7 @@ use Rattle.consistency.proofs.Bridge.{system, codeAt, Related}
 use Rattle.consistency.proofs.BridgeFacts.{applied-delivered, code-owner}
 
 module _ {n : ℕ} {t : Table} {s : State} (g : Related n t s) where
-  -- whoever has applied a message has applied those of its sender with numbers as low
+  -- whoever has applied a message has applied those of its sender with no higher numbers
   pub earlier-applied : (r i j : ℕ) → Among n r → i < t .count → j < t .count → message t i .sender ≡ message t j .sender
       → message t j .number .0 ≤ message t i .number .0 → applied (at t r) i ≡ true → applied (at t r) j ≡ true
   earlier-applied r i j c hi hj e l a =

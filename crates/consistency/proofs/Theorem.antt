@@ -76,6 +76,10 @@ module _ (h : Head) (heads : Heads h) (calls : List Call) where
   unfolding Course
   gives-at i e after q = (rw q at (from i)) .0
 
+  event-at : (i : ℕ) (s w : List ℕ) (a : EventAnswer) (after : List Entry) → drop i es ≡ answered s w a ∷ after → a ≡ event (tableAt h calls i) s (length w) .answer
+  unfolding Gives
+  event-at i s w a = gives-at i (answered s w a)
+
   -- ITS MOMENTS
 
   reached : {u : Table} (xs : List Step) → Course stepped Takes (freshOf h) xs u → Moment n (freshState top) u (ledger xs)
@@ -135,8 +139,8 @@ demand-3 h heads calls = record {
   sent = sent h heads calls;
   once = λ i c. moment-at h heads calls i .recorded .once c;
   looks = λ i c a after q. look-shows (moment-at h heads calls i) c a (unfold Gives in (gives-at h heads calls i (looked c a) after q));
-  reads = λ i s w a after q. read-gives (moment-at h heads calls i) s w a (unfold Gives in (gives-at h heads calls i (answered s w a) after q));
-  reads-own = λ i s w a after q. read-rests (moment-at h heads calls i) s w a (unfold Gives in (gives-at h heads calls i (answered s w a) after q));
+  reads = λ i s w a after q. read-gives (moment-at h heads calls i) s w a (event-at h heads calls i s w a after q);
+  reads-own = λ i s w a after q. read-rests (moment-at h heads calls i) s w a (event-at h heads calls i s w a after q);
   in-order = λ i. in-order (moment-at h heads calls i);
   ending = λ i r e on. moment-ending (moment-at h heads calls i) e r on;
   ending-look = λ i r e on.
@@ -150,7 +154,7 @@ demand-3 h heads calls = record {
         answer = event (foldl left (given h) now) (readRecord r) (length w) .answer;
         last = list-extended h now (singleEvent (readRecord r) w);
         accepted = s .0;
-        given = s .1;
+        gives = s .1;
       };
 }
 
@@ -162,11 +166,10 @@ tables-well-formed h heads calls i = tested _ (moment-at h heads calls i .relate
 
 pub never-4 : (h : Head) → Heads h → (calls : List Call) (i : ℕ) (s w : List ℕ) (a : EventAnswer) (after : List Entry)
     → drop i (entries h calls) ≡ answered s w a ∷ after → a .number ≢ 4
-unfolding Gives
 never-4 h heads calls i s w a after q z =
     let t = tableAt h calls i in
     let e : a .number ≡ firstNo (stepQuestions t s (length w))
-    = ap (λ (x : EventAnswer). x .number) (gives-at h heads calls i (answered s w a) after q)
+    = ap (λ (x : EventAnswer). x .number) (event-at h heads calls i s w a after q)
     ∙ (ap (λ (o : Outcome). o .answer .number) (event-number-step t s (length w) (tables-well-formed h heads calls i)) ∙ step-number t s (length w)) in
     elim (step-number-range t s (length w)) [ inl k ↦ absurd (omega arith) | inr k ↦ absurd (omega arith) ]
 
