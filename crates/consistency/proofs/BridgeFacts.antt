@@ -127,12 +127,11 @@ module _ {n : ℕ} {t : Table} {s : State} (g : Related n t s) where
       )
 
   -- a running sender's log has all its messages
-  pub own-logged : (j : ℕ) → j < t .count → yes? (at t (message t j .sender) .running) ≡ true → inLog (at t (message t j .sender)) j ≡ true
-  own-logged j l on =
-      let c = message t j .sender in
-      let h = shown c (sender-named j l) in
-      let k = g .formed .controllers c (g .formed .senders j l) in
-      let low : s .position (c - 1) (codeAt t j) < top = omega (arith, g .numbered j l, g .formed .numbers j l .1) in
+  pub own-logged : (c j : ℕ) → j < t .count → message t j .sender ≡ c → yes? (at t c .running) ≡ true → inLog (at t c) j ≡ true
+  own-logged c j l e on =
+      let h = shown c (rw e at (sender-named j l)) in
+      let k = g .formed .controllers c (rw e at (g .formed .senders j l)) in
+      let low : s .position (c - 1) (codeAt t j) < top = omega (arith, g .numbered j l, g .formed .numbers j l .1, ap (λ z. s .position (z - 1) (codeAt t j)) e) in
       position-logged n t (g .formed) s v (c - 1) c (at t c) k h j l
       (omega (arith, v .logs .position-length (c - 1) (codeAt t j) low, length-is n t (g .formed) s v (c - 1) c (at t c) k h on))
 

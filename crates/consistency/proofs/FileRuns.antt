@@ -1,6 +1,6 @@
 -- A file run: its listing, read back, gives legal steps from the fresh table to the one that the run leaves. Assumes nothing.
 use Prim.Native.Nat.{ℕ, zero, suc, _+_, _≤_}
-use mathlib.Core.Path.{_≡_, refl, sym, ap₂, _∙_}
+use mathlib.Core.Path.{_≡_, refl, sym, ap, ap₂, _∙_}
 use mathlib.Core.Logic.{_≢_}
 use mathlib.Core.Bool.{cond}
 use mathlib.Core.List.{List, [], _∷_, _++_, append-nil, append-assoc}
@@ -12,19 +12,17 @@ use borrow.Author.Tests.{eq-eqb, ne-eqb}
 use Rattle.lists.specs.Build.{overlay}
 use Rattle.lists.proofs.Tests.{cond-true, cond-false}
 use Rattle.model.specs.Tables.{fresh}
-use Rattle.model.specs.Events.{subject, panelOf}
+use Rattle.model.specs.Events.{controllerOf, panelOf}
 use Rattle.model.specs.Records.{byte, behind, decode}
-use Rattle.model.specs.Questions.{firstNo, fileQuestions}
-use Rattle.model.specs.Calls.{accepted, step}
+use Rattle.model.specs.Questions.{firstNo, fileQuestions, stepQuestions}
+use Rattle.model.specs.Calls.{Outcome, accepted, step}
 use Rattle.model.specs.Runs.{Progress, lineAt, verdict, records, begun, progress, ran, fileRun}
 use Rattle.model.specs.declared.Name.{Name}
-use Rattle.model.specs.declared.Table.{Table}
 use Rattle.model.proofs.Allowed.{step-asked}
-use Rattle.model.proofs.Steps.{step-is-accepted, accepted-asked, accepted-table, file-run-ran}
+use Rattle.model.proofs.Steps.{step-is-accepted, accepted-asked, file-run-ran}
 use Rattle.model.proofs.Runs.{gone, verdict-passed, advance-case}
-use Rattle.consistency.specs.Demand3.{Entry, listed, said, split, lineSet, recordEntries, fileEntries}
+use Rattle.consistency.specs.Demand3.{Entry, listed, split, lineSet, recordEntries, fileEntries}
 use Rattle.consistency.proofs.Reader.{event-read, end-read}
-use Rattle.consistency.proofs.LedgerNext.{Legal, record-legal}
 use Rattle.consistency.proofs.Moments.{Course, Gives, told}
 
 -- READING
@@ -52,13 +50,6 @@ stopped p s k = record { many = 0; tail = []; events = omega arith; lines = sym 
 
 -- ONE RECORD MORE
 
--- an accepted event with the set that it answers
-step-legal : (t : Table) (s : List ℕ) (room : ℕ) → step t s room .answer .number ≡ 0 → Legal t (said (t .version) s) (decode (t .version) s) (step t s room .answer .names)
-unfolding accepted
-step-legal t s room e =
-    let q = accepted-asked t s room e in
-    rw (step-is-accepted t s room q) (record-legal t s (step-asked t s room q .1))
-
 module _ (p : Progress) (s : List ℕ) (room space : ℕ) (v : verdict p s room space ≡ 0) where
   abbrev names : List Name
   names = step (p .table) s room .answer .names
@@ -66,14 +57,17 @@ module _ (p : Progress) (s : List ℕ) (room space : ℕ) (v : verdict p s room 
   abbrev e : ℕ
   e = p .events + 1
 
-  taken : step (p .table) s room .answer .number ≡ 0
-  taken = verdict-passed p s room space v .0
+  asked : firstNo (stepQuestions (p .table) s room) ≡ 0
+  asked = accepted-asked (p .table) s room (verdict-passed p s room space v .0)
+
+  taken : step (p .table) s room ≡ accepted (p .table) s
+  taken = step-is-accepted (p .table) s room asked
 
   module _ (k : ℕ) (tail : List ℕ) (later : (n : ℕ) → n ≤ e → lineSet n (split 10 tail) ≡ []) where
     set-read : (n : ℕ) → lineSet n (split 10 (lineAt p s room ++ tail)) ≡ cond (eqb e n) names (lineSet n (split 10 tail))
     unfolding lineAt
     set-read n =
-        let c = subject (decode (p .table .version) s) in
+        let c = controllerOf (decode (p .table .version) s) in
         event-read n e c (panelOf (step (p .table) s room .table) c .total) names tail (λ q. later n (omega arith))
 
     other-read : (n : ℕ) → e ≢ n → lineSet n (split 10 (lineAt p s room ++ tail)) ≡ lineSet n (split 10 tail)
@@ -94,7 +88,7 @@ module _ (p : Progress) (s : List ℕ) (room space : ℕ) (v : verdict p s room 
     lines = d .lines ∙ append-assoc (p .lines) (lineAt p s room) (d .tail);
     later = λ n l. other-read (d .many) (d .tail) (d .later) n (omega arith) ∙ d .later n (omega arith);
     course = rw (first-read (d .many) (d .tail) (d .later))
-        (step-legal (p .table) s room taken, rw (accepted-table (p .table) s room taken) at (d .course));
+        ((step-asked (p .table) s room asked .1, ap (λ (o : Outcome). o .answer .names) taken), rw taken at (d .course));
   }
 
 -- THE RUN

@@ -118,11 +118,8 @@ module _ {n : ℕ} {t : Table} {u : State} {l : Ledger} (g : Related n t u) (k :
       old = has-log t (k .formed) (at t r) (good .log-run) j h ∙ e
 
   -- the receiver runs, so its log has all its messages
-  own-receiver : (j : ℕ) → j < t .count → senderAt t j ≡ r → inLog (at t r) j ≡ true
-  own-receiver j h e = rw e at (own-logged g j h (rw e (a .running)))
-
   uncut : (j : ℕ) → j < t .count → senderAt t j ≡ r → has (nameAt t j) (l .cut) ≡ not (inLog (receiverAfter t r o) j)
-  uncut j h e = k .cut j h ∙ rw (e, own-receiver j h e, log-grows j h (own-receiver j h e))
+  uncut j h e = let in-own = own-logged g r j h e (a .running) in k .cut j h ∙ rw (e, in-own, log-grows j h in-own)
 
   place-after : (q : ℕ) → Among (t .n) q → put (l .place r) o (l .place r o + 1) q ≡ place (receiverAfter t r o) q
   unfolding deliver

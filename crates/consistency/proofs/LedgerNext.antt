@@ -1,14 +1,14 @@
 -- An accepted record says the amount and the class of the message sent, and every legal step keeps the ledger and the table saying
 -- the same. Assumes nothing.
 use mathlib.Core.Path.{_≡_, refl, sym, ap, subst, _∙_}
-use mathlib.Core.Bool.{Bool, true, false, _&&_, cond, false≢true}
+use mathlib.Core.Bool.{Bool, true, false, cond, false≢true}
 use mathlib.Core.List.{List}
 use Prim.Native.Nat.{ℕ, zero, suc, _+_, _-_, _<_}
 use native.Mathlib.Omega.{arith}
 use lib.IntN.{pos, negℤ, _+ℤ_, _-ℤ_, +ℤ-idr, +ℤ-assoc, +ℤ-invr, negℤ-+ℤ, pos-+ℤ-pos}
-use lib.Dec.{eqb, ltb}
-use Rattle.model.specs.Tables.{report, sync}
-use Rattle.model.specs.Records.{byte, kind, word, reportClass, reported, decode}
+use lib.Dec.{ltb}
+use Rattle.model.specs.Tables.{report}
+use Rattle.model.specs.Records.{word, reportClass, reported, decode}
 use Rattle.model.specs.Events.{next, appliedBy, namesOf}
 use Rattle.model.specs.Questions.{firstNo, eventQuestions}
 use Rattle.model.specs.WellFormed.{fairMagnitude, fairAmount}
@@ -17,7 +17,8 @@ use Rattle.model.specs.declared.Payload.{Payload}
 use Rattle.model.specs.declared.Table.{Table}
 use Rattle.model.specs.declared.Event.{Event}
 use Rattle.model.specs.declared.Event.the-variants.{Send, Handover, Stop}
-use Rattle.model.proofs.Allowed.{send-allowed}
+use Rattle.model.specs.declared.Command.the-variants.{Act}
+use Rattle.model.proofs.Allowed.{SendRecord, reports, syncs, send-record, send-allowed}
 use Rattle.broadcast.specs.State.{State}
 use Rattle.consistency.specs.Demand3.{Said, twos, amountIn, classIn, said, Ledger, carried, moved}
 use Rattle.consistency.proofs.Bridge.{Related}
@@ -53,17 +54,13 @@ reported-says k x = go (ltb x 32768)
         let q : x + (65536 - x) ≡ 65536 = omega arith in
         ap (λ z. record { amount = z; class = k }) (subst (λ y. pos x -ℤ pos y ≡ pos 0 -ℤ pos (65536 - x)) q (minus-sum x (65536 - x)))
 
-pub decoded-said : (v : ℕ) (s : List ℕ) (c : ℕ) (p : Payload) → decode v s ≡ Send c p → fairAmount p ≡ true → said v s ≡ saidOf p
-unfolding decode said amountIn classIn reportClass
-decoded-said v s c p = go (eqb (kind s) 1) (eqb (kind s) 2) (eqb (kind s) 3)
+pub decoded-said : (v : ℕ) (s : List ℕ) (c : ℕ) (p : Payload) → decode v s ≡ Act (Send c p) → fairAmount p ≡ true → said v s ≡ saidOf p
+unfolding said amountIn classIn reportClass
+decoded-said v s c p e f = go (send-record v s c p e)
   where
-    go : (a b d : Bool)
-        → cond a (Send (byte s 2) (reported (reportClass v s) (word s 3))) (cond b (Send (byte s 2) sync) (cond d (Handover (byte s 2) (byte s 3)) (Stop (byte s 2) (word s 3)))) ≡ Send c p
-        → fairAmount p ≡ true → record { amount = cond a (twos (word s 3)) (pos 0); class = cond (a && eqb v 2) (byte s 5) 0 } ≡ saidOf p
-    go true b d e f = let q : reported (reportClass v s) (word s 3) ≡ p = cc in rw (← q) (reported-says (reportClass v s) (word s 3) (rw q f))
-    go false true d e f = let q : sync ≡ p = cc in rw (← q)
-    go false false true e f = let q : _≡_ {A = ℕ} 0 1 = cc in absurd (omega arith)
-    go false false false e f = let q : _≡_ {A = ℕ} 0 1 = cc in absurd (omega arith)
+    go : SendRecord v s p → said v s ≡ saidOf p
+    go (reports q r) = rw (q, r) (reported-says (reportClass v s) (word s 3) (rw r at f))
+    go (syncs q r) = rw (q, r)
 
 -- STEPS
 
@@ -73,10 +70,9 @@ pub record Legal (t : Table) (s : Said) (e : Event) (ms : List Name) : Type 0 wh
   pub set : ms ≡ namesOf t (appliedBy t e)
   pub says : (c : ℕ) (p : Payload) → e ≡ Send c p → s ≡ saidOf p
 
-pub record-legal : (t : Table) (s : List ℕ)
-    → let e = decode (t .version) s in
-    firstNo (eventQuestions t e) ≡ 0 → Legal t (said (t .version) s) e (namesOf t (appliedBy t e))
-record-legal t s q = record { asked = q; set = refl; says = λ c p e. decoded-said (t .version) s c p e (send-allowed t c p (rw e at q) .amount) }
+pub record-legal : (t : Table) (s : List ℕ) (e : Event) → decode (t .version) s ≡ Act e → firstNo (eventQuestions t e) ≡ 0
+    → Legal t (said (t .version) s) e (namesOf t (appliedBy t e))
+record-legal t s e d q = record { asked = q; set = refl; says = λ c p r. decoded-said (t .version) s c p (rw r at d) (send-allowed t c p (rw r at q) .amount) }
 
 event-recorded : {n : ℕ} {t : Table} {u : State} {l : Ledger} → Related n t u → Recorded (t .n) t l → (s : Said) (e : Event) (ms : List Name) → Legal t s e ms
     → Recorded (t .n) (next t e) (moved l (carried s e ms))

@@ -1,36 +1,44 @@
--- What the claim says of one moment or of two: containment, looks, and the ending. Assumes nothing.
+-- What the claim says of one moment or of two: containment, order, looks, local reads, and the ending. Assumes nothing.
 use mathlib.Core.Path.{_≡_, refl, sym, ap, ap₂, _∙_}
 use mathlib.Core.Logic.{_⊎_, inl, inr, _↔_}
-use mathlib.Core.Bool.{true, false≢true}
+use mathlib.Core.Bool.{true, false, false≢true}
 use mathlib.Core.List.{List, [], flatten}
-use Prim.Native.Nat.{ℕ, zero, suc, _-_, _*_, _<_}
+use Prim.Native.Nat.{ℕ, zero, suc, _-_, _*_, _≤_, _<_}
 use native.Mathlib.Omega.{arith}
 use native.Mathlib.Decide.{decLt}
 use lib.ListN.{length}
+use borrow.Author.Tests.{eqb-true, le-leb}
 use Rattle.lists.specs.Below.{count}
-use Rattle.lists.proofs.Tests.{bool-eq}
+use Rattle.lists.proofs.Tests.{and-left, and-right, or-cases, refuted, bool-eq}
 use Rattle.lists.proofs.Below.{count-ext}
-use Rattle.model.specs.Tables.{yes?, at, message, place, applied as appliedAt, Among}
+use Rattle.lists.proofs.Clipped.{any-none}
+use Rattle.model.specs.Tables.{scratchSize, yes?, at, message, place, held, applied as appliedAt, Among}
 use Rattle.model.specs.Events.{panelOf}
+use Rattle.model.specs.Records.{byte, sizeOf, decode}
 use Rattle.model.specs.WellFormed.{named, wellFormed, inLog}
-use Rattle.model.specs.Questions.{firstNo, lentTable}
-use Rattle.model.specs.Calls.{look}
+use Rattle.model.specs.Questions.{firstNo, lentTable, kindQuestions, recordQuestions, ownPending, commandQuestions, scratchRoom, stepQuestions}
+use Rattle.model.specs.Calls.{EventAnswer, Outcome, answering, accepted, settled, step, event, look}
 use Rattle.model.specs.declared.Name.{Name}
+use Rattle.model.specs.declared.Panel.{Panel}
 use Rattle.model.specs.declared.Table.{Table}
+use Rattle.model.specs.declared.Command.the-variants.{Read}
 use Rattle.model.specs.declared.LookAnswer.{LookAnswer}
 use Rattle.model.specs.Facts.{WellFormed}
 use Rattle.model.proofs.Tested.{named-at, named-of, tested}
-use Rattle.model.proofs.Allowed.{no-no}
+use Rattle.model.proofs.Allowed.{no-no, step-asked, ReadAllowed, read-allowed}
+use Rattle.model.proofs.Steps.{step-is-accepted, event-number-step, accepted-asked}
 use Rattle.invariant.proofs.Stores.{seated}
 use Rattle.broadcast.specs.State.{State}
 use Rattle.broadcast.specs.Delivery.{Subset}
 use Rattle.broadcast.proofs.Theorem.{containment, ending}
-use Rattle.consistency.specs.Demand3.{name, has, Ledger, applied, remaining, showing, Contains, Exactly, Runs, ReadOut}
+use Rattle.consistency.specs.Demand3.{name, has, ownOf, Ledger, applied, sentNames, remaining, showing, Contains, Exactly, Runs, ReadOut, readRecord, IsRead}
 use Rattle.consistency.proofs.Bridge.{system, codeAt, code-injective, Related}
-use Rattle.consistency.proofs.BridgeFacts.{few, shown, applied-delivered, delivered-slot, remains-logged, all-read, quorum-runs}
+use Rattle.consistency.proofs.BridgeFacts.{few, shown, applied-delivered, delivered-slot, remains-logged, own-logged, all-read, quorum-runs}
+use Rattle.consistency.proofs.PassedOver.{earlier-applied}
+use Rattle.consistency.proofs.Names.{has-own}
 use Rattle.consistency.proofs.SlotNames.{nameAt, length-log}
-use Rattle.consistency.proofs.Ledger.{slot-case, Recorded}
-use Rattle.consistency.proofs.Sums.{look-amounts, has-remaining, remaining-slot, look-remaining}
+use Rattle.consistency.proofs.Ledger.{slot-case, Recorded, sent-slot}
+use Rattle.consistency.proofs.Sums.{panel-applied, has-remaining, remaining-slot, panel-remaining}
 use Rattle.consistency.proofs.Moments.{Moment}
 
 -- CONTAINMENT
@@ -53,14 +61,14 @@ module _ {n : ℕ} {t u : Table} {l k : Ledger} {s r : State} (g : Related n t s
           rw (← code-name u t (h .formed) (g .formed) (o .slot) j (o .below) b (o .is))
           (q .applies d hd (o .slot) (o .below) ∙ (sym (applied-delivered h d (o .slot) hd (o .below)) ∙ rw (o .is) y))
 
--- what an unnamed controller has applied is nothing
-unnamed-none : {n : ℕ} {t : Table} {l : Ledger} → Recorded n t l → (c : ℕ) → (Among n c → ⊥) → (xs : List Name) → Contains xs (applied l c)
-unfolding has flatten
-unnamed-none {l = l} p c f xs m e = absurd (false≢true (rw (p .unnamed c f) at e))
-
 naming : (n c : ℕ) → Dec (Among n c)
 naming n zero = no (λ h. omega (arith, h .low))
 naming n (suc c) = elim (decLt c n) [ yes h ↦ yes (record { low = omega arith; high = h }) | no h ↦ no (λ k. h (k .high)) ]
+
+-- whoever has applied a message is a controller of the run
+applied-named : {n : ℕ} {t : Table} {l : Ledger} → Recorded n t l → (c : ℕ) (m : Name) → has m (applied l c) ≡ true → Among n c
+unfolding has flatten
+applied-named {n} p c m e = elim (naming n c) [ yes h ↦ h | no f ↦ absurd (false≢true (rw (p .unnamed c f) at e)) ]
 
 -- a moment, and one that a run from its state reaches
 pub comparable : {n : ℕ} {s₀ : State} {t u : Table} {l k : Ledger} (m : Moment n s₀ t l) → Moment n (m .state) u k → (c d : ℕ)
@@ -68,12 +76,29 @@ pub comparable : {n : ℕ} {s₀ : State} {t u : Table} {l k : Ledger} (m : Mome
 comparable {n} {s₀} {t} {u} {l} {k} m m′ c d = go (naming n c) (naming n d)
   where
     go : Dec (Among n c) → Dec (Among n d) → Contains (applied l c) (applied k d) ⊎ Contains (applied k d) (applied l c)
-    go (no f) y = inr (unnamed-none (m .recorded) c f (applied k d))
-    go (yes x) (no f) = inl (unnamed-none (m′ .recorded) d f (applied l c))
+    go (no f) y = inr (λ x e. absurd (f (applied-named (m .recorded) c x e)))
+    go (yes x) (no f) = inl (λ x e. absurd (f (applied-named (m′ .recorded) d x e)))
     go (yes x) (yes y) = elim (containment (system n) (m .state) (m′ .state) (m .related .all) (m′ .run) (c - 1) (d - 1)) [
       | inl w ↦ inr (subset-contains (m .related) (m .recorded) (m′ .related) (m′ .recorded) c d x y w)
       | inr w ↦ inl (subset-contains (m′ .related) (m′ .recorded) (m .related) (m .recorded) d c y x w)
     ]
+
+-- ORDER
+
+pub in-order : {n : ℕ} {s₀ : State} {t : Table} {l : Ledger} → Moment n s₀ t l → (r c j k : ℕ)
+    → j < k → has (name c k) (applied l r) ≡ true → has (name c j) (sentNames l) ≡ true → has (name c j) (applied l r) ≡ true
+in-order m r c j k b e f =
+    let p = m .recorded in
+    let h = applied-named p r (name c k) e in
+    let y = p .applied-sent r (name c k) e in
+    let x = sent-slot p (name c j) f in
+    let sender : Name → ℕ = λ m. m .sender in
+    let number : Name → ℕ = λ m. m .number .0 in
+    rw (← x .named)
+    (p .applies r h (x .which) (x .below)
+    ∙ earlier-applied (m .related) r (y .which) (x .which) h (y .below) (x .below)
+    (ap sender (y .named) ∙ sym (ap sender (x .named))) (omega (arith, b, ap number (y .named), ap number (x .named)))
+    (sym (p .applies r h (y .which) (y .below)) ∙ rw (y .named) e))
 
 -- A LOOK
 
@@ -92,7 +117,53 @@ module _ {n : ℕ} {s₀ : State} {t : Table} {l : Ledger} (m : Moment n s₀ t 
   pub look-shows : (c : ℕ) (a : LookAnswer) → a ≡ look t c → a .number ≡ 0 → a .panel ≡ showing (l .sent) (applied l c)
   look-shows c a e z =
       let h = look-named c (ap (λ (b : LookAnswer). b .number) (sym e) ∙ z) in
-      ap (λ (b : LookAnswer). b .panel) (e ∙ look-is c h) ∙ look-amounts (m .recorded) c h
+      ap (λ (b : LookAnswer). b .panel) (e ∙ look-is c h) ∙ panel-applied (m .recorded) c h
+
+-- A LOCAL READ that is not refused
+
+module _ {n : ℕ} {s₀ : State} {t : Table} {l : Ledger} (m : Moment n s₀ t l)
+    (s w : List ℕ) (a : EventAnswer) (e : a ≡ event t s (length w) .answer) (reads : IsRead s) (z : a .number ≡ 0) where
+  abbrev c : ℕ
+  c = byte s 2
+
+  is-step : a ≡ step t s (length w) .answer
+  is-step = e ∙ ap (λ (o : Outcome). o .answer) (event-number-step t s (length w) (tested t (m .related .formed)))
+
+  asked : firstNo (stepQuestions t s (length w)) ≡ 0
+  asked = accepted-asked t s (length w) (ap (λ (b : EventAnswer). b .number) (sym is-step) ∙ z)
+
+  decoded : decode (t .version) s ≡ Read c
+  unfolding decode
+  decoded = rw reads refl
+
+  allowed : ReadAllowed t c
+  allowed = read-allowed t c (rw decoded at (step-asked t s (length w) asked .1))
+
+  reader : Among n c
+  reader = omega (arith, allowed .controller, m .related .size)
+
+  pub read-gives : a .total ≡ showing (l .sent) (applied l c) .total
+  unfolding accepted answering
+  read-gives =
+      rw (is-step, step-is-accepted t s (length w) asked, decoded)
+      (ap (λ (b : Panel). b .total) (panel-applied (m .recorded) c reader))
+
+  -- an own message is in the log, and so applied, for it is not pending
+  own-applied : (j : ℕ) → j < t .count → message t j .sender ≡ c → appliedAt (at t c) j ≡ true
+  own-applied j b q =
+      let x = m .related .formed .controllers c (allowed .controller) .exact (allowed .running) j b in
+      elim (or-cases (held (at t c) j) (appliedAt (at t c) j) (sym x ∙ own-logged (m .related) c j b q (allowed .running))) [
+        | inl h ↦ absurd (allowed .none-pending j b h q)
+        | inr h ↦ h
+      ]
+
+  pub read-rests : Contains (applied l c) (ownOf c (sentNames l))
+  read-rests x f =
+      let q = sym (has-own x c (sentNames l)) ∙ f in
+      let y = sent-slot (m .recorded) x (and-left (has x (sentNames l)) _ q) in
+      rw (← y .named)
+      (m .recorded .applies c reader (y .which) (y .below)
+      ∙ own-applied (y .which) (y .below) (ap (λ (m : Name). m .sender) (y .named) ∙ eqb-true (x .sender) c (and-right (has x (sentNames l)) _ q)))
 
 -- THE ENDING
 
@@ -106,6 +177,9 @@ module _ {n : ℕ} {s₀ : State} {t : Table} {l : Ledger} (m : Moment n s₀ t 
   abbrev h : Among n r
   h = on .named
 
+  runs-in-table : yes? (at t r .running) ≡ true
+  runs-in-table = sym (p .runs r h) ∙ on .running
+
   read-out : (a o : ℕ) → Among n a → Among n o → yes? (at t a .running) ≡ true → place (at t a) o ≡ at t o .length
   read-out a o ha ho run =
       sym (p .places a o ha ho) ∙ (e .to-end a o (record { named = ha; running = p .runs a ha ∙ run }) ho ∙ (ap length (p .logs o ho) ∙ length-log t (at t o)))
@@ -115,7 +189,7 @@ module _ {n : ℕ} {s₀ : State} {t : Table} {l : Ledger} (m : Moment n s₀ t 
 
   slot-ending : (j : ℕ) → j < t .count → (appliedAt (at t r) j ≡ true) ↔ (inLog (at t (message t j .sender)) j ≡ true)
   slot-ending j k =
-      let x = ending (system n) (m .state) (g .all) (quorum-runs g majority-runs) (all-read g read-out) (r - 1) (omega (arith, few g)) (shown g r h .running ∙ (sym (p .runs r h) ∙ on .running)) (codeAt t j) in
+      let x = ending (system n) (m .state) (g .all) (quorum-runs g majority-runs) (all-read g read-out) (r - 1) (omega (arith, few g)) (shown g r h .running ∙ runs-in-table) (codeAt t j) in
       let y = remains-logged g j k in
       ((λ a. y .0 (x .0 (applied-delivered g r j h k ∙ a))), (λ a. sym (applied-delivered g r j h k) ∙ x .1 (y .1 a)))
 
@@ -127,4 +201,19 @@ module _ {n : ℕ} {s₀ : State} {t : Table} {l : Ledger} (m : Moment n s₀ t 
       (λ j b z. p .applies r h j b ∙ slot-ending j b .1 (sym (has-remaining p j b) ∙ z)) y)
 
   pub ending-shows : (look t r .number ≡ 0) × (look t r .panel ≡ showing (l .sent) (remaining l))
-  ending-shows = rw (look-is m r h) (refl, look-remaining p r h moment-ending)
+  ending-shows = rw (look-is m r h) (refl, panel-remaining p r h moment-ending)
+
+  -- its own messages remain, and so it has applied them
+  none-own : ownPending t r ≡ false
+  unfolding ownPending
+  none-own = sym (any-none (t .count) _ (λ j b. refuted _ (λ q.
+      let own = eqb-true (message t j .sender) r (and-right (held (at t r) j) _ q) in
+      g .formed .controllers r (omega (arith, g .size)) .apart j b (and-left _ _ q)
+      (slot-ending j b .1 (rw own (own-logged g r j b own runs-in-table))))))
+
+  pub ending-gives : (w : List ℕ) → scratchSize ≤ length w
+      → let a = event t (readRecord r) (length w) .answer in (a .number ≡ 0) × (a .total ≡ showing (l .sent) (remaining l) .total)
+  unfolding event settled accepted answering firstNo lentTable stepQuestions recordQuestions kindQuestions sizeOf decode commandQuestions scratchRoom
+  ending-gives w k =
+      rw (tested t (g .formed), named-of t r (omega (arith, g .size)), runs-in-table, none-own, le-leb scratchSize (length w) k)
+      (refl, ap (λ (b : Panel). b .total) (panel-remaining p r h moment-ending))

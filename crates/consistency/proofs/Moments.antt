@@ -1,24 +1,26 @@
--- The entries of a list are legal steps one after another, and after every step the table, the ledger and a state of the abstract
+-- The entries of a list stand for legal steps one after another, and after every step the table, the ledger and a state of the abstract
 -- system say the same. Assumes nothing.
-use mathlib.Core.Path.{_≡_, refl, _∙_}
+use mathlib.Core.Path.{_≡_, refl, sym, ap, _∙_}
 use mathlib.Core.List.{List, [], _∷_, _++_, append-assoc, flatMap, foldl}
 use Prim.Native.Nat.{ℕ}
 use lib.ListN.{length}
 use borrow.Author.Tests.{ne-eqb}
 use Rattle.model.specs.Tables.{fresh, withController, withMessage}
-use Rattle.model.specs.Events.{withSent, next}
-use Rattle.model.specs.Records.{decode}
+use Rattle.model.specs.Events.{withSent, next, resulting}
+use Rattle.model.specs.Records.{behind, decode}
 use Rattle.model.specs.WellFormed.{wellFormed}
-use Rattle.model.specs.Questions.{firstNo, lentTable, stepQuestions}
-use Rattle.model.specs.Calls.{Outcome, accepted, refused, event, look}
+use Rattle.model.specs.Questions.{firstNo, commandQuestions, lentTable, stepQuestions}
+use Rattle.model.specs.Calls.{Outcome, answering, accepted, refused, event, look}
 use Rattle.model.specs.declared.Table.{Table}
 use Rattle.model.specs.declared.Event.{Event}
 use Rattle.model.specs.declared.Event.the-variants.{Send, Handover, Stop}
+use Rattle.model.specs.declared.Command.{Command}
+use Rattle.model.specs.declared.Command.the-variants.{Act, Read}
 use Rattle.model.proofs.Allowed.{FreshAllowed, no-no, step-asked}
-use Rattle.model.proofs.Steps.{settled-case}
+use Rattle.model.proofs.Steps.{settled-case, step-number, step-is-accepted}
 use Rattle.broadcast.specs.State.{State, fresh as freshState}
 use Rattle.broadcast.specs.Events.{Run, start as stays, then}
-use Rattle.consistency.specs.Demand3.{Call, singleEvent, panelLook, Entry, answered, looked, listed, entry, left, transcript, said, Step, carried, steps, did, Ledger, start, moved}
+use Rattle.consistency.specs.Demand3.{Call, singleEvent, panelLook, Entry, answered, looked, listed, entry, left, transcript, said, Step, carried, stepsOf, steps, did, Ledger, start, moved}
 use Rattle.consistency.proofs.Bridge.{top, system, Related}
 use Rattle.consistency.proofs.BridgeNext.{fresh-related, next-related}
 use Rattle.consistency.proofs.Ledger.{Recorded, start-recorded}
@@ -56,33 +58,47 @@ Takes t (carried s e ms) = Legal t s e ms
 
 -- ENTRIES
 
--- what the definitions of the calls answer
+-- what the definitions of the calls answer; of a file, a record that no question refuses, and the set of its answer
 unfoldable pub Gives : Table → Entry → Type 0
 Gives t (answered s w a) = a ≡ event t s (length w) .answer
 Gives t (looked c a) = a ≡ look t c
-Gives t (listed s ms) = Legal t (said (t .version) s) (decode (t .version) s) ms
+Gives t (listed s ms) = (firstNo (commandQuestions t (decode (t .version) s)) ≡ 0) × (ms ≡ accepted t s .answer .names)
 
 -- the table that an entry leaves
 unfoldable pub told : Table → Entry → Table
 told t (answered s w a) = event t s (length w) .table
 told t (looked c a) = t
-told t (listed s ms) = next t (decode (t .version) s)
+told t (listed s ms) = accepted t s .table
 
--- an event call with this outcome stands for legal steps, or none, that lead to the table that it leaves
+-- an accepted record stands for a legal step, or for none, that leads to the table that it leaves
+accepted-taken : (t : Table) (s : List ℕ) → firstNo (commandQuestions t (decode (t .version) s)) ≡ 0
+    → Course stepped Takes t (stepsOf (said (t .version) s) (decode (t .version) s) (accepted t s .answer .names)) (accepted t s .table)
+unfolding accepted commandQuestions answering resulting stepsOf stepped Takes Course
+accepted-taken t s = go (decode (t .version) s) refl
+  where
+    go : (a : Command) → decode (t .version) s ≡ a → firstNo (commandQuestions t a) ≡ 0
+        → Course stepped Takes t (stepsOf (said (t .version) s) a (answering t a (behind s) .names)) (resulting t a)
+    go (Act e) d q = (record-legal t s e d q, refl)
+    go (Read c) d q = refl
+
+-- an event call stands for legal steps, or none, that lead to the table that it leaves
 event-taken : (t : Table) (s w : List ℕ)
     → Course stepped Takes t (steps (t .version) (answered s w (event t s (length w) .answer))) (event t s (length w) .table)
-unfolding event accepted refused steps stepped Takes Course lentTable
+unfolding event refused steps Course lentTable
 event-taken t s w =
     let k = firstNo (lentTable t ∷ stepQuestions t s (length w)) in
     settled-case (λ (o : Outcome). Course stepped Takes t (steps (t .version) (answered s w (o .answer))) (o .table)) t s k
-    (λ e. (record-legal t s (step-asked t s (length w) (no-no 3 (wellFormed t) _ e .1) .1), refl))
+    (λ e.
+    let q = no-no 3 (wellFormed t) _ e .1 in
+    let z : accepted t s .answer .number ≡ 0 = ap (λ (o : Outcome). o .answer .number) (sym (step-is-accepted t s (length w) q)) ∙ step-number t s (length w) ∙ q in
+    rw z (accepted-taken t s (step-asked t s (length w) q .1)))
     (λ d. rw (ne-eqb k 0 d) refl)
 
 entry-taken : (t : Table) (e : Entry) → Gives t e → Course stepped Takes t (steps (t .version) e) (told t e)
-unfolding Gives told steps stepped Takes Course
+unfolding Gives told steps Course
 entry-taken t (answered s w a) q = rw q (event-taken t s w)
 entry-taken t (looked c a) q = refl
-entry-taken t (listed s ms) q = (q, refl)
+entry-taken t (listed s ms) q = rw (q .1) (accepted-taken t s (q .0))
 
 -- THE VERSION, which no entry changes
 
@@ -92,11 +108,19 @@ next-version t (Send c p) = refl
 next-version t (Handover r o) = refl
 next-version t (Stop c k) = refl
 
+accepted-version : (t : Table) (s : List ℕ) → accepted t s .table .version ≡ t .version
+unfolding accepted resulting
+accepted-version t s = go (decode (t .version) s)
+  where
+    go : (a : Command) → resulting t a .version ≡ t .version
+    go (Act e) = next-version t e
+    go (Read c) = refl
+
 told-version : (t : Table) (e : Entry) → told t e .version ≡ t .version
-unfolding told event accepted refused
-told-version t (answered s w a) = settled-case (λ (o : Outcome). o .table .version ≡ t .version) t s _ (λ _. next-version t _) (λ _. refl)
+unfolding told event refused
+told-version t (answered s w a) = settled-case (λ (o : Outcome). o .table .version ≡ t .version) t s _ (λ _. accepted-version t s) (λ _. refl)
 told-version t (looked c a) = refl
-told-version t (listed s ms) = next-version t _
+told-version t (listed s ms) = accepted-version t s
 
 pub entries-version : (t : Table) (es : List Entry) → foldl told t es .version ≡ t .version
 entries-version t [] = refl

@@ -1,5 +1,5 @@
 -- Sums over names: of any weight, and of any figure that is the difference of two weights, they depend on the members alone; what a
--- look shows is the panel of what was applied. Assumes nothing.
+-- panel shows is that of what was applied. Assumes nothing.
 use mathlib.Core.Path.{_≡_, refl, sym, ap, ap₂, subst, fun-ext, _∙_}
 use mathlib.Core.Bool.{Bool, true, false, cond, Bool·not-not}
 use mathlib.Core.List.{List, [], _∷_, _++_, map}
@@ -165,8 +165,8 @@ module _ {n : ℕ} {t : Table} {l : Ledger} (k : Recorded n t l) where
         ∙ ap₂ (λ x y. pos x -ℤ pos y) (same-members-same-weights (f .added) ms ks d e h) (same-members-same-weights (f .withdrawn) ms ks d e h)
         ∙ sym (figures-weights ks)
 
-    look-figures : (c : ℕ) → Among n c → pos (weigh (f .added) t (at t c)) -ℤ pos (weigh (f .withdrawn) t (at t c)) ≡ figures (f .of) (l .sent) (applied l c)
-    look-figures c h =
+    panel-figures : (c : ℕ) → Among n c → pos (weigh (f .added) t (at t c)) -ℤ pos (weigh (f .withdrawn) t (at t c)) ≡ figures (f .of) (l .sent) (applied l c)
+    panel-figures c h =
         ap₂ (λ x y. pos x -ℤ pos y) (sym (weights-weigh (f .added) c h)) (sym (weights-weigh (f .withdrawn) c h))
         ∙ sym (figures-weights (applied l c))
 
@@ -175,10 +175,10 @@ module _ {n : ℕ} {t : Table} {l : Ledger} (k : Recorded n t l) where
   unfolding showing inAnyClass inClass
   same-members-same-panel ms ks d e h = ap panel (fun-ext (λ f. same-members-same-figures f ms ks d e h))
 
-  -- what a look shows
-  pub look-amounts : (c : ℕ) → Among n c → panelOf t c ≡ showing (l .sent) (applied l c)
+  -- what a panel shows
+  pub panel-applied : (c : ℕ) → Among n c → panelOf t c ≡ showing (l .sent) (applied l c)
   unfolding panelOf shown total classTotal showing inAnyClass inClass
-  look-amounts c h = ap panel (fun-ext (λ f. look-figures f c h))
+  panel-applied c h = ap panel (fun-ext (λ f. panel-figures f c h))
 
   -- WHAT REMAINS
 
@@ -193,6 +193,6 @@ module _ {n : ℕ} {t : Table} {l : Ledger} (k : Recorded n t l) where
   pub remaining-slot : (m : Name) → has m (remaining l) ≡ true → Slot t m
   remaining-slot m e = sent-slot k m (and-left (has m (sentNames l)) _ (sym (has-less m (sentNames l) (l .cut)) ∙ e))
 
-  -- where what was applied is what remains, a look shows the panel of that
-  pub look-remaining : (c : ℕ) → Among n c → Exactly (applied l c) (remaining l) → panelOf t c ≡ showing (l .sent) (remaining l)
-  look-remaining c h f = look-amounts c h ∙ same-members-same-panel (applied l c) (remaining l) (k .once c) distinct-remaining f
+  -- where what was applied is what remains, it shows the panel of that
+  pub panel-remaining : (c : ℕ) → Among n c → Exactly (applied l c) (remaining l) → panelOf t c ≡ showing (l .sent) (remaining l)
+  panel-remaining c h f = panel-applied c h ∙ same-members-same-panel (applied l c) (remaining l) (k .once c) distinct-remaining f

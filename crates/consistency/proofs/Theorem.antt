@@ -12,7 +12,7 @@ use Rattle.model.specs.Tables.{start as begins, fresh, at, Among}
 use Rattle.model.specs.Events.{appliedBy, weigh}
 use Rattle.model.specs.WellFormed.{wellFormed}
 use Rattle.model.specs.Questions.{firstNo, stepQuestions}
-use Rattle.model.specs.Calls.{EventAnswer, Outcome, look}
+use Rattle.model.specs.Calls.{EventAnswer, Outcome, event, look}
 use Rattle.model.specs.declared.Name.{Name}
 use Rattle.model.specs.declared.Payload.{Payload}
 use Rattle.model.specs.declared.Table.{Table}
@@ -21,12 +21,12 @@ use Rattle.model.proofs.Tested.{tested}
 use Rattle.model.proofs.Steps.{step-number, event-number-step}
 use Rattle.invariant.proofs.Refusals.{step-number-range}
 use Rattle.broadcast.specs.State.{fresh as freshState}
-use Rattle.consistency.specs.Demand3.{Call, panelLook, Entry, answered, looked, entry, left, transcript, Said, Step, carried, did, start, moved, ledger, applied, sentNames, remaining, Head, Heads, version, controllers, opening, given, entries, moment, Contains, Runs, ReadOut, Consistent}
+use Rattle.consistency.specs.Demand3.{Call, singleEvent, panelLook, Entry, answered, looked, entry, left, transcript, Said, Step, carried, did, start, moved, ledger, applied, sentNames, remaining, Head, Heads, version, controllers, opening, given, entries, moment, Contains, Runs, ReadOut, readRecord, Consistent}
 use Rattle.consistency.proofs.Bridge.{top}
 use Rattle.consistency.proofs.Ledger.{names-sent}
 use Rattle.consistency.proofs.Sums.{weights, weights-weigh, same-members-same-weights, distinct-remaining}
 use Rattle.consistency.proofs.Moments.{Course, course-append, course-first, course-rest, stepped, Takes, Gives, told, entries-version, did-append, entries-taken, transcript-course, Moment, first-moment, moment-after, restarted}
-use Rattle.consistency.proofs.MomentFacts.{comparable, look-shows, moment-ending, ending-shows}
+use Rattle.consistency.proofs.MomentFacts.{comparable, in-order, look-shows, read-gives, read-rests, moment-ending, ending-shows, ending-gives}
 use Rattle.consistency.proofs.Heads.{Begun, begun}
 
 -- the fresh table that a list starts from, and the table at a moment of it
@@ -76,6 +76,10 @@ module _ (h : Head) (heads : Heads h) (calls : List Call) where
   unfolding Course
   gives-at i e after q = (rw q at (from i)) .0
 
+  event-at : (i : ℕ) (s w : List ℕ) (a : EventAnswer) (after : List Entry) → drop i es ≡ answered s w a ∷ after → a ≡ event (tableAt h calls i) s (length w) .answer
+  unfolding Gives
+  event-at i s w a = gives-at i (answered s w a)
+
   -- ITS MOMENTS
 
   reached : {u : Table} (xs : List Step) → Course stepped Takes (freshOf h) xs u → Moment n (freshState top) u (ledger xs)
@@ -116,29 +120,42 @@ module _ (h : Head) (heads : Heads h) (calls : List Call) where
       let a = course-rest stepped Takes (freshOf h) before (carried s e ms ∷ after) end p .0 in
       names-sent (m .recorded) (appliedBy t e) x (rw (a .set) at w)
 
--- one look more
-extended : (t : Table) (cs : List Call) (r : ℕ) → transcript t (cs ++ (panelLook r ∷ [])) ≡ transcript t cs ++ (looked r (look (foldl left t cs) r) ∷ [])
-unfolding transcript entry
-extended t [] r = refl
-extended t (c ∷ cs) r = ap (λ es. entry t c ∷ es) (extended (left t c) cs r)
+-- one call more
+extended : (t : Table) (cs : List Call) (x : Call) → transcript t (cs ++ (x ∷ [])) ≡ transcript t cs ++ (entry (foldl left t cs) x ∷ [])
+unfolding transcript
+extended t [] x = refl
+extended t (c ∷ cs) x = ap (λ es. entry t c ∷ es) (extended (left t c) cs x)
 
-list-extended : (h : Head) (calls : List Call) (r : ℕ) → entries h (calls ++ (panelLook r ∷ [])) ≡ entries h calls ++ (looked r (look (foldl left (given h) calls) r) ∷ [])
+list-extended : (h : Head) (calls : List Call) (x : Call) → entries h (calls ++ (x ∷ [])) ≡ entries h calls ++ (entry (foldl left (given h) calls) x ∷ [])
 unfolding entries
-list-extended h calls r = ap (λ es. opening h ++ es) (extended (given h) calls r) ∙ sym (append-assoc (opening h) (transcript (given h) calls) _)
+list-extended h calls x = ap (λ es. opening h ++ es) (extended (given h) calls x) ∙ sym (append-assoc (opening h) (transcript (given h) calls) _)
 
 -- DEMAND 3
 
 pub demand-3 : (h : Head) → Heads h → (calls : List Call) → Consistent h calls
+unfolding entry
 demand-3 h heads calls = record {
   contains = contains h heads calls;
   sent = sent h heads calls;
   once = λ i c. moment-at h heads calls i .recorded .once c;
   looks = λ i c a after q. look-shows (moment-at h heads calls i) c a (unfold Gives in (gives-at h heads calls i (looked c a) after q));
+  reads = λ i s w a after q. read-gives (moment-at h heads calls i) s w a (event-at h heads calls i s w a after q);
+  reads-own = λ i s w a after q. read-rests (moment-at h heads calls i) s w a (event-at h heads calls i s w a after q);
+  in-order = λ i. in-order (moment-at h heads calls i);
   ending = λ i r e on. moment-ending (moment-at h heads calls i) e r on;
   ending-look = λ i r e on.
       let now = take i calls in
       let s = ending-shows (moment-end h heads now) e r on in
-      record { answer = look (foldl left (given h) now) r; last = list-extended h now r; accepted = s .0; shown = s .1 };
+      record { answer = look (foldl left (given h) now) r; last = list-extended h now (panelLook r); accepted = s .0; shown = s .1 };
+  ending-read = λ i r w e on k.
+      let now = take i calls in
+      let s = ending-gives (moment-end h heads now) e r on w k in
+      record {
+        answer = event (foldl left (given h) now) (readRecord r) (length w) .answer;
+        last = list-extended h now (singleEvent (readRecord r) w);
+        accepted = s .0;
+        gives = s .1;
+      };
 }
 
 -- OF THE SAME LISTS
@@ -149,11 +166,10 @@ tables-well-formed h heads calls i = tested _ (moment-at h heads calls i .relate
 
 pub never-4 : (h : Head) → Heads h → (calls : List Call) (i : ℕ) (s w : List ℕ) (a : EventAnswer) (after : List Entry)
     → drop i (entries h calls) ≡ answered s w a ∷ after → a .number ≢ 4
-unfolding Gives
 never-4 h heads calls i s w a after q z =
     let t = tableAt h calls i in
     let e : a .number ≡ firstNo (stepQuestions t s (length w))
-    = ap (λ (x : EventAnswer). x .number) (gives-at h heads calls i (answered s w a) after q)
+    = ap (λ (x : EventAnswer). x .number) (event-at h heads calls i s w a after q)
     ∙ (ap (λ (o : Outcome). o .answer .number) (event-number-step t s (length w) (tables-well-formed h heads calls i)) ∙ step-number t s (length w)) in
     elim (step-number-range t s (length w)) [ inl k ↦ absurd (omega arith) | inr k ↦ absurd (omega arith) ]
 

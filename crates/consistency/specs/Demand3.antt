@@ -331,7 +331,7 @@ pub record ReadGives (h : Head) (calls : List Call) (r : ℕ) (scratch : List �
   pub answer : EventAnswer
   pub last : entries h (calls ++ (singleEvent (readRecord r) scratch ∷ [])) ≡ entries h calls ++ (answered (readRecord r) scratch answer ∷ [])
   pub accepted : answer .number ≡ 0
-  pub given : answer .total ≡ total
+  pub gives : answer .total ≡ total
 
 -- "Demand 3 is a single claim about the whole list, and not one for each call."
 pub record Consistent (h : Head) (calls : List Call) : Type 0 where
