@@ -46,13 +46,7 @@ fn own_pending(count: usize, messages: [Message; 64], pending: [Pending; 64], c:
 // A REPORT OR SYNC
 
 // Whether a message of this kind has to wait for one of its sender's own: a report has not.
-fn must_wait(
-    kind: u8,
-    count: usize,
-    messages: [Message; 64],
-    pending: [Pending; 64],
-    c: u8,
-) -> bool
+fn must_wait(kind: u8, count: usize, messages: [Message; 64], pending: [Pending; 64], c: u8) -> bool
     ensures { λ r. ⌜ r ≡ (not (eqb kind 1) && ownAmong count messages pending c) ⌝ }
 {
     if kind == Payload::REPORT {

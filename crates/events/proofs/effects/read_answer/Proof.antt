@@ -1,10 +1,9 @@
 -- `read_answer` is what a local read answers. Assumes nothing.
-use mathlib.Core.Path.{refl, _∙_}
+use mathlib.Core.Path.{refl}
 use borrow.Author.Needs.{needs}
 use Rattle.model.specs.Tables.{at}
 use Rattle.model.specs.Events.{shown, panelOf}
 use Rattle.model.specs.Calls.{answerOf}
-use Rattle.totals.proofs.Signed.{returned}
 use Rattle.events.specs.Effects.{noSet, readAnswer}
 use Rattle.events.proofs.effects.read_answer.Statement.{statement}
 use Rattle.events.proofs.effects.read_answer.Tie as tie
@@ -26,7 +25,7 @@ total-requires c κs = search needs
 
 returns : tie.Need-returns
 unfolding readAnswer noSet answerOf panelOf shown at
-returns c = rw (c .before .no-set .ensures, returned _ (c .total .ok) ∙ c .total .ensures) refl
+returns c = rw (c .before .no-set .ensures, c .total .ensures) refl
 
 pub read-answer-spec : {M : Type 1} → statement M
 read-answer-spec = tie.close (tie.spec sub-i mul-x element-copy-out-x no-set-requires total-requires returns)

@@ -1,166 +1,262 @@
+-- `run_records` carries out the records of a file. The loop's invariant is `Running`, and its measure the bytes left.
+-- Assumes nothing.
+use mathlib.Core.Path.{_≡_, refl, sym, ap, subst, _∙_}
+use Prim.Native.Nat.{_-_, _<_}
+use native.Mathlib.Omega.{arith}
+use lib.ListN.{length}
 use borrow.Author.Needs.{needs}
+use denote.Ref.{now}
+use Rattle.model.specs.Tables.{seats}
+use Rattle.model.specs.Events.{subject}
+use Rattle.model.specs.Records.{decode}
+use Rattle.model.specs.declared.Event.{Event}
+use Rattle.model.specs.declared.Event.the-variants.{Send}
+use Rattle.model.specs.declared.Command.{Command}
+use Rattle.model.specs.declared.Command.the-variants.{Act}
+use Rattle.records.specs.Cuts.{recordOf}
+use Rattle.events.specs.declared.files.Ahead.{Ahead}
+use Rattle.events.specs.Turns.{seatsOf, aheadOf}
+use Rattle.events.specs.Effects.{Leaves}
+use Rattle.events.proofs.Accepted.{Sendable, sendable}
+use Rattle.events.proofs.Subjects.{subject-seated, sent-length, stored-as-send, stored-as-else, read-stays}
+use Rattle.events.proofs.Asking.{command-read}
+use Rattle.events.proofs.Reading.{seat-is, seats-low, allowed-at}
+use Rattle.events.proofs.Turning.{turn-leaves}
+use Rattle.events.proofs.Running.{Running, scratch-size, run-before, run-begins, run-further, run-goes-on, run-ends}
 use Rattle.events.proofs.files.run_records.Statement.{statement}
 use Rattle.events.proofs.files.run_records.Tie as tie
-use Rattle.events.proofs.files.run_records.Reads as reads
-use Rattle.events.proofs.files.run_records.Lts as lts
-use Rattle.events.proofs.files.look_ahead.Reads as look-ahead-reads
-use Rattle.events.proofs.files.turn.Reads as turn-reads
-use Rattle.model.proofs.Message.of.Reads as Message-of-reads
-use Rattle.model.proofs.MessageNumber.of.Reads as MessageNumber-of-reads
-use Rattle.model.proofs.Table.opened.Reads as opened-reads
-use Rattle.records.proofs.behind.Reads as behind-reads
-use Rattle.records.proofs.byte_at.Reads as byte-at-reads
 
 abbrev Inv-loop : tie.InvT-loop
-Inv-loop bytes listing₀ scratch₀ version n table₀ left₀ cursor₀ listing scratch table left cursor =
-    ?
+Inv-loop bytes listing₀ scratch₀ version n table₀ left₀ cursor₀ listing scratch table left cursor = Running bytes listing₀ scratch₀ listing scratch left cursor table
 
 abbrev μ-loop : tie.MeasureT-loop
-μ-loop bytes listing₀ scratch₀ version n table₀ left₀ cursor₀ listing scratch table left cursor = ?
+μ-loop bytes listing₀ scratch₀ version n table₀ left₀ cursor₀ listing scratch table left cursor = length left
 
--- src/files.rt:160:19
+-- PLACES: from behind the message to the test of the kind, what was stored, the bytes left and the turn
+abbrev kind : tie.After-of2 Inv-loop μ-loop → tie.After-e Inv-loop μ-loop
+kind c = c .before .before .before .before
+
+abbrev kept : tie.After-e Inv-loop μ-loop → tie.After-c Inv-loop μ-loop
+kept c = c .before .before
+
+-- from what was stored to what the record asks for, and from there to the verdict
+abbrev commanded : tie.After-c Inv-loop μ-loop → tie.After-command Inv-loop μ-loop
+commanded c = c .before .before
+
+abbrev went : tie.After-command Inv-loop μ-loop → tie.Else1 Inv-loop μ-loop
+went c = c .before .before
+
+abbrev done : tie.After-behind2 Inv-loop μ-loop → tie.After-turn Inv-loop μ-loop
+done c = c .before .before .before .before .before .before
+
+abbrev turned : tie.Else1 Inv-loop μ-loop → tie.After-turn Inv-loop μ-loop
+turned c = done (c .before)
+
+-- from the turn to the record, and from there to the loop
+abbrev looked : tie.After-turn-arg2 Inv-loop μ-loop → tie.After-look-ahead Inv-loop μ-loop
+looked c = c .before .before .before .before .before
+
+abbrev inside : tie.After-look-ahead Inv-loop μ-loop → tie.At-loop Inv-loop μ-loop
+inside c = c .before .before
+
+abbrev ahead : tie.After-turn Inv-loop μ-loop → tie.After-look-ahead Inv-loop μ-loop
+ahead c = looked (c .before)
+
+abbrev loop : tie.After-turn Inv-loop μ-loop → tie.At-loop Inv-loop μ-loop
+loop c = inside (ahead c)
+
+abbrev some : tie.After-turn Inv-loop μ-loop → tie.In-loop Inv-loop μ-loop
+some c = ahead c .before
+
+-- WHAT HOLDS THERE
+
+-- the record, what it asks for, and the indices of its controllers
+found-is : (c : tie.After-look-ahead Inv-loop μ-loop) → c .look-ahead .result .found ≡ recordOf (inside c .loop .table .version) (inside c .loop .left .now)
+unfolding aheadOf
+found-is c = ap (λ (a : Ahead). a .found) (c .look-ahead .ensures)
+
+command-is : (c : tie.After-look-ahead Inv-loop μ-loop) → c .look-ahead .result .found .command ≡ decode (inside c .loop .table .version) (inside c .loop .left .now)
+command-is c = command-read _ _ _ (found-is c)
+
+subject-at : (c : tie.After-look-ahead Inv-loop μ-loop) → c .look-ahead .result .subject ≡ seatsOf (decode (inside c .loop .table .version) (inside c .loop .left .now)) .0
+unfolding aheadOf
+subject-at c = ap (λ (a : Ahead). a .subject) (c .look-ahead .ensures)
+
+owner-at : (c : tie.After-look-ahead Inv-loop μ-loop) → c .look-ahead .result .owner ≡ seatsOf (decode (inside c .loop .table .version) (inside c .loop .left .now)) .1
+unfolding aheadOf
+owner-at c = ap (λ (a : Ahead). a .owner) (c .look-ahead .ensures)
+
+indices : (c : tie.After-look-ahead Inv-loop μ-loop) → (c .look-ahead .result .subject < seats) × (c .look-ahead .result .owner < seats)
+indices c =
+    let h = seats-low (decode (inside c .loop .table .version) (inside c .loop .left .now)) in
+    (omega (arith, subject-at c, h .0), omega (arith, owner-at c, h .1))
+
+-- of an event: what it is, what the turn leaves of its subject, and the subject's index
+event-is : (c : tie.After-command Inv-loop μ-loop)
+    → let k = inside (ahead (turned (went c))) in decode (k .loop .table .version) (k .loop .left .now) ≡ Act (c .command .given .0 .0)
+event-is c = sym (command-is (ahead (turned (went c)))) ∙ c .command .given .1
+
+leaves : (c : tie.After-command Inv-loop μ-loop) → let d = turned (went c) in Leaves (loop d .loop .table) (c .command .given .0 .0) (d .turn .result .controller)
+leaves c = turn-leaves (turned (went c) .turn .ensures) (went c .if1 .left) _ (event-is c)
+
+seat : (c : tie.After-command Inv-loop μ-loop) → ahead (turned (went c)) .look-ahead .result .subject ≡ subject (c .command .given .0 .0) - 1
+unfolding seatsOf
+seat c =
+    seat-is _ _ (subject-at (ahead (turned (went c))) ∙ ap (λ (a : Command). seatsOf a .0) (event-is c)) (subject-seated _ _ (leaves c .0))
+
+sends : (c : tie.After-e Inv-loop μ-loop)
+    → let d = turned (went (commanded (kept c))) in
+    Leaves (loop d .loop .table) (Send (c .e .given .0 .0) (c .e .given .0 .1 .0)) (d .turn .result .controller)
+sends c =
+    let d = turned (went (commanded (kept c))) in
+    subst (λ (x : Event). Leaves (loop d .loop .table) x (d .turn .result .controller)) (c .e .given .1) (leaves (commanded (kept c)))
+
+room : (c : tie.After-of2 Inv-loop μ-loop) → Sendable (loop (turned (went (commanded (kept (kind c))))) .loop .table) (kind c .e .given .0 .0)
+room c = sendable _ _ _ (sends (kind c) .0)
+
+-- fewer bytes are left
+fewer : (c : tie.After-behind2 Inv-loop μ-loop) → length (now (c .behind2 .result)) < length (loop (done c) .loop .left .now)
+fewer c = let d = done c in run-further _ _ _ _ _ _ _ _ (loop d .loop .inv) (some d .loop-test .taken) _ _ _ (d .turn .ensures) _ (c .behind2 .ensures)
+
 byte-at-requires : tie.Need-byte-at-requires Inv-loop μ-loop
 byte-at-requires c κs = search needs
 
--- src/files.rt:160:19
 cast-version : tie.Need-cast-version Inv-loop μ-loop
 cast-version c = search needs
 
--- src/files.rt:161:13
 byte-at-requires-2 : tie.Need-byte-at-requires-2 Inv-loop μ-loop
 byte-at-requires-2 c κs = search needs
 
--- src/files.rt:161:13
 cast-n : tie.Need-cast-n Inv-loop μ-loop
 cast-n c = search needs
 
--- src/files.rt:162:21
 opened-requires : tie.Need-opened-requires Inv-loop μ-loop
 opened-requires c κs = search needs
 
--- src/files.rt:163:9
 behind-requires : tie.Need-behind-requires Inv-loop μ-loop
 behind-requires c κs = search needs
 
--- src/files.rt:169:5
 loop-holds : tie.Need-loop-holds Inv-loop μ-loop
-loop-holds c = search needs
+loop-holds c =
+    let n = c .before .before in
+    let v = n .before in
+    run-begins _ _ _ (v .before .before .before .before .pre) _ _ (v .byte-at .ensures) (n .byte-at2 .ensures) _ (c .before .opened .ensures) _ (c .behind .ensures)
 
--- src/files.rt:170:13
 look-ahead-requires : tie.Need-look-ahead-requires Inv-loop μ-loop
 look-ahead-requires c κs = search needs
 
--- src/files.rt:174:17
 mul-x : tie.Need-mul-x Inv-loop μ-loop
-mul-x c = search needs
+mul-x c = omega (arith, indices (c .before) .0)
 
--- src/files.rt:174:17
 element-copy-out-x : tie.Need-element-copy-out-x Inv-loop μ-loop
-element-copy-out-x c = search needs
+element-copy-out-x c = indices (c .before) .0
 
--- src/files.rt:175:17
 mul-y : tie.Need-mul-y Inv-loop μ-loop
-mul-y c = search needs
+mul-y c = omega (arith, indices (c .before .before) .1)
 
--- src/files.rt:175:17
 element-copy-out-y : tie.Need-element-copy-out-y Inv-loop μ-loop
-element-copy-out-y c = search needs
+element-copy-out-y c = indices (c .before .before) .1
 
--- src/files.rt:176:13
 turn-requires : tie.Need-turn-requires Inv-loop μ-loop
-turn-requires c κs = search needs
+unfolding seatsOf
+turn-requires c κs =
+    let k = looked c in
+    let t = inside k .loop .table in (
+      run-before _ _ _ _ _ _ _ _ (inside k .loop .inv),
+      record {
+        record-is = found-is k;
+        allowed = λ e q a. allowed-at t e a _ _ (subject-at k ∙ ap (λ (x : Command). seatsOf x .0) q) (owner-at k ∙ ap (λ (x : Command). seatsOf x .1) q);
+      },
+    )
 
--- src/files.rt:178:13
 behind-requires-2 : tie.Need-behind-requires-2 Inv-loop μ-loop
 behind-requires-2 c κs = search needs
 
--- src/files.rt:169:5
 loop-less : tie.Need-loop-less Inv-loop μ-loop
-loop-less c = search needs
+loop-less c = fewer (c .before)
 
--- src/files.rt:169:5
 loop-again : tie.Need-loop-again Inv-loop μ-loop
-loop-again c = search needs
+loop-again c =
+    let d = done (c .before) in
+    run-goes-on _ _ _ _ _ _ _ _ (loop d .loop .inv) (some d .loop-test .taken) _ _ _ (d .turn .ensures) _ (c .before .behind2 .ensures) _ (λ z. absurd (c .if1 .taken z)) (λ _. refl)
 
--- src/files.rt:185:26
 enum-known-command : tie.Need-enum-known-command Inv-loop μ-loop
 enum-known-command c = search needs
 
--- src/files.rt:186:13
 enum-told : tie.Need-enum-told Inv-loop μ-loop
 enum-told c = search needs
 
--- src/files.rt:169:5
 loop-less-2 : tie.Need-loop-less-2 Inv-loop μ-loop
-loop-less-2 c = search needs
+loop-less-2 c = fewer (c .before .before .before)
 
--- src/files.rt:169:5
 loop-again-2 : tie.Need-loop-again-2 Inv-loop μ-loop
-loop-again-2 c = search needs
+loop-again-2 c =
+    let g = c .before .before in
+    let d = turned g in
+    run-goes-on _ _ _ _ _ _ _ _ (loop d .loop .inv) (some d .loop-test .taken) _ _ _ (d .turn .ensures) _ (g .before .behind2 .ensures) _
+    (λ _. read-stays _ _ _ (sym (command-is (ahead d)) ∙ c .enum-told .given .1))
+    (λ n. absurd (n (g .if1 .left)))
 
--- src/files.rt:189:9
 mul-c : tie.Need-mul-c Inv-loop μ-loop
-mul-c c = search needs
+mul-c c = let h = indices (ahead (turned (went (commanded c)))) in omega (arith, h .0, h .1)
 
--- src/files.rt:189:9
 element-set-from-c : tie.Need-element-set-from-c Inv-loop μ-loop
-element-set-from-c c = search needs
+element-set-from-c c = let h = indices (ahead (turned (went (commanded c)))) in omega (arith, h .0, h .1)
 
--- src/files.rt:190:27
 enum-known-e : tie.Need-enum-known-e Inv-loop μ-loop
 enum-known-e c = search needs
 
--- src/files.rt:169:5
 loop-less-3 : tie.Need-loop-less-3 Inv-loop μ-loop
-loop-less-3 c = search needs
+loop-less-3 c = fewer (went (commanded (c .before)) .before)
 
--- src/files.rt:169:5
 loop-again-3 : tie.Need-loop-again-3 Inv-loop μ-loop
-loop-again-3 c = search needs
+loop-again-3 c =
+    let k = commanded (c .before) in
+    let g = went k in
+    let d = turned g in
+    run-goes-on _ _ _ _ _ _ _ _ (loop d .loop .inv) (some d .loop-test .taken) _ _ _ (d .turn .ensures) _ (g .before .behind2 .ensures) _
+    (λ _. stored-as-else _ _ _ _ _ (event-is k) (seat k) (c .match2 .keys2) (leaves k .1))
+    (λ n. absurd (n (g .if1 .left)))
 
--- src/files.rt:194:40
 cast-of : tie.Need-cast-of Inv-loop μ-loop
-cast-of c = search needs
+cast-of c = omega (arith, sent-length _ _ _ _ (sends (c .before .before)))
 
--- src/files.rt:194:13
 of-requires : tie.Need-of-requires Inv-loop μ-loop
 of-requires c κs = search needs
 
--- src/files.rt:195:32
 of-requires-2 : tie.Need-of-requires-2 Inv-loop μ-loop
 of-requires-2 c κs = search needs
 
--- src/files.rt:195:9
 mul-t27 : tie.Need-mul-t27 Inv-loop μ-loop
-mul-t27 c = search needs
+mul-t27 c = omega (arith, room c .slot)
 
--- src/files.rt:195:9
 element-set-from-table : tie.Need-element-set-from-table Inv-loop μ-loop
-element-set-from-table c = search needs
+element-set-from-table c = room c .slot
 
--- src/files.rt:196:23
 add-table : tie.Need-add-table Inv-loop μ-loop
-add-table c = search needs
+add-table c = omega (arith, room c .slot)
 
--- src/files.rt:169:5
 loop-less-4 : tie.Need-loop-less-4 Inv-loop μ-loop
-loop-less-4 c = search needs
+loop-less-4 c = fewer (went (commanded (kept (kind c))) .before)
 
--- src/files.rt:169:5
 loop-again-4 : tie.Need-loop-again-4 Inv-loop μ-loop
-loop-again-4 c = search needs
+loop-again-4 c =
+    let e = kind c in
+    let k = commanded (kept e) in
+    let g = went k in
+    let d = turned g in
+    run-goes-on _ _ _ _ _ _ _ _ (loop d .loop .inv) (some d .loop-test .taken) _ _ _ (d .turn .ensures) _ (g .before .behind2 .ensures) _
+    (λ _. stored-as-send _ _ _ _ _ _ _ _ (event-is k) (seat k) (e .e .given .1) (sends e .1) (rw (c .before .of .ensures) at (c .of2 .ensures)))
+    (λ n. absurd (n (g .if1 .left)))
 
--- src/files.rt:156:1
 same-length : tie.Need-same-length Inv-loop μ-loop
-same-length c = search needs
+same-length c = omega (arith, c .before .loop .inv .space)
 
--- src/files.rt:156:1
 same-length-2 : tie.Need-same-length-2 Inv-loop μ-loop
-same-length-2 c = search needs
+same-length-2 c = let e = scratch-size _ _ _ _ _ _ _ _ (c .before .loop .inv) in omega arith
 
--- src/files.rt:156:1
 returns : tie.Need-returns Inv-loop μ-loop
-returns c = search needs
+returns c = run-ends _ _ _ _ _ _ _ _ (c .before .loop .inv) (c .loop-test .left)
 
 pub run-records-spec : {M : Type 1} → statement M
 run-records-spec =

@@ -98,7 +98,7 @@ clear-requires : tie.Need-clear-requires
 clear-requires c κs = search needs
 
 add-t24 : tie.Need-add-t24
-add-t24 c = omega (arith, begin (c .before .before) .pre .0 .few)
+add-t24 c = omega (arith, begin (c .before .before .before .before .before .before .before) .pre .0 .few)
 
 same-length : tie.Need-same-length
 same-length c = search needs
