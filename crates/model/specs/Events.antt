@@ -1,4 +1,5 @@
--- The events (RULES.md, sections 6 to 10) and what each does to the table: lines 1 to 20 of Algorithm 1, and the counter of Algorithm 4.
+-- The events (RULES.md, sections 6 to 10) and what each does to the table: lines 1 to 20 of Algorithm 1, the counter of Algorithm 4, and
+-- the local read of Algorithm 5.
 use Prim.Native.Nat.{ℕ, zero, suc, _+_, max}
 use mathlib.Core.Bool.{Bool, _&&_, _||_, cond}
 use mathlib.Core.List.{List, [], _∷_}
@@ -110,7 +111,7 @@ unfoldable pub resulting : Table → Command → Table
 resulting t (Act e) = next t e
 resulting t (Read c) = t
 
--- WHAT A PANEL SHOWS (a local read): the counter of Algorithm 4, widened to signed amounts, of all messages and of each class
+-- WHAT A PANEL SHOWS (the local counter): that of Algorithm 4, widened to signed amounts, of all messages and of each class
 
 -- the sum of a weight over what x has applied
 unfoldable pub weigh : (Payload → ℕ) → Table → Controller → ℕ

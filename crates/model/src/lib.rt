@@ -70,7 +70,7 @@ pub struct Table {
     pub controllers: [Controller; 7],
 }
 
-// What a panel shows (a local read): the total of what its controller has applied, and that of each class, from 0 for none.
+// What a panel shows (the local counter): the total of what its controller has applied, and that of each class, from 0 for none.
 #[repr(C)]
 pub struct Panel {
     pub total: i32,
@@ -78,7 +78,8 @@ pub struct Panel {
 }
 
 // What the single-event call answers: the refusal number, 0 if accepted; whether a sync of the receiver's own is in the
-// set applied, and then its answer, the total after the set; how many messages are in the set, and their names, zeros behind them.
+// set applied, and then its answer, the total after the set; or the total that a local read gives; how many messages are in
+// the set, and their names, zeros behind them.
 #[repr(C)]
 pub struct Answer {
     pub number: u8,
