@@ -1,6 +1,6 @@
 -- The entries of a list stand for legal steps one after another, and after every step the table, the ledger and a state of the abstract
 -- system say the same. Assumes nothing.
-use mathlib.Core.Path.{_≡_, refl, sym, ap, _∙_}
+use mathlib.Core.Path.{_≡_, refl, _∙_}
 use mathlib.Core.List.{List, [], _∷_, _++_, append-assoc, flatMap, foldl}
 use Prim.Native.Nat.{ℕ}
 use lib.ListN.{length}
@@ -17,7 +17,7 @@ use Rattle.model.specs.declared.Event.the-variants.{Send, Handover, Stop}
 use Rattle.model.specs.declared.Command.{Command}
 use Rattle.model.specs.declared.Command.the-variants.{Act, Read}
 use Rattle.model.proofs.Allowed.{FreshAllowed, no-no, step-asked}
-use Rattle.model.proofs.Steps.{settled-case, step-number, step-is-accepted}
+use Rattle.model.proofs.Steps.{answering-number, settled-case}
 use Rattle.broadcast.specs.State.{State, fresh as freshState}
 use Rattle.broadcast.specs.Events.{Run, start as stays, then}
 use Rattle.consistency.specs.Demand3.{Call, singleEvent, panelLook, Entry, answered, looked, listed, entry, left, transcript, said, Step, carried, stepsOf, steps, did, Ledger, start, moved}
@@ -84,14 +84,11 @@ accepted-taken t s = go (decode (t .version) s) refl
 -- an event call stands for legal steps, or none, that lead to the table that it leaves
 event-taken : (t : Table) (s w : List ℕ)
     → Course stepped Takes t (steps (t .version) (answered s w (event t s (length w) .answer))) (event t s (length w) .table)
-unfolding event refused steps Course lentTable
+unfolding event accepted refused steps Course lentTable
 event-taken t s w =
     let k = firstNo (lentTable t ∷ stepQuestions t s (length w)) in
     settled-case (λ (o : Outcome). Course stepped Takes t (steps (t .version) (answered s w (o .answer))) (o .table)) t s k
-    (λ e.
-    let q = no-no 3 (wellFormed t) _ e .1 in
-    let z : accepted t s .answer .number ≡ 0 = ap (λ (o : Outcome). o .answer .number) (sym (step-is-accepted t s (length w) q)) ∙ step-number t s (length w) ∙ q in
-    rw z (accepted-taken t s (step-asked t s (length w) q .1)))
+    (λ e. rw (answering-number t (decode (t .version) s) (behind s)) (accepted-taken t s (step-asked t s (length w) (no-no 3 (wellFormed t) _ e .1) .1)))
     (λ d. rw (ne-eqb k 0 d) refl)
 
 entry-taken : (t : Table) (e : Entry) → Gives t e → Course stepped Takes t (steps (t .version) e) (told t e)

@@ -23,7 +23,6 @@ use Rattle.model.specs.Runs.{Progress, lineOf, lineAt, verdict, records, begun,
 use Rattle.model.specs.declared.Table.{Table}
 use Rattle.model.specs.declared.Command.{Command}
 use Rattle.model.specs.declared.Command.the-variants.{Act, Read}
-use Rattle.model.specs.declared.RunAnswer.{RunAnswer}
 use Rattle.model.proofs.Tested.{tested}
 use Rattle.model.proofs.Allowed.{file-allowed}
 use Rattle.model.proofs.Steps.{step-case, accepted-table, accepted-room}

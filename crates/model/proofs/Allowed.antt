@@ -10,7 +10,7 @@ use borrow.Author.Tests.{ltb-true, ltb-false, leb-true, eqb-true, eqb-false, eq-
 use Rattle.lists.specs.Below.{count}
 use Rattle.lists.proofs.Tests.{cond-case, and-left, and-right, both}
 use Rattle.lists.proofs.Below.{count-pos}
-use Rattle.model.specs.Tables.{seats, capacity, lastClass, sync, yes?, at, message, place, held}
+use Rattle.model.specs.Tables.{seats, capacity, sync, yes?, at, message, place, held}
 use Rattle.model.specs.Events.{subject, controllerOf}
 use Rattle.model.specs.Records.{byte, kind, word, reportClass, reported, decode}
 use Rattle.model.specs.WellFormed.{named, fairAmount, fairClass, known}

@@ -1,12 +1,11 @@
 -- Questions 11, 14 and 18, of the arrays that they read.
 use Prim.Native.Nat.{ℕ}
-use mathlib.Core.Bool.{Bool, not, _&&_}
-use mathlib.Core.List.{List, [], _∷_}
+use mathlib.Core.Bool.{Bool, _&&_}
+use mathlib.Core.List.{List}
 use lib.ListN.{getD}
 use lib.Dec.{eqb, leb, ltb}
 use Rattle.lists.specs.Below.{count, all}
-use Rattle.model.specs.Tables.{capacity, yes?, entry, noMessage, noController}
-use Rattle.model.specs.Questions.{Question, ask}
+use Rattle.model.specs.Tables.{yes?, entry, noMessage, noController}
 use Rattle.model.specs.declared.Pending.{Pending}
 use Rattle.model.specs.declared.Message.{Message}
 use Rattle.model.specs.declared.Controller.{Controller}

@@ -14,7 +14,6 @@ use Rattle.model.specs.Questions.{firstNo, kindQuestions, recordQuestions}
 use Rattle.model.specs.declared.Event.the-variants.{Send, Handover, Stop}
 use Rattle.model.specs.declared.Command.{Command}
 use Rattle.model.specs.declared.Command.the-variants.{Act, Read}
-use Rattle.records.specs.declared.Record.{Record}
 use Rattle.records.specs.Cuts.{whole, recordOf}
 use Rattle.records.proofs.Cuts.{IsWhole}
 

@@ -1,5 +1,4 @@
 -- `must_wait` looks into the buffer for what is no report. Assumes nothing.
-use mathlib.Core.Path.{sym, _∙_}
 use borrow.Author.Tests.{eq-eqb, ne-eqb}
 use borrow.Author.Needs.{needs}
 use Rattle.questions.proofs.must_wait.Statement.{statement}
