@@ -216,9 +216,12 @@ pub fn event(t: &mut Table, bytes: &[u8], scratch: &mut [u8], answer: &mut Answe
     let (given, rest) = state.event(bytes, scratch);
     answer.number = Refusal::from(given.number);
     if given.number == 0 {
-        store(&state, t);
-        answer.finished = given.finished.is_some() as u8;
-        answer.total = given.finished.unwrap_or(0);
+        // A local read leaves every byte as it is, also where other bytes would mean the same.
+        if state != to_state(t) {
+            store(&state, t);
+        }
+        answer.finished = given.finished as u8;
+        answer.total = given.total;
         answer.size = given.set.len();
         for (to, x) in answer.names.iter_mut().zip(&given.set) {
             *to = Name { sender: x.sender as u8, number: MessageNumber(x.number as u8) };
