@@ -5,13 +5,10 @@ use crate::demand3::{self, Ledger};
 use crate::engine::Engine;
 use crate::records::local_read;
 use crate::reference::SCRATCH;
-use crate::tables::{meaning, well_formed};
+use crate::tables::{meaning, well_formed, LOCAL_READ};
 use furnacejade::{Answer, LookAnswer, MessageNumber, Name, Refusal, RunAnswer, Table};
 
 const GUARD: usize = 64;
-
-/// The kind of a record that leaves the table as it is.
-const LOCAL_READ: u8 = 5;
 
 /// Lent memory: dirty at first, with a guard on either side.
 struct Lent {

@@ -224,7 +224,8 @@ impl Ledger {
             let (event, controller, total) = (number() as usize, number() as usize, number());
             let name = |f: &str| f.split_once('.').and_then(|(s, k)| Some((s.parse().ok()?, k.parse().ok()?)));
             let set: Option<Vec<Name>> = fields.map(name).collect();
-            ledger.expect(set.is_some(), || format!("a line of no known form: {line}"));
+            let whole = set.as_ref().is_some_and(|set| !set.is_empty());
+            ledger.expect(whole, || format!("a line of no known form: {line}"));
             let new = sets.insert(event, (controller, total, set.unwrap_or_default())).is_none();
             ledger.expect(new, || format!("two lines for event {event}"));
         }

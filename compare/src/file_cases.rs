@@ -7,17 +7,22 @@ use crate::records::{file_of, local_read};
 use crate::reference::{run_file, State, LISTING, SCRATCH};
 use crate::runs::{drain, legal_run, with_none_pending, Policy};
 
-/// A legal file, and the state that it leaves.
-fn legal_file(random: &mut Random, version: usize, events: usize) -> (Vec<u8>, State) {
+/// A legal file whose run goes by such a policy, and the state that it leaves.
+pub fn legal_file(
+    random: &mut Random,
+    version: usize,
+    events: usize,
+    policy: fn(&mut Random) -> Policy,
+) -> (Vec<u8>, State) {
     let n = random.between(1, 7);
     let mut state = State::fresh(version, n);
-    let policy = Policy::random(random);
+    let policy = policy(random);
     let run = legal_run(random, &mut state, &policy, events);
     (file_of(version, n, &run), state)
 }
 
-pub fn random_file(random: &mut Random, version: usize, events: usize) -> Vec<u8> {
-    legal_file(random, version, events).0
+fn random_file(random: &mut Random, version: usize, events: usize) -> Vec<u8> {
+    legal_file(random, version, events, Policy::random).0
 }
 
 /// A listing that ends around a line's end.
@@ -52,7 +57,7 @@ pub fn file_limits(random: &mut Random) -> Case {
 /// a file may be, or end in the middle of a record. These files take long, so most turns make a short one.
 pub fn file_long(random: &mut Random) -> Case {
     if !random.one_in(12) {
-        return file_limits(random);
+        return file_mangled(random);
     }
     let (version, n) = (any_version(random), random.between(1, 3));
     let mut state = State::fresh(version, n);
@@ -75,7 +80,7 @@ pub fn file_long(random: &mut Random) -> Case {
 
 pub fn file_mangled(random: &mut Random) -> Case {
     let (version, events) = (any_version(random), random.pick(&[3, 20, 100]));
-    let (mut bytes, state) = legal_file(random, version, events);
+    let (mut bytes, state) = legal_file(random, version, events, Policy::random);
     // Half of the files end in a record at the boundaries of its questions, and may stay whole before it.
     let odd = random.one_in(2);
     if odd {

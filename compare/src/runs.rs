@@ -7,7 +7,7 @@ use crate::reference::{Message, Payload, State, MAX_MESSAGES, SCRATCH};
 /// How a run goes: one event in `send` is a send, one in `stop` a stop, one in `read` a local read, and each pair of
 /// receiver and log owner has a weight. Weights of 0 let messages pile up and let logs differ in their order. One send in
 /// `on` may be by a sender that has messages of its own pending; and while nobody has read its last report, a sender
-/// reports again with a chance of all but one in `burst`.
+/// reports again but for one time in `burst`.
 pub struct Policy {
     pub send: usize,
     pub stop: usize,
@@ -17,18 +17,30 @@ pub struct Policy {
     pub links: [[usize; 7]; 7],
 }
 
+const NEVER: usize = usize::MAX;
+
+/// Yes with a chance of one in `among`.
+fn now(random: &mut Random, among: usize) -> bool {
+    among != NEVER && random.one_in(among)
+}
+
 impl Policy {
     pub fn even(send: usize) -> Policy {
-        let never = usize::MAX;
-        Policy { send, stop: never, read: never, on: never, burst: 1, links: [[1; 7]; 7] }
+        Policy { send, stop: NEVER, read: NEVER, on: NEVER, burst: 1, links: [[1; 7]; 7] }
     }
 
     pub fn random(random: &mut Random) -> Policy {
-        let mut policy = Policy::even(random.pick(&[2, 3, 5, 10, 30]));
-        policy.stop = random.pick(&[15, 60, 300, usize::MAX]);
-        policy.read = random.pick(&[4, 20, 60, usize::MAX]);
-        policy.on = random.pick(&[2, 10, usize::MAX, usize::MAX]);
+        let mut policy = Policy::one_by_one(random);
+        policy.read = random.pick(&[4, 20, 60, NEVER]);
+        policy.on = random.pick(&[2, 10, NEVER, NEVER]);
         policy.burst = random.pick(&[1, 1, 1, 3]);
+        policy
+    }
+
+    /// No sender has two messages under way, and there are no local reads.
+    pub fn one_by_one(random: &mut Random) -> Policy {
+        let mut policy = Policy::even(random.pick(&[2, 3, 5, 10, 30]));
+        policy.stop = random.pick(&[15, 60, 300, NEVER]);
         let weights: &[usize] = random.pick(&[&[1][..], &[0, 0, 1, 1, 5], &[0, 1, 1, 1, 20, 20], &[0, 0, 0, 1]]);
         for row in &mut policy.links {
             row.iter_mut().for_each(|link| *link = random.pick(weights));
@@ -74,7 +86,7 @@ pub fn with_none_pending(state: &State) -> Vec<usize> {
 
 fn legal_send(random: &mut Random, state: &State, policy: &Policy) -> Option<Vec<u8>> {
     let with_none = with_none_pending(state);
-    let senders = if random.one_in(policy.on) { running(state) } else { with_none.clone() };
+    let senders = if now(random, policy.on) { running(state) } else { with_none.clone() };
     if senders.is_empty() || state.messages.len() >= MAX_MESSAGES {
         return None;
     }
@@ -87,8 +99,9 @@ fn legal_send(random: &mut Random, state: &State, policy: &Policy) -> Option<Vec
 fn next_of_burst(random: &mut Random, state: &State, policy: &Policy) -> Option<Vec<u8>> {
     let Message { name, payload } = *state.messages.last()?;
     let unread = state.controllers[name.sender - 1].running && highest_read(state, name.sender) < name.number;
-    let goes_on = !random.one_in(policy.burst) && unread && payload != Payload::Sync;
-    (goes_on && state.messages.len() < MAX_MESSAGES).then(|| legal_report(random, state, name.sender))
+    let may = unread && payload != Payload::Sync && state.messages.len() < MAX_MESSAGES;
+    let goes_on = may && policy.burst > 1 && !random.one_in(policy.burst);
+    goes_on.then(|| legal_report(random, state, name.sender))
 }
 
 fn legal_read(random: &mut Random, state: &State) -> Option<Vec<u8>> {
@@ -122,8 +135,9 @@ pub fn legal_event(random: &mut Random, state: &State, policy: &Policy) -> Optio
     if let Some(report) = next_of_burst(random, state, policy) {
         return Some(report);
     }
-    if let (true, Some(read)) = (random.one_in(policy.read), legal_read(random, state)) {
-        return Some(read);
+    let read = if now(random, policy.read) { legal_read(random, state) } else { None };
+    if read.is_some() {
+        return read;
     }
     let send_first = random.one_in(policy.send);
     let send = if send_first { legal_send(random, state, policy) } else { None };

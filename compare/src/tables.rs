@@ -10,6 +10,9 @@ const ABSENT: ForwardNumber = ForwardNumber(255);
 const REPORT: u8 = 1;
 const SYNC: u8 = 2;
 
+/// The kind of a record that leaves the table as it is.
+pub const LOCAL_READ: u8 = 5;
+
 // ---------- question 4 ----------
 
 /// Question 4, clause by clause. What no clause names is neither tested nor used.
@@ -217,7 +220,7 @@ pub fn event(t: &mut Table, bytes: &[u8], scratch: &mut [u8], answer: &mut Answe
     answer.number = Refusal::from(given.number);
     if given.number == 0 {
         // A local read leaves every byte as it is, also where other bytes would mean the same.
-        if state != to_state(t) {
+        if bytes[1] != LOCAL_READ {
             store(&state, t);
         }
         answer.finished = given.finished as u8;
