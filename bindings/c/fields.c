@@ -109,10 +109,12 @@ static void controllers(void) {
         }
         furnacejade_table t = good;
         furnacejade_answer answer;
-        const uint8_t sync[] = {2, 2, (uint8_t)(c + 1)};
+        const uint8_t sync[] = {2, 2, (uint8_t)(c + 1)}, local_read[] = {2, 5, (uint8_t)(c + 1)};
         expect(event(&t, sync, sizeof sync, &answer), 11, "running", c, 1);
+        expect(event(&t, local_read, sizeof local_read, &answer), 18, "running", c, 1);
         t.controllers[c].running = 0;
         expect(event(&t, sync, sizeof sync, &answer), 10, "running", c, 0);
+        expect(event(&t, local_read, sizeof local_read, &answer), 10, "running", c, 0);
     }
 }
 
@@ -205,8 +207,8 @@ static void unused(void) {
     } while (0)
 
 /* The same run in both versions. */
-static const uint8_t plain[] = {1, 3, 4, 1, 1, 0xFE, 0x98, 3, 3, 2, 1, 3, 3, 2, 2, 2, 2, 3, 3, 3, 1, 2, 4, 4, 2, 0, 1, 3, 3, 1, 3};
-static const uint8_t classed[] = {2, 3, 5, 1, 1, 0xFE, 0x98, 4, 3, 3, 2, 1, 3, 3, 2, 2, 2, 2, 3, 3, 3, 1, 2, 4, 4, 2, 0, 1, 3, 3, 1, 3};
+static const uint8_t plain[] = {1, 3, 4, 1, 1, 0xFE, 0x98, 3, 3, 2, 1, 3, 3, 2, 2, 2, 2, 3, 3, 3, 1, 2, 4, 4, 2, 0, 1, 3, 3, 1, 3, 2, 5, 1};
+static const uint8_t classed[] = {2, 3, 5, 1, 1, 0xFE, 0x98, 4, 3, 3, 2, 1, 3, 3, 2, 2, 2, 2, 3, 3, 3, 1, 2, 4, 4, 2, 0, 1, 3, 3, 1, 3, 2, 5, 1};
 
 /* The writers give that file, byte for byte. */
 static void written(uint8_t version, const uint8_t *file, size_t size) {
@@ -220,6 +222,7 @@ static void written(uint8_t version, const uint8_t *file, size_t size) {
     at += furnacejade_put_handover(out + at, sizeof out - at, 1, 2);
     at += furnacejade_put_stop(out + at, sizeof out - at, 2, 1);
     at += furnacejade_put_handover(out + at, sizeof out - at, 1, 3);
+    at += furnacejade_put_local_read(out + at, sizeof out - at, 1);
     expect((uint8_t)at, (uint8_t)size, "written", version, 0);
     expect((uint8_t)(memcmp(out, file, size) == 0), 1, "written", version, 1);
 }
@@ -234,6 +237,7 @@ static void writers(void) {
     NO_ROOM(sync(small, 2, 1));
     NO_ROOM(handover(small, 3, 1, 1));
     NO_ROOM(stop(small, 4, 1, 1));
+    NO_ROOM(local_read(small, 2, 1));
     expect((uint8_t)strcmp(furnacejade_question(FURNACEJADE_FULL), "Has the run fewer than 64 messages?"), 0, "question", 12, 0);
     expect((uint8_t)strcmp(furnacejade_question(255), "no such number"), 0, "question", 255, 0);
 }
@@ -327,6 +331,35 @@ static void answers(void) {
     expect((uint8_t)(shown.panel.classes[FURNACEJADE_CLASS_NONE] == -7), 1, "look.classes", 0, 0);
 }
 
+/* A local read of the only controller, in a table of this version: refused while its report is pending, and then answered with
+ * the total -7 and nothing else. The table stays as it is, byte for byte. */
+static void local_reads(uint8_t version) {
+    static const uint8_t handover[] = {3, 3, 1, 1}, read[] = {2, 5, 1, 0xA5};
+    static const furnacejade_name none[FURNACEJADE_MESSAGES];
+    static furnacejade_fresh_answer fresh;
+    static furnacejade_answer answer;
+    uint8_t record[6];
+    furnacejade_fresh(version, 1, &fresh);
+    size_t length = version == 2 ? furnacejade_put_classed_report(record, sizeof record, 1, -7, FURNACEJADE_CLASS_M) : furnacejade_put_report(record, sizeof record, 1, -7);
+    expect(event(&fresh.table, record, length, &answer), 0, "report before a local read", version, 0);
+    expect(event(&fresh.table, read, sizeof read, &answer), FURNACEJADE_READ_PENDING, "local read", version, 0);
+    expect(event(&fresh.table, handover, sizeof handover, &answer), 0, "handover before a local read", version, 0);
+    furnacejade_table before = fresh.table;
+    memset(&answer, 0xA5, sizeof answer);
+    memset(scratch, 0xA5, sizeof scratch);
+    size_t left = furnacejade_event(&fresh.table, read, sizeof read, scratch, sizeof scratch, &answer);
+    expect((uint8_t)left, 1, "local read's rest", version, 0);
+    expect(answer.number, 0, "local read", version, 1);
+    expect(answer.finished, 0, "local read's finished", version, 0);
+    expect((uint8_t)(answer.total == -7), 1, "local read's total", version, 0);
+    expect((uint8_t)answer.size, 0, "local read's size", version, 0);
+    expect((uint8_t)(memcmp(answer.names, none, sizeof none) == 0), 1, "local read's names", version, 0);
+    expect((uint8_t)(memcmp(&fresh.table, &before, sizeof before) == 0), 1, "local read's table", version, 0);
+    uint8_t dirt = 0;
+    for (size_t i = 0; i < sizeof scratch; i++) dirt |= scratch[i];
+    expect(dirt, 0, "local read's scratch", version, 0);
+}
+
 /* What a look shows of each class: controller 1, alone, reports 1 of XL, -20 of L, 300 of M, -4 of S and 1 of XL once more.
  * A refused look shows nothing of any. */
 static void class_totals(void) {
@@ -380,6 +413,7 @@ int main(void) {
         classes(version);
         messages();
         controllers();
+        local_reads(version);
     }
     arrays();
     unused();

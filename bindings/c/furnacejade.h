@@ -54,25 +54,26 @@ enum {
 
 /* Refusal numbers, each with its name (FURNACEJADE_ stands before it) and the question that was the first to be answered
  * no. What a caller does after each stands in README.md, "Refusal numbers". */
-#define FURNACEJADE_REFUSALS(X)                                                                   \
-    X(0, ACCEPTED, "none: accepted")                                                              \
-    X(1, FILE_LENGTH, "Has the file 2 to 65,535 bytes?")                                          \
-    X(2, VERSION, "Is the version 1 or 2?")                                                       \
-    X(3, COUNT, "Is the number of controllers from 1 to 7?")                                      \
-    X(4, TABLE, "Is the table well formed?")                                                      \
-    X(5, RECORD, "Are the length byte and all the bytes it counts there?")                        \
-    X(6, KIND, "Is there a kind, from 1 to 4?")                                                   \
-    X(7, LENGTH, "Is the length that of the kind?")                                               \
-    X(8, CONTROLLER, "Is every controller named from 1 to n?")                                    \
-    X(9, AMOUNT, "Is a report's amount from -360 to 360 and not 0?")                              \
-    X(10, STOPPED, "Is the sender, receiver or controller to be stopped still running?")          \
-    X(11, OWN_PENDING, "Has the sender no message of its own pending?")                           \
-    X(12, FULL, "Has the run fewer than 64 messages?")                                            \
-    X(13, NO_ENTRY, "Does the log have an entry that the receiver has not read?")                 \
-    X(14, KEPT, "Is the length kept at most the log's, and at least every read position in it?")  \
-    X(15, SCRATCH_LENGTH, "Has the scratch area 4,096 bytes or more?")                            \
-    X(16, LISTING_LENGTH, "Does the line fit in what is left of the listing?")                    \
-    X(17, CLASS, "Is the class of a report of version 2 from 1 to 4?")
+#define FURNACEJADE_REFUSALS(X)                                                                    \
+    X(0, ACCEPTED, "none: accepted")                                                               \
+    X(1, FILE_LENGTH, "Has the file 2 to 65,535 bytes?")                                           \
+    X(2, VERSION, "Is the version 1 or 2?")                                                        \
+    X(3, COUNT, "Is the number of controllers from 1 to 7?")                                       \
+    X(4, TABLE, "Is the table well formed?")                                                       \
+    X(5, RECORD, "Are the length byte and all the bytes it counts there?")                         \
+    X(6, KIND, "Is there a kind, from 1 to 5?")                                                    \
+    X(7, LENGTH, "Is the length that of the kind?")                                                \
+    X(8, CONTROLLER, "Is every controller named from 1 to n?")                                     \
+    X(9, AMOUNT, "Is a report's amount from -360 to 360 and not 0?")                               \
+    X(10, STOPPED, "Is the sender, receiver, or controller to be stopped or read still running?")  \
+    X(11, OWN_PENDING, "Has the sender of a sync no message of its own pending?")                  \
+    X(12, FULL, "Has the run fewer than 64 messages?")                                             \
+    X(13, NO_ENTRY, "Does the log have an entry that the receiver has not read?")                  \
+    X(14, KEPT, "Is the length kept at most the log's, and at least every read position in it?")   \
+    X(15, SCRATCH_LENGTH, "Has the scratch area 4,096 bytes or more?")                             \
+    X(16, LISTING_LENGTH, "Does the line fit in what is left of the listing?")                     \
+    X(17, CLASS, "Is the class of a report of version 2 from 1 to 4?")                             \
+    X(18, READ_PENDING, "Has the controller of a local read no message of its own pending?")
 
 enum {
 #define FURNACEJADE_NUMBER(number, name, question) FURNACEJADE_##name = number,
@@ -158,7 +159,8 @@ typedef struct {
 typedef struct {
     uint8_t number;                               /* the refusal number, 0 if accepted */
     uint8_t finished;                             /* 1 if a sync of the receiver's own is in the set applied, else 0 */
-    int32_t total;                                /* then that sync's answer, the total after the set; else 0 */
+    int32_t total;                                /* then that sync's answer, the total after the set; what an accepted local
+                                                     read gives, with finished 0; else 0 */
     size_t size;                                  /* how many messages the set has */
     furnacejade_name names[FURNACEJADE_MESSAGES]; /* their names, by sender and then number; zeros behind them */
 } furnacejade_answer;
@@ -280,7 +282,7 @@ static inline size_t furnacejade_put_head(uint8_t *out, size_t room, uint8_t ver
     return 2;
 }
 
-/* Kind 1 in version 1: a report of an amount by its sender, 5 bytes. */
+/* Kind 1 in version 1: a report of an amount by its sender, 5 bytes. Any number of a sender's reports may be pending. */
 static inline size_t furnacejade_put_report(uint8_t *out, size_t room, uint8_t sender, int16_t amount) {
     if (room < 5) return 0;
     out[0] = 4;
@@ -303,7 +305,7 @@ static inline size_t furnacejade_put_classed_report(uint8_t *out, size_t room, u
     return 6;
 }
 
-/* Kind 2: a sync by its sender, 3 bytes. */
+/* Kind 2: a sync by its sender, 3 bytes. It is refused (11) while a message of the sender's own is pending. */
 static inline size_t furnacejade_put_sync(uint8_t *out, size_t room, uint8_t sender) {
     if (room < 3) return 0;
     out[0] = 2;
@@ -333,6 +335,16 @@ static inline size_t furnacejade_put_stop(uint8_t *out, size_t room, uint8_t con
     return 5;
 }
 
+/* Kind 5: a local read of a controller's total, 3 bytes. It sends no message and leaves the table as it is; the total stands
+ * in the answer. It is refused (18) while a message of the controller's own is pending. */
+static inline size_t furnacejade_put_local_read(uint8_t *out, size_t room, uint8_t controller) {
+    if (room < 3) return 0;
+    out[0] = 2;
+    out[1] = 5;
+    out[2] = controller;
+    return 3;
+}
+
 /* A fresh table of n controllers, 1 to 7: all run, nothing was sent. Its version, 1 or 2, says whether its reports name a
  * class, and stays. Questions 2 and 3 are put. Takes 4 KB of stack.
  *
@@ -343,14 +355,18 @@ static inline size_t furnacejade_put_stop(uint8_t *out, size_t room, uint8_t con
 void furnacejade_fresh(size_t version, size_t n, furnacejade_fresh_answer *answer);
 
 /* One event: bytes is the rest of a file from a record on, and the record with which it begins is carried out. The table's
- * version says how long a report is. Questions 4 to 15 are put, and to a report of version 2 question 17, behind 9. Returns
- * how many bytes are left: the unread rest is the last so many of bytes. An accepted event leaves the table as the rules
- * say and the first 4,096 scratch bytes zero. A refused one leaves table and scratch as they were, and the record in the
- * rest: a loop that goes on must step over it, by 1 + its length byte. Takes 20 KB of stack.
+ * version says how long a report is. Questions 4 to 15 are put: 9 and 12 to reports, 11 and 12 to syncs, 13 to handovers, 14
+ * to stops, the others to all; and to a report of version 2 question 17, behind 9, to a local read 18, behind 10. Returns how
+ * many bytes are left: the unread rest is the last so many of bytes. An accepted event leaves the table as the rules say and
+ * the first 4,096 scratch bytes zero. A refused one leaves table and scratch as they were, and the record in the rest: a loop
+ * that goes on must step over it, by 1 + its length byte. Takes 20 KB of stack.
  *
  *     uint8_t record[6];
  *     size_t length = furnacejade_put_classed_report(record, sizeof record, 1, 30, FURNACEJADE_CLASS_XL);
  *     size_t left = furnacejade_event(table, record, length, scratch, sizeof scratch, &answer);
+ *     length = furnacejade_put_local_read(record, sizeof record, 2);
+ *     furnacejade_event(table, record, length, scratch, sizeof scratch, &answer);
+ *     if (answer.number == FURNACEJADE_ACCEPTED) printf("2 reads %d\n", (int)answer.total);
  */
 size_t furnacejade_event(furnacejade_table *t, const uint8_t *bytes, size_t bytes_length, uint8_t *scratch, size_t scratch_length, furnacejade_answer *answer);
 
@@ -364,10 +380,11 @@ size_t furnacejade_event(furnacejade_table *t, const uint8_t *bytes, size_t byte
  */
 void furnacejade_look(const furnacejade_table *t, size_t c, furnacejade_look_answer *answer);
 
-/* A whole run file, from a fresh table of its own, which has the file's version, up to the first refusal. Its lines are
- * written into the listing from the start on; the bytes behind them stay. Also where a record is refused, the listing keeps
- * the lines before it, the answer has the table that they left, and the first 4,096 scratch bytes are zero if any event was
- * accepted. A file refused by questions 1 to 3 changes neither listing nor scratch. Takes 14 KB of stack.
+/* A whole run file, from a fresh table of its own, which has the file's version, up to the first refusal. Its lines, one for
+ * each set applied, are written into the listing from the start on; the bytes behind them stay. A local read counts as an
+ * event and has no line. Also where a record is refused, the listing keeps the lines before it, the answer has the table that
+ * they left, and the first 4,096 scratch bytes are zero if any event was accepted. A file refused by questions 1 to 3 changes
+ * neither listing nor scratch. Takes 14 KB of stack.
  *
  *     static uint8_t listing[FURNACEJADE_LISTING];
  *     furnacejade_run(file, size, listing, sizeof listing, scratch, sizeof scratch, &run);

@@ -1,5 +1,6 @@
-/* Five lanes of one machine: trays, a sync, a lane that stops, and what is left when no majority runs. Records are written
- * with the header's writers, everything that waits is handed over, and refusals are printed in words. */
+/* Five lanes of one machine: trays, two of one lane under way at once, local reads, a sync, a lane that stops, and what is left
+ * when no majority runs. Records are written with the header's writers, everything that waits is handed over, and refusals are
+ * printed in words. */
 #include <stdio.h>
 #include <stdlib.h>
 
@@ -52,6 +53,13 @@ static void sync(uint8_t lane) {
     print_sent();
 }
 
+static void local_read(uint8_t lane) {
+    uint8_t record[LONGEST];
+    printf("lane %d reads its own total: ", lane);
+    if (play(record, furnacejade_put_local_read(record, sizeof record, lane)) == FURNACEJADE_ACCEPTED) printf("%d\n", (int)answer.total);
+    else print_refusal();
+}
+
 static void stop(uint8_t lane, size_t kept) {
     uint8_t record[LONGEST];
     printf("lane %d stops, %zu of %zu entries kept: ", lane, kept, table->controllers[lane - 1].length);
@@ -99,13 +107,17 @@ int main(void) {
     furnacejade_fresh(1, LANES, &start);
     if (start.number != FURNACEJADE_ACCEPTED) return EXIT_FAILURE;
     report(1, 30);
-    report(1, 12); /* 11: hand over and try again */
+    report(1, 12); /* the next tray does not wait for the first */
+    local_read(1); /* 18: hand over and try again */
+    sync(1);       /* 11: likewise */
     hand_over_all();
+    local_read(1);
     report(1, 12);
-    report(5, 24); /* 5.2: lane 5 has forwarded 1.1 before it */
-    stop(5, 0);    /* 14: lanes have read its first entry */
-    stop(5, 1);    /* 5.2, which nobody has read, vanishes */
+    report(5, 24); /* 5.3: lane 5 has forwarded 1.1 and 1.2 before it */
+    stop(5, 1);    /* 14: lanes have read its second entry */
+    stop(5, 2);    /* 5.3, which nobody has read, vanishes */
     sync(5);       /* 10: a stop is final */
+    local_read(5); /* 10: its panel can still be looked at */
     report(2, 400);
     hand_over_all();
     sync(3);

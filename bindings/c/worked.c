@@ -1,10 +1,12 @@
-/* Plays a run file, read from standard input, event by event, and looks at every panel after each; of a file of version 2 it
- * prints in the end what each panel shows of each class. bindings/worked.run and bindings/classes.run are the runs of
- * docs/RULES.md, sections 19 and 25. */
+/* Plays a run file, read from standard input, event by event: the set applied, or what a local read gives, and then a look at
+ * every panel; of a file of version 2 it prints in the end what each panel shows of each class. bindings/worked.run,
+ * bindings/classes.run and bindings/underway.run are the runs of docs/RULES.md, sections 19, 25 and 26. */
 #include <stdio.h>
 #include <stdlib.h>
 
 #include "furnacejade.h"
+
+enum { LOCAL_READ = 5 /* its kind */ };
 
 static furnacejade_panel shown(const furnacejade_table *table, size_t controller) {
     static furnacejade_look_answer look;
@@ -33,11 +35,13 @@ int main(void) {
     size_t at = 2;
     for (unsigned number = 1; at < length; number++) {
         static furnacejade_answer answer;
-        size_t left = furnacejade_event(table, run + at, length - at, scratch, sizeof scratch, &answer);
+        const uint8_t *record = run + at;
+        size_t left = furnacejade_event(table, record, length - at, scratch, sizeof scratch, &answer);
         if (answer.number != FURNACEJADE_ACCEPTED) return EXIT_FAILURE;
         at = length - left;
         printf("%u:", number);
         for (size_t i = 0; i < answer.size; i++) printf(" %d.%d", answer.names[i].sender, answer.names[i].number.value);
+        if (record[1] == LOCAL_READ) printf(" %d reads %d", record[2], (int)answer.total);
         printf(" |");
         for (size_t c = 1; c <= table->n; c++) printf(" %d", (int)shown(table, c).total);
         printf("\n");

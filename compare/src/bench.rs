@@ -1,13 +1,13 @@
 //! Times of the calls: library and reference on the same inputs, the table of each call restored outside the clock.
 //! And how much stack each call of the library needs.
 
-use crate::edges::dense_run;
+use crate::edges::{by_log, dense_run, in_a_circle, under_way_run};
 use crate::engine::{Engine, Library, Reference};
-use crate::file_cases::random_file;
+use crate::file_cases::legal_file;
 use crate::random::Random;
-use crate::records::{classed_report, file_of, handover, report, stop, sync};
-use crate::reference::{run_file, State, LISTING, SCRATCH};
-use crate::runs::{legal_run, Policy};
+use crate::records::{classed_report, file_of, handover, local_read, report, stop, sync};
+use crate::reference::{run_file, State, LISTING, MAX_MESSAGES, SCRATCH};
+use crate::runs::{drain, follow, legal_run, Policy};
 use crate::stack::needed;
 use crate::table_cases::chain_place;
 use crate::tables::{to_state, to_table};
@@ -118,11 +118,20 @@ fn rows_of(n: usize) {
     let fresh = to_table(&State::fresh(1, n));
     let (after_run, file) = run_table(n);
     let length = to_state(&after_run).controllers[0].log.len();
+    let mut waiting = State::fresh(1, n);
+    follow(&mut waiting, &report(1, 5), SCRATCH);
+    let waiting = to_table(&waiting);
     row(&format!("n = {n}: fresh table"), |e| mean(|| timed(|| e.fresh(1, n))));
     row(&format!("n = {n}: report, nothing pending"), |e| event(e, &fresh, &report(1, 5)));
     row(&format!("n = {n}: stop after 200 events"), |e| event(e, &after_run, &stop(1, length)));
     row(&format!("n = {n}: refused by question 8"), |e| event(e, &after_run, &stop(0, 0)));
     row(&format!("n = {n}: look after 200 events"), |e| mean(|| timed(|| e.look(&after_run, 1))));
+    let mut read_out = to_state(&after_run);
+    drain(&mut Random(4), &mut read_out);
+    let read_out = to_table(&read_out);
+    row(&format!("n = {n}: local read, nothing sent"), |e| event(e, &fresh, &local_read(1)));
+    row(&format!("n = {n}: local read after 200 events, all read"), |e| event(e, &read_out, &local_read(1)));
+    row(&format!("n = {n}: local read refused by question 18"), |e| event(e, &waiting, &local_read(1)));
     for chain in [false, true] {
         for held in [2, 16, 32, 63] {
             let t = pending_table(n, held, chain);
@@ -141,15 +150,55 @@ fn dense_files(version: usize) -> (Vec<u8>, Vec<u8>) {
     (dense.clone(), dense[..dense.len() - stops].to_vec())
 }
 
-fn random_files(version: usize) -> Vec<Vec<u8>> {
+fn random_files(version: usize, policy: fn(&mut Random) -> Policy) -> Vec<Vec<u8>> {
     let mut random = Random(100);
-    (0..100).map(|_| random_file(&mut random, version, 300)).collect()
+    (0..100).map(|_| legal_file(&mut random, version, 300, policy).0).collect()
+}
+
+/// The last handover of a file to a receiver that has 64 messages pending, after which so many of them are applied, and the
+/// table before it.
+fn of_sixty_four(file: &[u8], applied: usize) -> (Table, Vec<u8>) {
+    let (mut state, mut rest, mut last) = (State::fresh(file[0] as usize, file[1] as usize), &file[2..], None);
+    while !rest.is_empty() {
+        let before = state.clone();
+        let (answer, left) = state.event(rest, &mut [0; SCRATCH]);
+        let record = &rest[..rest.len() - left.len()];
+        let pending = before.controllers[record[2] as usize - 1].pending.len();
+        if record[1] == 3 && (pending, answer.set.len()) == (MAX_MESSAGES, applied) {
+            last = Some((to_table(&before), record.to_vec()));
+        }
+        rest = left;
+    }
+    last.expect("such a handover")
+}
+
+/// The worst cases of reports under way.
+fn rows_under_way() {
+    let (of_one, of_seven) = (under_way_run(1, 7, 1, by_log), under_way_run(1, 7, 7, in_a_circle));
+    for (file, senders, applied, what) in [
+        (&of_one, "one sender", 0, "none applied"),
+        (&of_one, "one sender", 1, "one applied"),
+        (&of_seven, "seven", 0, "none applied"),
+        (&of_seven, "seven", MAX_MESSAGES, "all applied"),
+    ] {
+        let (table, record) = of_sixty_four(file, applied);
+        row(&format!("n = 7: handover, 64 of {senders} pending, {what}"), |e| event(e, &table, &record));
+    }
+    row("n = 7: 64 of one sender under way, 3,200 events, each", |e| runs(e, std::slice::from_ref(&of_one)));
+    row("n = 7: 64 of seven under way, 3,200 events, each", |e| runs(e, std::slice::from_ref(&of_seven)));
+    let files = random_files(1, Policy::random);
+    row("a hundred random files with reports under way, each", |e| runs(e, &files));
+}
+
+/// As many local reads as a file can have.
+fn file_of_reads(n: usize) -> Vec<u8> {
+    file_of(1, n, &vec![local_read(1); 21_844])
 }
 
 fn rows_with_classes() {
     let fresh = to_table(&State::fresh(2, 7));
     let (dense, running) = dense_files(2);
-    let (full, files) = (last_table(&running), random_files(2));
+    let (full, files) = (last_table(&running), random_files(2, Policy::one_by_one));
     row("version 2, n = 7: report, nothing pending", |e| event(e, &fresh, &classed_report(1, 5, 4)));
     row("version 2, n = 7: report refused by question 17", |e| event(e, &fresh, &classed_report(1, 5, 5)));
     row("version 2, n = 7: look at a full table", |e| mean(|| timed(|| e.look(&full, 1))));
@@ -168,13 +217,16 @@ and a file run gets scratch and listing as the run before left them"
     let (dense, running) = dense_files(1);
     let full = last_table(&running);
     row("n = 7: look at a full table of 64 messages", |e| mean(|| timed(|| e.look(&full, 1))));
+    row("n = 7: local read of a full table of 64 messages", |e| event(e, &full, &local_read(1)));
     row("n = 7: full table, a report refused by question 12", |e| event(e, &full, &report(1, 5)));
     row("n = 7: full table, a handover refused by question 13", |e| event(e, &full, &handover(1, 2)));
     row("n = 7: densest run of 3,207 events, for each", |e| runs(e, std::slice::from_ref(&dense)));
     row("n = 7: densest run as single events, for each", |e| single_events(e, &dense));
-    let files = random_files(1);
+    let (files, reads) = (random_files(1, Policy::one_by_one), file_of_reads(7));
     row("a hundred random files of up to 300 events, for each", |e| runs(e, &files));
+    row("n = 7: file of 21,844 local reads, for each", |e| runs(e, std::slice::from_ref(&reads)));
     rows_with_classes();
+    rows_under_way();
 }
 
 // ---------- stack ----------
@@ -212,11 +264,14 @@ fn stacks() {
         tables.extend([to_table(&State::fresh(1, n)), to_table(&State::fresh(2, n)), run_table(n).0]);
     }
     tables.extend([2, 63].into_iter().flat_map(|held| [false, true].map(|chain| pending_table(7, held, chain))));
+    let under_way = [under_way_run(1, 7, 1, by_log), under_way_run(1, 7, 7, in_a_circle)];
+    tables.extend([of_sixty_four(&under_way[0], 1).0, of_sixty_four(&under_way[1], MAX_MESSAGES).0]);
     let mut records = vec![vec![], report(1, 5), report(1, 0), classed_report(1, 5, 4), classed_report(1, 5, 5)];
-    records.extend([sync(1), handover(1, 2), handover(2, 1), stop(1, 64), stop(9, 0)]);
+    records.extend([sync(1), handover(1, 2), handover(2, 1), stop(1, 64), stop(9, 0), local_read(1), local_read(9)]);
     let events = tables.iter().flat_map(|t| records.iter().map(|record| event_stack(t, record))).max();
     let looks = tables.iter().map(look_stack).max();
-    let files = [dense, running, dense_2, running_2, run_table(3).1, vec![1], vec![3, 3], vec![1, 9]];
+    let mut files = vec![dense, running, dense_2, running_2, run_table(3).1, vec![1], vec![3, 3], vec![1, 9]];
+    files.extend(under_way.into_iter().chain([file_of_reads(7), file_of_reads(1)]));
     let runs = files.iter().map(|file| run_stack(file)).max();
     println!("\nbytes of stack that a call of the library needs, the most of what was tried");
     for (name, most) in [("event", events), ("look", looks), ("fresh", Some(fresh_stack())), ("run", runs)] {

@@ -1,8 +1,9 @@
 //! A case: a head that gives a table, and calls on it; and its text, for failures and for the folder `cases`.
 //!
 //! The text is one line for the head and one for each call; below the head `table` stands a line for each field that is
-//! not as in a fresh table of version 1, and a head `fresh` names its version if that is not 1. Bytes are hexadecimal, and `(00*512)` stands for 512 bytes 00. Lent memory is given by its
-//! length; what it holds at first is the same dirt in every case.
+//! not as in a fresh table of version 1, and a head `fresh` names its version if that is not 1. Bytes are hexadecimal;
+//! `(00*512)` stands for 512 bytes 00, and `(020501*90)` for 90 times these three. Lent memory is given by its length;
+//! what it holds at first is the same dirt in every case.
 
 use crate::fields::{plain_table, set_field, table_text};
 use furnacejade::Table;
@@ -26,13 +27,20 @@ pub struct Case {
     pub calls: Vec<Call>,
 }
 
+/// How many bytes are repeated eight times or more where these bytes begin, no more than a record has, and how often.
+fn repeated(bytes: &[u8]) -> Option<(usize, usize)> {
+    let times = |size: usize| bytes.chunks_exact(size).take_while(|part| *part == &bytes[..size]).count();
+    (1..=6).map(|size| (size, times(size))).find(|(_, times)| *times >= 8)
+}
+
 pub fn hexadecimal(bytes: &[u8]) -> String {
-    let mut text = String::new();
-    for run in bytes.chunk_by(|a, b| a == b) {
-        match run.len() {
-            1..=7 => run.iter().for_each(|b| text += &format!("{b:02x}")),
-            long => text += &format!("({:02x}*{long})", run[0]),
-        }
+    let (mut text, mut left) = (String::new(), bytes);
+    let digits = |bytes: &[u8]| -> String { bytes.iter().map(|b| format!("{b:02x}")).collect() };
+    while !left.is_empty() {
+        let (size, times) = repeated(left).unwrap_or((1, 1));
+        let part = digits(&left[..size]);
+        text += &if times > 1 { format!("({part}*{times})") } else { part };
+        left = &left[size * times..];
     }
     if text.is_empty() {
         "-".into()
@@ -45,11 +53,12 @@ fn from_hexadecimal(text: &str) -> Vec<u8> {
     let mut bytes = vec![];
     let mut left = if text == "-" { "" } else { text };
     let byte = |digits: &str| u8::from_str_radix(digits, 16).expect("two hexadecimal digits");
+    let all = |digits: &str| -> Vec<u8> { (0..digits.len()).step_by(2).map(|at| byte(&digits[at..at + 2])).collect() };
     while !left.is_empty() {
         if let Some(run) = left.strip_prefix('(') {
             let (inside, after) = run.split_once(')').expect("a closing bracket");
             let (digits, times) = inside.split_once('*').expect("a star");
-            bytes.extend(vec![byte(digits); times.parse().expect("a number")]);
+            bytes.extend(all(digits).repeat(times.parse().expect("a number")));
             left = after;
         } else {
             bytes.push(byte(&left[..2]));

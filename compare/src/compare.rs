@@ -3,7 +3,9 @@
 use crate::case::{Call, Case, Head};
 use crate::demand3::{self, Ledger};
 use crate::engine::Engine;
-use crate::tables::{meaning, well_formed};
+use crate::records::local_read;
+use crate::reference::SCRATCH;
+use crate::tables::{meaning, well_formed, LOCAL_READ};
 use furnacejade::{Answer, LookAnswer, MessageNumber, Name, Refusal, RunAnswer, Table};
 
 const GUARD: usize = 64;
@@ -102,12 +104,16 @@ fn event(a: &mut Side, b: &mut Side, bytes: &[u8], scratch: usize) -> Result<(),
     let (right, found) = (a.event(bytes, scratch), b.event(bytes, scratch));
     differ("event: number", right.answer.number, found.answer.number)?;
     differ("event: set", set(&right.answer), set(&found.answer))?;
-    differ("event: finished", right.answer.sync_answer(), found.answer.sync_answer())?;
+    differ("event: finished", right.answer.finished, found.answer.finished)?;
+    differ("event: total", right.answer.total, found.answer.total)?;
     differ_plain("event: answer", right.answer == found.answer)?;
     differ("event: bytes left", right.bytes, found.bytes)?;
     differ_plain("event: scratch", right.scratch == found.scratch)?;
     if found.answer.number != Refusal::ACCEPTED {
         return differ_plain("event: table of a refused event", before == b.table);
+    }
+    if bytes[1] == LOCAL_READ {
+        differ_plain("event: table of a local read", before.as_bytes() == b.table.as_bytes())?;
     }
     differ_plain("event: a table that is no longer well formed", well_formed(&b.table))?;
     differ_plain("event: table", same_table(&a.table, &b.table))
@@ -173,7 +179,8 @@ fn list_head(case: &Case, engine: &dyn Engine) -> Option<(Ledger, Table)> {
     }
 }
 
-/// What breaks demand 3 in the answers of one engine. Wherever the ending speaks, looks are added to the list.
+/// What breaks demand 3 in the answers of one engine. Wherever the ending speaks, looks and local reads are added to the
+/// list.
 pub fn demand3(case: &Case, engine: &dyn Engine) -> Result<(), String> {
     let Some((mut ledger, table)) = list_head(case, engine) else { return Ok(()) };
     let mut side = Side { engine, table };
@@ -184,6 +191,8 @@ pub fn demand3(case: &Case, engine: &dyn Engine) -> Result<(), String> {
     for step in 0..=case.calls.len() {
         for c in ledger.ended() {
             look(&mut ledger, &side.table, c);
+            let answer = side.event(&local_read(c), SCRATCH).answer;
+            ledger.ending_read(c, answer.number.number(), answer.total.into());
         }
         if let Some(text) = ledger.broken() {
             return Err(format!("demand 3: {text}"));
@@ -191,7 +200,7 @@ pub fn demand3(case: &Case, engine: &dyn Engine) -> Result<(), String> {
         match case.calls.get(step) {
             Some(Call::Event { bytes, scratch }) => {
                 let answer = side.event(bytes, *scratch).answer;
-                ledger.event(bytes, answer.number.number(), &set(&answer));
+                ledger.event(bytes, answer.number.number(), &set(&answer), Some(answer.total.into()));
             }
             Some(Call::Look(c)) => look(&mut ledger, &side.table, *c),
             None => {}

@@ -56,14 +56,14 @@ impl Ledger {
         }
     }
 
-    /// An event call with its bytes and its answer.
-    pub fn event(&mut self, bytes: &[u8], number: u8, set: &[Name]) {
+    /// An event call with its bytes and its answer. The records of a file have no total to read.
+    pub fn event(&mut self, bytes: &[u8], number: u8, set: &[Name], total: Option<i64>) {
         if number != 0 {
             self.expect(set.is_empty(), || "a refused event answers a set".into());
             return;
         }
         let report = if self.version == 2 { 5 } else { 4 };
-        let length = bytes.get(1).and_then(|kind| [0, report, 2, 3, 4].get(*kind as usize).copied());
+        let length = bytes.get(1).and_then(|kind| [0, report, 2, 3, 4, 2].get(*kind as usize).copied());
         if length != bytes.first().copied() || bytes.len() <= bytes[0] as usize || bytes[0] == 0 {
             return self.expect(false, || "accepted bytes hold no record".into());
         }
@@ -80,6 +80,7 @@ impl Ledger {
             2 => self.send(c, Content { amount: 0, class: 0 }),
             3 => self.handover(c, bytes[3] as usize, set),
             4 => self.stop(c, u16::from_be_bytes([bytes[3], bytes[4]]) as usize),
+            5 => self.local_read(c, total),
             _ => return self.expect(false, || "accepted bytes have no kind".into()),
         }
         self.expect(bytes[1] == 3 || set.is_empty(), || "a set without a handover".into());
@@ -91,6 +92,7 @@ impl Ledger {
         self.logs[c - 1].push(name);
         let new = self.sent.insert(name, content).is_none();
         self.expect(new, || format!("{name:?} is sent twice"));
+        (1..=self.n).for_each(|r| self.in_order(r));
     }
 
     fn handover(&mut self, r: usize, o: usize, set: &[Name]) {
@@ -110,6 +112,30 @@ impl Ledger {
         }
         if !set.is_empty() {
             self.contained(r);
+            self.in_order(r);
+        }
+    }
+
+    /// Of each sender, r has applied every message that was sent before the last one that it has applied.
+    fn in_order(&mut self, r: usize) {
+        let applied = &self.applied[r - 1];
+        let last_of = |c: usize| applied.range((c, 0)..(c + 1, 0)).next_back().copied();
+        let before = |last: Name| self.sent.range((last.0, 0)..last).map(|(name, _)| *name);
+        let missing = (1..=self.n).filter_map(last_of).flat_map(before).find(|name| !applied.contains(name));
+        if let Some(name) = missing {
+            self.expect(false, || {
+                format!("{r} has applied a later message than {name:?} of its sender, and not that one")
+            });
+        }
+    }
+
+    /// An accepted local read: it gives the sum of what its controller has applied, which is all that it has sent.
+    fn local_read(&mut self, c: usize, total: Option<i64>) {
+        let own = self.sent.range((c, 0)..(c + 1, 0)).map(|(name, _)| *name);
+        let missing: Vec<Name> = own.filter(|name| !self.applied[c - 1].contains(name)).collect();
+        self.expect(missing.is_empty(), || format!("a local read of {c}, which has sent and not applied {missing:?}"));
+        if let Some(total) = total {
+            self.total(c, total);
         }
     }
 
@@ -158,10 +184,17 @@ impl Ledger {
         self.applied[c - 1].iter().filter_map(|name| self.sent.get(name)).copied().collect()
     }
 
-    /// The total that a look at a controller shows, or a line of a listing.
+    /// The total that a look at a controller shows, a local read gives or a line of a listing has.
     fn total(&mut self, c: usize, total: i64) {
         let sum: i64 = self.applied_at(c).iter().map(|x| x.amount).sum();
         self.expect(total == sum, || format!("{c} shows {total}, not {sum}"));
+    }
+
+    /// A local read of a controller at which the ending speaks, lent enough scratch. What it gives is the ending's sum, since
+    /// it is the sum over what was applied.
+    pub fn ending_read(&mut self, c: usize, number: u8, total: i64) {
+        self.expect(number == 0, || format!("the ending: a local read of {c} is refused"));
+        self.local_read(c, Some(total));
     }
 
     /// A panel look with its answer. Where the ending speaks, the sums over what was applied are the ending's sums.
@@ -191,14 +224,15 @@ impl Ledger {
             let (event, controller, total) = (number() as usize, number() as usize, number());
             let name = |f: &str| f.split_once('.').and_then(|(s, k)| Some((s.parse().ok()?, k.parse().ok()?)));
             let set: Option<Vec<Name>> = fields.map(name).collect();
-            ledger.expect(set.is_some(), || format!("a line of no known form: {line}"));
+            let whole = set.as_ref().is_some_and(|set| !set.is_empty());
+            ledger.expect(whole, || format!("a line of no known form: {line}"));
             let new = sets.insert(event, (controller, total, set.unwrap_or_default())).is_none();
             ledger.expect(new, || format!("two lines for event {event}"));
         }
         let mut rest = &file[2..];
         for event in 1..=events {
             let (controller, total, set) = sets.remove(&event).unwrap_or((0, 0, vec![]));
-            ledger.event(rest, 0, &set);
+            ledger.event(rest, 0, &set, None);
             if ledger.broken.is_some() {
                 return ledger;
             }

@@ -1,8 +1,10 @@
-//! The two runs that docs/RULES.md prints whole and its list of edges, with the answers it gives, put to any engine.
+//! The runs that docs/RULES.md prints whole and its list of edges, with the answers it gives, put to any engine.
 
+use crate::demand3::Ledger;
 use crate::engine::{Engine, Reference};
-use crate::records::{classed_report, file_of, handover, report, report_in, stop, sync};
-use crate::reference::{LISTING, SCRATCH};
+use crate::records::{classed_report, file_of, handover, local_read, report, report_in, stop, sync};
+use crate::reference::{State, LISTING, MAX_MESSAGES, SCRATCH};
+use crate::runs::follow;
 use crate::tables::meaning;
 use furnacejade::{Answer, Class, Controller, ForwardNumber, Panel, Payload, Table};
 
@@ -15,8 +17,13 @@ const WITH_CLASSES: &str = "0202050101001E01050102000C03\
     0303010203030201030301020303010103030101030302010303020203030202\
     050102FFFE0403030102030302010303010103030202";
 
+/// `bindings/underway.run`.
+const UNDER_WAY: &str =
+    "0103040101001E0401010014030302010303020202050203030201030301020303010202050103030301030303010303030203030302";
+const UNDER_WAY_LISTING: &str = "4 2 30 1.1\n7 1 30 1.1\n8 1 50 1.2\n12 3 30 1.1\n13 3 50 1.2\n";
+
 /// What the program prints for each file.
-pub const PRINTED: [(&str, &str); 8] = [
+pub const PRINTED: [(&str, &str); 12] = [
     (WHOLE_RUN, "controllers 3\n4 1 30 1.1\n7 2 30 1.1\n8 2 28 3.1\n11 3 28 1.1 3.1\nend 11 0\n"),
     ("01", "end 0 1\n"),
     ("0103", "controllers 3\nend 0 0\n"),
@@ -25,6 +32,10 @@ pub const PRINTED: [(&str, &str); 8] = [
     ("0203", "controllers 3\nend 0 0\n"),
     ("0303", "end 0 2\n"),
     ("0203050101000100", "controllers 3\nend 0 17\n"),
+    (UNDER_WAY, "controllers 3\n4 2 30 1.1\n7 1 30 1.1\n8 1 50 1.2\n12 3 30 1.1\n13 3 50 1.2\nend 13 0\n"),
+    ("0103020503020501", "controllers 3\nend 2 0\n"),
+    ("0203020503020601", "controllers 3\nend 1 6\n"),
+    ("0102020201020501", "controllers 2\nend 1 18\n"),
 ];
 
 pub fn bytes_of(hexadecimal: &str) -> Vec<u8> {
@@ -43,10 +54,15 @@ impl Script<'_> {
         Script { engine, table: engine.fresh(version, n).table }
     }
 
+    fn answer(&mut self, bytes: &[u8], scratch: usize) -> Answer {
+        let mut answer = Answer::BLANK;
+        self.engine.event(&mut self.table, bytes, &mut vec![1; scratch], &mut answer);
+        answer
+    }
+
     /// The number, and the names of the set.
     fn event(&mut self, bytes: Vec<u8>) -> (u8, Vec<(u8, u8)>) {
-        let (mut scratch, mut answer) = (vec![1; SCRATCH], Answer::BLANK);
-        self.engine.event(&mut self.table, &bytes, &mut scratch, &mut answer);
+        let answer = self.answer(&bytes, SCRATCH);
         (answer.number.number(), answer.applied().iter().map(|x| (x.sender, x.number.0)).collect())
     }
 
@@ -103,6 +119,29 @@ fn with_classes(engine: &dyn Engine) -> Result<(), String> {
         expect(own.read[..2] == [3, 3] && own.length == 3, "the run with classes reads every log to its end")?;
     }
     Ok(())
+}
+
+/// The run with two reports of one sender under way: its listing, and what its two local reads give.
+fn with_reports_under_way(engine: &dyn Engine) -> Result<(), String> {
+    let file = bytes_of(UNDER_WAY);
+    expect(file == include_bytes!("../../bindings/underway.run"), "the run under way is that of the bindings")?;
+    let mut listing = vec![7; LISTING];
+    let run = engine.run(&file, &mut listing, &mut vec![7; SCRATCH]);
+    expect((run.number.number(), run.events) == (0, 13), "the run under way: its answer")?;
+    expect(listing[..run.written] == *UNDER_WAY_LISTING.as_bytes(), "the run under way: its listing")?;
+    let (mut script, mut rest) = (Script::fresh(engine, 1, 3), &file[2..]);
+    for event in 1..=13 {
+        let answer = script.answer(rest, SCRATCH);
+        let given = match event {
+            5 => 30,
+            9 => 50,
+            _ => 0,
+        };
+        let as_said = (answer.number.number(), answer.finished, answer.total) == (0, 0, given);
+        expect(as_said, &format!("the run under way: event {event}"))?;
+        rest = &rest[1 + rest[0] as usize..];
+    }
+    expect(meaning(&script.table) == meaning(&run.table), "the run under way: its last table")
 }
 
 fn fresh_tables(engine: &dyn Engine) -> Result<(), String> {
@@ -237,7 +276,7 @@ fn sixty_four_messages(engine: &dyn Engine) -> Result<(), String> {
             let mut s = Script::fresh(engine, version, 1);
             for message in 1..=64 {
                 expect(s.number(report_in(version, 1, 360 * sign)) == 0, "a report up to the 64th")?;
-                expect(s.number(report_in(version, 1, 1)) == 11, "a second report while the first is pending")?;
+                expect(s.number(sync(1)) == 11, "a sync while a report is pending")?;
                 expect(s.event(handover(1, 1)) == (0, vec![(1, message)]), "n = 1: report and handover")?;
             }
             expect(s.number(report_in(version, 1, 1)) == 12, "the 65th message")?;
@@ -258,7 +297,7 @@ fn amounts(engine: &dyn Engine) -> Result<(), String> {
     Ok(())
 }
 
-/// Question 17: its edges, and its place behind 9 and before 10 to 12.
+/// Question 17: its edges, and its place behind 9 and before 10 and 12.
 fn classes(engine: &dyn Engine) -> Result<(), String> {
     for class in 0..=255 {
         let fair = (1..=4).contains(&class);
@@ -270,7 +309,7 @@ fn classes(engine: &dyn Engine) -> Result<(), String> {
         expect(s.number(of(2, 5)) == if fair { 10 } else { 17 }, "17 before 10")?;
         expect(s.number(of(1, 5)) == if fair { 0 } else { 17 }, "classes")?;
         expect(s.number(sync(1)) == if fair { 11 } else { 0 }, "a report that 17 refuses is not sent")?;
-        expect(s.number(of(1, 5)) == if fair { 11 } else { 17 }, "17 before 11")?;
+        expect(s.number(of(1, 5)) == if fair { 0 } else { 17 }, "17 of a second report")?;
     }
     let mut s = Script::fresh(engine, 2, 1);
     for _ in 1..=64 {
@@ -345,6 +384,128 @@ fn stored_classes(engine: &dyn Engine) -> Result<(), String> {
     Ok(())
 }
 
+/// A report may follow on any pending message of its sender, and a sync on none.
+fn reports_under_way(engine: &dyn Engine) -> Result<(), String> {
+    for version in [1, 2] {
+        for first in [report_in(version, 1, 30), sync(1)] {
+            let mut s = Script::fresh(engine, version, 3);
+            expect(s.number(first) == 0, "a first message")?;
+            expect(s.number(sync(1)) == 11, "a sync while the first is pending")?;
+            expect(s.number(report_in(version, 1, 20)) == 0, "a second report while the first is pending")?;
+            expect(s.number(sync(1)) == 11 && s.number(report_in(version, 2, 1)) == 0, "a sync, and another sender")?;
+            let own = &s.table.controllers[0];
+            let marks = [0, 1].map(|slot| own.pending[slot].marks[0].0);
+            expect((own.length, marks) == (2, [1, 2]), "both are in the sender's log, each with its own mark")?;
+        }
+    }
+    // A sync with a report behind it, applied as one: the answer has both.
+    let mut s = Script::fresh(engine, 1, 1);
+    let sent = [report(1, 30), handover(1, 1), sync(1), report(1, 20)].map(|record| s.number(record));
+    let answer = s.answer(&handover(1, 1), SCRATCH);
+    let given = (answer.size, answer.finished, answer.total);
+    expect((sent, given) == ([0; 4], (2, 1, 50)), "a sync's answer is the total after its whole set")
+}
+
+/// Questions 6, 7, 8, 10, 18 and 15 of a local read, in this order, and what an accepted one gives.
+fn local_reads(engine: &dyn Engine) -> Result<(), String> {
+    for version in [1, 2] {
+        let mut s = Script::fresh(engine, version, 2);
+        let gives = |s: &mut Script, c: usize, total: i32| {
+            let (before, answer) = (s.table.clone(), s.answer(&local_read(c), SCRATCH));
+            answer == Answer { total, ..Answer::BLANK } && before == s.table
+        };
+        for (record, number) in [([2, 6, 1], 6), ([1, 5, 1], 7), ([0, 5, 1], 6), ([3, 5, 1], 5), ([2, 5, 0], 8)] {
+            expect(s.number(record.to_vec()) == number, "a local read that 5 to 8 refuse")?;
+        }
+        expect(s.number(vec![3, 5, 1, 0]) == 7 && s.number(local_read(3)) == 8, "a local read that 7 and 8 refuse")?;
+        expect(gives(&mut s, 1, 0) && gives(&mut s, 2, 0), "a local read of a fresh table")?;
+        expect(s.answer(&local_read(1), SCRATCH - 1).number.number() == 15, "15 is put to a local read")?;
+        expect(s.number(report_in(version, 1, -30)) == 0 && s.number(local_read(1)) == 18, "a pending report")?;
+        expect(s.answer(&local_read(1), 0).number.number() == 18, "18 before 15")?;
+        expect(s.number(sync(2)) == 0 && s.number(local_read(2)) == 18, "a pending sync")?;
+        let mut stopped = Script { engine, table: s.table.clone() };
+        expect(stopped.number(stop(1, 1)) == 0 && stopped.number(local_read(1)) == 10, "10 before 18")?;
+        for (r, o) in [(2, 1), (1, 2), (1, 2), (1, 1), (1, 1)] {
+            expect(s.number(handover(r, o)) == 0, "handovers before a local read")?;
+        }
+        // 1 has applied its report and 2's sync; 2 has both pending.
+        expect(gives(&mut s, 1, -30) && s.number(local_read(2)) == 18, "a local read of what was applied")?;
+        expect(s.number(stop(2, 2)) == 0 && s.number(local_read(2)) == 10, "a local read of a stopped controller")?;
+    }
+    let mut s = Script::fresh(engine, 1, 2);
+    expect(s.number(report(1, 5)) == 0 && s.number(handover(2, 1)) == 0, "a report that another has pending")?;
+    expect(s.number(local_read(2)) == 0, "messages of others may be pending at a local read")
+}
+
+/// In which order the pairs of receiver and log owner take turns.
+pub type Turns = fn(usize) -> Vec<(usize, usize)>;
+
+/// Each log is read to its end by all.
+pub fn by_log(n: usize) -> Vec<(usize, usize)> {
+    (1..=n).flat_map(|owner| (1..=n).map(move |receiver| (receiver, owner))).collect()
+}
+
+/// Each controller reads its own log, then all read the next one's, and so on: the logs' orders go round in a circle.
+pub fn in_a_circle(n: usize) -> Vec<(usize, usize)> {
+    (0..n).flat_map(|further| (0..n).map(move |r| (r + 1, (r + further) % n + 1))).collect()
+}
+
+/// 64 reports of so many senders in turn, all sent before anything is handed over; then every handover, each pair's in a row.
+pub fn under_way_run(version: usize, n: usize, senders: usize, turns: Turns) -> Vec<u8> {
+    let mut state = State::fresh(version, n);
+    let mut records: Vec<Vec<u8>> = (0..MAX_MESSAGES).map(|k| report_in(version, 1 + k % senders, 1)).collect();
+    records.iter().for_each(|record| assert_eq!(follow(&mut state, record, SCRATCH), 0));
+    let mut any = true;
+    while any {
+        any = false;
+        for (receiver, owner) in turns(n) {
+            while follow(&mut state, &handover(receiver, owner), SCRATCH) == 0 {
+                records.push(handover(receiver, owner));
+                any = true;
+            }
+        }
+    }
+    file_of(version, n, &records)
+}
+
+/// The most that can be under way: 64 messages pending everywhere, of one sender, of seven, and in a circle, where no message
+/// goes before all others and a set has all 64. Each run is the reference's and keeps demand 3.
+fn sixty_four_under_way(engine: &dyn Engine) -> Result<(), String> {
+    let of_one = (1..=7).map(|n| (n, 1, by_log as Turns));
+    for (n, senders, turns) in of_one.chain([(7, 7, by_log as Turns), (7, 7, in_a_circle)]) {
+        let file = under_way_run(1, n, senders, turns);
+        let end = same_run(engine, &file, LISTING, SCRATCH, "64 messages under way")?;
+        expect(end == (64 + 64 * n * n, 0), "64 messages under way: its events")?;
+        let mut listing = vec![7; LISTING];
+        let run = engine.run(&file, &mut listing, &mut [7; SCRATCH]);
+        let ledger = Ledger::file(&file, run.events, &listing[..run.written]);
+        expect(ledger.broken().is_none() && ledger.ended().len() == n, "64 messages under way: demand 3")?;
+        let mut last = Script { engine, table: run.table };
+        let reads = (1..=n).all(|c| last.answer(&local_read(c), SCRATCH).total == 64);
+        expect(reads, "64 messages under way: local reads at the end")?;
+    }
+    Ok(())
+}
+
+/// As many events as a file can have, and one byte more; and events with numbers of four and five digits before a line.
+fn many_local_reads(engine: &dyn Engine) -> Result<(), String> {
+    let reads = |count: usize| vec![local_read(1); count];
+    for (behind, end) in [(&[][..], (21_844, 0)), (&[2], (21_844, 5)), (&[2, 5], (0, 1))] {
+        let file = [file_of(1, 1, &reads(21_844)), behind.to_vec()].concat();
+        expect(same_run(engine, &file, LISTING, SCRATCH, "a file of local reads")? == end, "a file of local reads")?;
+    }
+    for count in [9_996, 9_997, 9_998, 9_999] {
+        let lines = [report(1, 5), handover(1, 1), report(1, 5), handover(1, 1)];
+        let file = file_of(1, 1, &[reads(count), lines.to_vec()].concat());
+        let mut listing = vec![7; LISTING];
+        let run = engine.run(&file, &mut listing, &mut [7; SCRATCH]);
+        let expected = format!("{} 1 5 1.1\n{} 1 10 1.2\n", count + 2, count + 4);
+        let found = (run.number.number(), run.events, &listing[..run.written]);
+        expect(found == (0, count + 4, expected.as_bytes()), "a line behind many local reads")?;
+    }
+    Ok(())
+}
+
 fn lengths_kept(engine: &dyn Engine) -> Result<(), String> {
     let play =
         [report(1, 1), report(2, 1), report(3, 1), handover(1, 2), handover(1, 3), handover(2, 1), handover(2, 1)];
@@ -370,6 +531,7 @@ fn short_files(engine: &dyn Engine) -> Result<(), String> {
 pub fn check(engine: &dyn Engine) -> Result<(), String> {
     whole_run(engine)?;
     with_classes(engine)?;
+    with_reports_under_way(engine)?;
     fresh_tables(engine)?;
     versions(engine)?;
     marks_above_n(engine)?;
@@ -381,6 +543,10 @@ pub fn check(engine: &dyn Engine) -> Result<(), String> {
     class_totals(engine)?;
     lengths_of_reports(engine)?;
     stored_classes(engine)?;
+    reports_under_way(engine)?;
+    local_reads(engine)?;
+    sixty_four_under_way(engine)?;
+    many_local_reads(engine)?;
     lengths_kept(engine)?;
     short_files(engine)
 }

@@ -3,21 +3,26 @@
 use crate::case::{Call, Case, Head};
 use crate::odd::{any_calls, any_event, any_scratch, any_version, as_calls, mangle};
 use crate::random::Random;
-use crate::records::file_of;
+use crate::records::{file_of, local_read};
 use crate::reference::{run_file, State, LISTING, SCRATCH};
-use crate::runs::{drain, legal_run, Policy};
+use crate::runs::{drain, legal_run, with_none_pending, Policy};
 
-/// A legal file, and the state that it leaves.
-fn legal_file(random: &mut Random, version: usize, events: usize) -> (Vec<u8>, State) {
+/// A legal file whose run goes by such a policy, and the state that it leaves.
+pub fn legal_file(
+    random: &mut Random,
+    version: usize,
+    events: usize,
+    policy: fn(&mut Random) -> Policy,
+) -> (Vec<u8>, State) {
     let n = random.between(1, 7);
     let mut state = State::fresh(version, n);
-    let policy = Policy::random(random);
+    let policy = policy(random);
     let run = legal_run(random, &mut state, &policy, events);
     (file_of(version, n, &run), state)
 }
 
-pub fn random_file(random: &mut Random, version: usize, events: usize) -> Vec<u8> {
-    legal_file(random, version, events).0
+fn random_file(random: &mut Random, version: usize, events: usize) -> Vec<u8> {
+    legal_file(random, version, events, Policy::random).0
 }
 
 /// A listing that ends around a line's end.
@@ -48,9 +53,34 @@ pub fn file_limits(random: &mut Random) -> Case {
     Case { head: Head::File { bytes, listing, scratch }, calls }
 }
 
+/// A file with very many local reads, so that numbers of up to five digits stand before its last lines. Some are as long as
+/// a file may be, or end in the middle of a record. These files take long, so most turns make a short one.
+pub fn file_long(random: &mut Random) -> Case {
+    if !random.one_in(12) {
+        return file_mangled(random);
+    }
+    let (version, n) = (any_version(random), random.between(1, 3));
+    let mut state = State::fresh(version, n);
+    let policy = Policy::random(random);
+    let mut records = legal_run(random, &mut state, &policy, 8);
+    records.extend(drain(random, &mut state));
+    let reader = local_read(with_none_pending(&state).first().copied().unwrap_or(1));
+    let reads = random.pick(&[90, 990, 9_980, 9_980, 9_990, 19_990]);
+    records.extend(vec![reader.clone(); reads]);
+    records.extend(legal_run(random, &mut state, &policy, 30));
+    let mut bytes = file_of(version, n, &records);
+    let longest = random.pick(&[65_534, 65_535]);
+    if random.one_in(3) {
+        let room = longest - bytes.len();
+        bytes.extend(vec![reader; room / 3].concat());
+        bytes.resize(longest, 2);
+    }
+    Case { head: Head::File { bytes, listing: LISTING, scratch: SCRATCH }, calls: vec![Call::Look(1)] }
+}
+
 pub fn file_mangled(random: &mut Random) -> Case {
     let (version, events) = (any_version(random), random.pick(&[3, 20, 100]));
-    let (mut bytes, state) = legal_file(random, version, events);
+    let (mut bytes, state) = legal_file(random, version, events, Policy::random);
     // Half of the files end in a record at the boundaries of its questions, and may stay whole before it.
     let odd = random.one_in(2);
     if odd {

@@ -2,15 +2,15 @@
 
 use crate::broken_tables::table_broken;
 use crate::case::Case;
-use crate::file_cases::{file_limits, file_mangled, file_questions};
-use crate::list_cases::{boundaries, drained, fresh_any, full, list};
+use crate::file_cases::{file_limits, file_long, file_mangled, file_questions};
+use crate::list_cases::{boundaries, cut_off, drained, fresh_any, full, list, under_way};
 use crate::random::Random;
 use crate::table_cases::{table_flipped, table_good, table_random};
 
 /// A kind of case: its name, and how to make one.
 pub type CaseKind = (&'static str, fn(&mut Random) -> Case);
 
-pub const KINDS: [CaseKind; 16] = [
+pub const KINDS: [CaseKind; 20] = [
     ("list", list),
     ("table", table_good),
     ("broken table", table_broken),
@@ -19,12 +19,16 @@ pub const KINDS: [CaseKind; 16] = [
     ("broken table", table_broken),
     ("mangled file", file_mangled),
     ("table", table_good),
+    ("reports under way", under_way),
     ("boundaries", boundaries),
     ("broken table", table_broken),
     ("file questions", file_questions),
     ("flipped table", table_flipped),
+    ("messages cut off", cut_off),
     ("fresh", fresh_any),
     ("full list", full),
+    ("long file", file_long),
+    ("list", list),
     ("table", table_good),
     ("random table", table_random),
 ];

@@ -3,9 +3,9 @@
 use crate::case::{Call, Case, Head};
 use crate::odd::{any_calls, any_number, any_version, as_calls};
 use crate::random::Random;
-use crate::records::{report_in, sync};
+use crate::records::{handover, local_read, report_in, stop, sync};
 use crate::reference::{State, MAX_MESSAGES, SCRATCH};
-use crate::runs::{drain, legal_run, Policy};
+use crate::runs::{drain, follow, highest_read, legal_run, Policy};
 
 pub fn list(random: &mut Random) -> Case {
     let (version, n) = (any_version(random), random.between(1, 7));
@@ -22,7 +22,7 @@ pub fn drained(random: &mut Random) -> Case {
     let mut calls = vec![];
     for _ in 0..random.between(1, 3) {
         let policy = Policy::random(random);
-        let events = random.pick(&[5, 20, 60, 150]);
+        let events = if policy.burst > 1 { random.pick(&[5, 10, 20]) } else { random.pick(&[5, 20, 60, 150]) };
         calls.extend(as_calls(legal_run(random, &mut state, &policy, events)));
         calls.extend(any_calls(random, &mut state, 2, 2));
         calls.extend(as_calls(drain(random, &mut state)));
@@ -47,10 +47,102 @@ pub fn full(random: &mut Random) -> Case {
         calls.extend(as_calls(legal_run(random, &mut state, &policy, 1)));
     }
     for c in 1..=n {
-        calls.extend(as_calls(vec![report_in(version, c, 5), sync(c)]));
+        calls.extend(as_calls(vec![report_in(version, c, 5), sync(c), local_read(c)]));
     }
     calls.extend(any_calls(random, &mut state, 30, 4));
     Case { head: Head::Fresh { version, n }, calls }
+}
+
+/// A list that is made call by call, with the state that it leaves.
+struct Making {
+    version: usize,
+    state: State,
+    calls: Vec<Call>,
+}
+
+impl Making {
+    fn fresh(version: usize, n: usize) -> Making {
+        Making { version, state: State::fresh(version, n), calls: vec![] }
+    }
+
+    fn event(&mut self, bytes: Vec<u8>) -> u8 {
+        let number = follow(&mut self.state, &bytes, SCRATCH);
+        self.calls.push(Call::Event { bytes, scratch: SCRATCH });
+        number
+    }
+
+    /// So many reports of one sender in a row, and what waits for them: a sync, a local read.
+    fn reports(&mut self, random: &mut Random, sender: usize, count: usize) {
+        for _ in 0..count {
+            self.event(report_in(self.version, sender, random.pick(&[1, -1, 7, 360, -360])));
+        }
+        if random.one_in(2) {
+            self.event(sync(sender));
+            self.event(local_read(sender));
+        }
+    }
+
+    /// A local read of each controller and a look at it.
+    fn reads(&mut self) {
+        for c in 1..=self.state.n {
+            self.event(local_read(c));
+            self.calls.push(Call::Look(c));
+        }
+    }
+
+    fn case(self) -> Case {
+        Case { head: Head::Fresh { version: self.version, n: self.state.n }, calls: self.calls }
+    }
+}
+
+/// Several reports each of some senders, in a row and before anything is handed over; then some handovers, and local reads
+/// of all. Short ones go on to the end. Long ones, up to 64 messages, take a slow reference many comparisons, and are few.
+pub fn under_way(random: &mut Random) -> Case {
+    let mut making = Making::fresh(any_version(random), random.pick(&[1, 2, 3, 3, 4, 5, 6, 7]));
+    let n = making.state.n;
+    let most = if random.one_in(20) { MAX_MESSAGES } else { random.pick(&[2, 4, 8, 12]) };
+    let (senders, first) = (random.between(1, n), random.below(n));
+    for sender in 0..senders {
+        let count = random.between(1, (most / senders).max(2));
+        making.reports(random, 1 + (first + sender) % n, count);
+    }
+    let mut policy = Policy::random(random);
+    (policy.send, policy.stop) = (random.pick(&[20, usize::MAX]), random.pick(&[40, usize::MAX, usize::MAX]));
+    let run = legal_run(random, &mut making.state, &policy, 40);
+    making.calls.extend(as_calls(run));
+    making.reads();
+    if most <= 12 {
+        let run = drain(random, &mut making.state);
+        making.calls.extend(as_calls(run));
+        making.reads();
+    }
+    making.case()
+}
+
+/// A sender with several messages pending stops. Its log is cut behind any of them that nobody has read, or of what it has
+/// forwarded in between; then all is handed over.
+pub fn cut_off(random: &mut Random) -> Case {
+    let mut making = Making::fresh(any_version(random), random.pick(&[1, 1, 2, 3, 3, 4, 5, 7]));
+    let n = making.state.n;
+    let sender = random.between(1, n);
+    for _ in 0..random.between(1, 3) {
+        let count = random.between(1, 4);
+        making.reports(random, sender, count);
+        let other = random.between(1, n);
+        making.event(report_in(making.version, other, 2));
+        for _ in 0..random.below(4) {
+            let (receiver, owner) = (random.between(1, n), random.between(1, n));
+            let (r, o) = random.pick(&[(receiver, sender), (sender, owner), (receiver, owner)]);
+            making.event(handover(r, o));
+        }
+    }
+    let (low, high) = (highest_read(&making.state, sender), making.state.controllers[sender - 1].log.len());
+    making.event(stop(sender, random.between(low, high)));
+    making.reads();
+    let run = drain(random, &mut making.state);
+    making.calls.extend(as_calls(run));
+    making.reads();
+    making.case()
 }
 
 /// Many boundary records after a short run.

@@ -165,6 +165,8 @@ struct Counts {
     sizes: [usize; 65],
     most_pending: usize,
     kept_pending: usize,
+    most_own: usize,
+    local_reads: usize,
 }
 
 impl Counts {
@@ -186,6 +188,13 @@ impl Counts {
         self.events[answer.number.number() as usize] += 1;
         self.sizes[answer.size] += 1;
         let pending = |c: &Controller| c.pending.iter().filter(|p| p.held != 0).count();
+        if answer.number == Refusal::ACCEPTED {
+            let own = |c: usize, slot: usize| table.messages[slot].sender as usize == c + 1;
+            let waits = |c: usize, slot: usize| own(c, slot) && table.controllers[c].pending[slot].held != 0;
+            let own_at = |c: usize| (0..table.count).filter(|slot| waits(c, *slot)).count();
+            self.most_own = (0..table.n).map(own_at).fold(self.most_own, usize::max);
+            self.local_reads += (bytes[1] == tables::LOCAL_READ) as usize;
+        }
         if answer.size > 0 {
             let left = pending(&table.controllers[bytes[2] as usize - 1]);
             self.most_pending = self.most_pending.max(left + answer.size);
@@ -197,8 +206,16 @@ impl Counts {
 /// How often each answer came in N cases, to see what the cases reach.
 pub fn count(cases: usize, seed: u64) {
     let zero = [0; NUMBERS];
-    let mut counts =
-        Counts { events: zero, looks: zero, files: zero, sizes: [0; 65], most_pending: 0, kept_pending: 0 };
+    let mut counts = Counts {
+        events: zero,
+        looks: zero,
+        files: zero,
+        sizes: [0; 65],
+        most_pending: 0,
+        kept_pending: 0,
+        most_own: 0,
+        local_reads: 0,
+    };
     for (_, case) in (0..cases).map(|index| generate::case(seed, index)) {
         let mut table = counts.head(&case.head);
         for call in &case.calls {
@@ -208,10 +225,11 @@ pub fn count(cases: usize, seed: u64) {
             }
         }
     }
-    let Counts { events, looks, files, sizes, most_pending, kept_pending } = counts;
+    let Counts { events, looks, files, sizes, most_pending, kept_pending, most_own, local_reads } = counts;
     println!("events by number {events:?}\nlooks by number {looks:?}\nfiles by number {files:?}");
     println!("sets by size {sizes:?}");
     println!("most pending at a set {most_pending}; sets that left others pending {kept_pending}");
+    println!("most of a sender's own pending {most_own}; local reads accepted {local_reads}");
 }
 
 /// Runs the executable on one input.

@@ -2,7 +2,7 @@
 
 use crate::case::Call;
 use crate::random::Random;
-use crate::records::{classed_report, handover, report, stop, sync};
+use crate::records::{classed_report, handover, local_read, report, stop, sync};
 use crate::reference::{State, SCRATCH};
 use crate::runs::{follow, highest_read, legal_event, Policy};
 
@@ -50,10 +50,11 @@ fn boundary_report(random: &mut Random, state: &State, c: usize) -> Vec<u8> {
 /// A record with fields at the boundaries of their questions, several of which may say no.
 fn boundary_record(random: &mut Random, state: &State) -> Vec<u8> {
     let c = odd_controller(random, state.n);
-    match random.below(4) {
+    match random.below(5) {
         0 => boundary_report(random, state, c),
         1 => sync(c),
-        2 => handover(c, odd_controller(random, state.n)),
+        2 => local_read(c),
+        3 => handover(c, odd_controller(random, state.n)),
         _ => {
             let (read, length) = match (1..=state.n).contains(&c) {
                 true => (highest_read(state, c), state.controllers[c - 1].log.len()),

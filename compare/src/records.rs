@@ -32,6 +32,10 @@ pub fn stop(controller: usize, kept: usize) -> Vec<u8> {
     Record::Stop { controller: controller as u8, kept: kept as u16 }.bytes()
 }
 
+pub fn local_read(controller: usize) -> Vec<u8> {
+    Record::LocalRead { controller: controller as u8 }.bytes()
+}
+
 pub fn file_of(version: usize, n: usize, run: &[Vec<u8>]) -> Vec<u8> {
     [furnacejade::file_of(version as u8, n as u8, &[]), run.concat()].concat()
 }

@@ -62,6 +62,7 @@ pub enum Event {
     Send { sender: usize, payload: Payload },
     Handover { receiver: usize, owner: usize },
     Stop { controller: usize, kept: usize },
+    Read { controller: usize },
 }
 
 /// What a panel shows: the total, and the total of each class.
@@ -71,12 +72,13 @@ pub struct Shown {
     pub classes: [i32; CLASSES],
 }
 
-/// The answer to an event. `finished` is the total that a finished sync answers.
+/// The answer to an event. The total is what a finished sync answers, or what a local read gives, and otherwise 0.
 #[derive(Clone, PartialEq, Eq, Debug, Default)]
 pub struct Answer {
     pub number: u8,
     pub set: Vec<Name>,
-    pub finished: Option<i32>,
+    pub finished: bool,
+    pub total: i32,
 }
 
 // ---------- records ----------
@@ -101,7 +103,7 @@ fn cut(bytes: &[u8]) -> Result<(&[u8], &[u8]), u8> {
 /// Question 6: the kind of a record.
 fn kind_of(record: &[u8]) -> Result<u8, u8> {
     let kind = *record.first().ok_or(6)?;
-    if !(1..=4).contains(&kind) {
+    if !(1..=5).contains(&kind) {
         return Err(6);
     }
     Ok(kind)
@@ -113,7 +115,7 @@ fn decode(record: &[u8], version: usize, n: usize) -> Result<Event, u8> {
     let length = match kind {
         1 if version == 2 => 5,
         1 | 4 => 4,
-        2 => 2,
+        2 | 5 => 2,
         _ => 3,
     };
     if record.len() != length {
@@ -128,7 +130,8 @@ fn decode(record: &[u8], version: usize, n: usize) -> Result<Event, u8> {
         }
         2 => Event::Send { sender: first, payload: Payload::Sync },
         3 => Event::Handover { receiver: first, owner: record[2] as usize },
-        _ => Event::Stop { controller: first, kept: u16::from_be_bytes([record[2], record[3]]) as usize },
+        4 => Event::Stop { controller: first, kept: u16::from_be_bytes([record[2], record[3]]) as usize },
+        _ => Event::Read { controller: first },
     };
     first_no(&[(8, named(&event, n)), (9, fair(&event)), (17, classed(&event, version))])?;
     Ok(event)
@@ -140,7 +143,7 @@ fn named(event: &Event, n: usize) -> bool {
     match *event {
         Event::Send { sender, .. } => known(sender),
         Event::Handover { receiver, owner } => known(receiver) && known(owner),
-        Event::Stop { controller, .. } => known(controller),
+        Event::Stop { controller, .. } | Event::Read { controller } => known(controller),
     }
 }
 
@@ -256,13 +259,18 @@ impl State {
         Ok(Shown { total: self.total(c), classes })
     }
 
-    /// Questions 10 to 15 in order, with their answers.
+    /// Has controller c a message of its own pending?
+    fn own_pending(&self, c: usize) -> bool {
+        self.controllers[c - 1].pending.keys().any(|name| name.sender == c)
+    }
+
+    /// Questions 10 to 15 and 18 in order, with their answers. A report may follow on pending messages of its sender.
     fn questions(&self, event: &Event, scratch: usize) -> Vec<(u8, bool)> {
         let mut asked = match *event {
-            Event::Send { sender, .. } => {
+            Event::Send { sender, payload } => {
                 let s = &self.controllers[sender - 1];
-                let own_pending = s.pending.keys().any(|name| name.sender == sender);
-                vec![(10, s.running), (11, !own_pending), (12, self.messages.len() < MAX_MESSAGES)]
+                let waits = payload == Payload::Sync && self.own_pending(sender);
+                vec![(10, s.running), (11, !waits), (12, self.messages.len() < MAX_MESSAGES)]
             }
             Event::Handover { receiver, owner } => {
                 let (r, o) = (&self.controllers[receiver - 1], &self.controllers[owner - 1]);
@@ -273,12 +281,15 @@ impl State {
                 let read_within = |r: usize| self.controllers[r - 1].read[controller - 1] <= kept;
                 vec![(10, c.running), (14, kept <= c.log.len() && (1..=self.n).all(read_within))]
             }
+            Event::Read { controller: c } => {
+                vec![(10, self.controllers[c - 1].running), (18, !self.own_pending(c))]
+            }
         };
         asked.push((15, scratch >= SCRATCH));
         asked
     }
 
-    /// Questions 5 to 15 and 17: the event, and the bytes behind its record.
+    /// Questions 5 to 15, 17 and 18: the event, and the bytes behind its record.
     fn accept<'a>(&self, bytes: &'a [u8], scratch: usize) -> Result<(Event, &'a [u8]), u8> {
         let (record, rest) = cut(bytes)?;
         let event = decode(record, self.version, self.n)?;
@@ -332,16 +343,23 @@ impl State {
         BTreeSet::new()
     }
 
-    /// Carries out an event that passed its questions. Answers the set and a finished sync's total.
+    /// A local read (Algorithm 5, line 5): the total, without a message. Nothing changes.
+    fn read(&mut self, controller: usize) -> Answer {
+        Answer { total: self.total(controller), ..Answer::default() }
+    }
+
+    /// Carries out an event that passed its questions. Answers the set and the total of a finished sync or a local read.
     fn carry_out(&mut self, event: Event) -> Answer {
         let (set, subject) = match event {
             Event::Send { sender, payload } => (self.send(sender, payload), sender),
             Event::Handover { receiver, owner } => (self.handover(receiver, owner), receiver),
             Event::Stop { controller, kept } => (self.stop(controller, kept), controller),
+            Event::Read { controller } => return self.read(controller),
         };
         let own_sync = |x: &Name| x.sender == subject && self.payload(x) == Payload::Sync;
-        let finished = set.iter().any(own_sync).then(|| self.total(subject));
-        Answer { number: 0, set: set.into_iter().collect(), finished }
+        let finished = set.iter().any(own_sync);
+        let total = if finished { self.total(subject) } else { 0 };
+        Answer { number: 0, set: set.into_iter().collect(), finished, total }
     }
 
     /// The single-event call, its table known to be well formed. The rest is handed back.

@@ -1,25 +1,46 @@
 //! Legal runs: events that are accepted, chosen at random, with the reference's state beside them.
 
 use crate::random::Random;
-use crate::records::{classed_report, handover, report, stop, sync};
-use crate::reference::{State, MAX_MESSAGES, SCRATCH};
+use crate::records::{classed_report, handover, local_read, report, stop, sync};
+use crate::reference::{Message, Payload, State, MAX_MESSAGES, SCRATCH};
 
-/// How a run goes: one event in `send` is a send, one in `stop` a stop, and each pair of receiver and log owner
-/// has a weight. Weights of 0 let messages pile up and let logs differ in their order.
+/// How a run goes: one event in `send` is a send, one in `stop` a stop, one in `read` a local read, and each pair of
+/// receiver and log owner has a weight. Weights of 0 let messages pile up and let logs differ in their order. One send in
+/// `on` may be by a sender that has messages of its own pending; and while nobody has read its last report, a sender
+/// reports again but for one time in `burst`.
 pub struct Policy {
     pub send: usize,
     pub stop: usize,
+    pub read: usize,
+    pub on: usize,
+    pub burst: usize,
     pub links: [[usize; 7]; 7],
+}
+
+const NEVER: usize = usize::MAX;
+
+/// Yes with a chance of one in `among`.
+fn now(random: &mut Random, among: usize) -> bool {
+    among != NEVER && random.one_in(among)
 }
 
 impl Policy {
     pub fn even(send: usize) -> Policy {
-        Policy { send, stop: usize::MAX, links: [[1; 7]; 7] }
+        Policy { send, stop: NEVER, read: NEVER, on: NEVER, burst: 1, links: [[1; 7]; 7] }
     }
 
     pub fn random(random: &mut Random) -> Policy {
+        let mut policy = Policy::one_by_one(random);
+        policy.read = random.pick(&[4, 20, 60, NEVER]);
+        policy.on = random.pick(&[2, 10, NEVER, NEVER]);
+        policy.burst = random.pick(&[1, 1, 1, 3]);
+        policy
+    }
+
+    /// No sender has two messages under way, and there are no local reads.
+    pub fn one_by_one(random: &mut Random) -> Policy {
         let mut policy = Policy::even(random.pick(&[2, 3, 5, 10, 30]));
-        policy.stop = random.pick(&[15, 60, 300, usize::MAX]);
+        policy.stop = random.pick(&[15, 60, 300, NEVER]);
         let weights: &[usize] = random.pick(&[&[1][..], &[0, 0, 1, 1, 5], &[0, 1, 1, 1, 20, 20], &[0, 0, 0, 1]]);
         for row in &mut policy.links {
             row.iter_mut().for_each(|link| *link = random.pick(weights));
@@ -57,14 +78,35 @@ fn legal_report(random: &mut Random, state: &State, sender: usize) -> Vec<u8> {
     }
 }
 
-fn legal_send(random: &mut Random, state: &State) -> Option<Vec<u8>> {
-    let may = |c: &usize| !state.controllers[c - 1].pending.keys().any(|name| name.sender == *c);
-    let senders: Vec<usize> = running(state).into_iter().filter(may).collect();
+/// The running controllers that have no message of their own pending.
+pub fn with_none_pending(state: &State) -> Vec<usize> {
+    let none = |c: &usize| !state.controllers[c - 1].pending.keys().any(|name| name.sender == *c);
+    running(state).into_iter().filter(none).collect()
+}
+
+fn legal_send(random: &mut Random, state: &State, policy: &Policy) -> Option<Vec<u8>> {
+    let with_none = with_none_pending(state);
+    let senders = if now(random, policy.on) { running(state) } else { with_none.clone() };
     if senders.is_empty() || state.messages.len() >= MAX_MESSAGES {
         return None;
     }
     let sender = random.pick(&senders);
-    Some(if random.one_in(4) { sync(sender) } else { legal_report(random, state, sender) })
+    let may_sync = with_none.contains(&sender);
+    Some(if may_sync && random.one_in(4) { sync(sender) } else { legal_report(random, state, sender) })
+}
+
+/// One more report by the sender of the last message, if that was a report and nobody has read it.
+fn next_of_burst(random: &mut Random, state: &State, policy: &Policy) -> Option<Vec<u8>> {
+    let Message { name, payload } = *state.messages.last()?;
+    let unread = state.controllers[name.sender - 1].running && highest_read(state, name.sender) < name.number;
+    let may = unread && payload != Payload::Sync && state.messages.len() < MAX_MESSAGES;
+    let goes_on = may && policy.burst > 1 && !random.one_in(policy.burst);
+    goes_on.then(|| legal_report(random, state, name.sender))
+}
+
+fn legal_read(random: &mut Random, state: &State) -> Option<Vec<u8>> {
+    let readers = with_none_pending(state);
+    (!readers.is_empty()).then(|| local_read(random.pick(&readers)))
 }
 
 fn legal_handover(random: &mut Random, state: &State, policy: &Policy) -> Option<Vec<u8>> {
@@ -90,9 +132,16 @@ pub fn legal_event(random: &mut Random, state: &State, policy: &Policy) -> Optio
     if random.one_in(policy.stop) {
         return legal_stop(random, state);
     }
+    if let Some(report) = next_of_burst(random, state, policy) {
+        return Some(report);
+    }
+    let read = if now(random, policy.read) { legal_read(random, state) } else { None };
+    if read.is_some() {
+        return read;
+    }
     let send_first = random.one_in(policy.send);
-    let send = if send_first { legal_send(random, state) } else { None };
-    send.or_else(|| legal_handover(random, state, policy)).or_else(|| legal_send(random, state))
+    let send = if send_first { legal_send(random, state, policy) } else { None };
+    send.or_else(|| legal_handover(random, state, policy)).or_else(|| legal_send(random, state, policy))
 }
 
 /// Carries out an event on the generator's own state.

@@ -10,6 +10,9 @@ const ABSENT: ForwardNumber = ForwardNumber(255);
 const REPORT: u8 = 1;
 const SYNC: u8 = 2;
 
+/// The kind of a record that leaves the table as it is.
+pub const LOCAL_READ: u8 = 5;
+
 // ---------- question 4 ----------
 
 /// Question 4, clause by clause. What no clause names is neither tested nor used.
@@ -216,9 +219,12 @@ pub fn event(t: &mut Table, bytes: &[u8], scratch: &mut [u8], answer: &mut Answe
     let (given, rest) = state.event(bytes, scratch);
     answer.number = Refusal::from(given.number);
     if given.number == 0 {
-        store(&state, t);
-        answer.finished = given.finished.is_some() as u8;
-        answer.total = given.finished.unwrap_or(0);
+        // A local read leaves every byte as it is, also where other bytes would mean the same.
+        if bytes[1] != LOCAL_READ {
+            store(&state, t);
+        }
+        answer.finished = given.finished as u8;
+        answer.total = given.total;
         answer.size = given.set.len();
         for (to, x) in answer.names.iter_mut().zip(&given.set) {
             *to = Name { sender: x.sender as u8, number: MessageNumber(x.number as u8) };

@@ -1,10 +1,14 @@
-//! Plays a run file, read from standard input, event by event, and looks at every panel after each; of a file of version
-//! 2 it prints in the end what each panel shows of each class. `bindings/worked.run` and `bindings/classes.run` are the
-//! runs of docs/RULES.md, sections 19 and 25.
+//! Plays a run file, read from standard input, event by event: the set applied, or what a local read gives, and then a
+//! look at every panel; of a file of version 2 it prints in the end what each panel shows of each class.
+//! `bindings/worked.run`, `bindings/classes.run` and `bindings/underway.run` are the runs of docs/RULES.md, sections 19,
+//! 25 and 26.
 
 use furnacejade::{event, fresh, look, Class, Table, SCRATCH};
 use std::error::Error;
 use std::io::Read;
+
+/// The kind of a local read.
+const LOCAL_READ: u8 = 5;
 
 fn print_classes(table: &Table) -> Result<(), Box<dyn Error>> {
     for c in 1..=table.n {
@@ -28,12 +32,15 @@ fn main() -> Result<(), Box<dyn Error>> {
     let mut number = 0;
     while !rest.is_empty() {
         let (answer, left) = event(&mut table, rest, &mut scratch)?;
-        rest = left;
         number += 1;
         print!("{number}:");
         for name in answer.applied() {
             print!(" {name}");
         }
+        if rest[1] == LOCAL_READ {
+            print!(" {} reads {}", rest[2], answer.total);
+        }
+        rest = left;
         print!(" |");
         for c in 1..=table.n {
             print!(" {}", look(&table, c)?.total);

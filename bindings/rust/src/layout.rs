@@ -132,7 +132,7 @@ pub struct Answer {
     pub number: Refusal,
     /// Whether a sync of the receiver's own is in the set applied: 1 if so, else 0.
     pub finished: u8,
-    /// Then that sync's answer, the total after the set; else 0.
+    /// Then that sync's answer, the total after the set; or the total that an accepted local read gives; else 0.
     pub total: i32,
     /// How many messages the set has.
     pub size: usize,

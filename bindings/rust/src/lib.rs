@@ -30,6 +30,27 @@
 //! # }
 //! ```
 //!
+//! A sender reports on while reports of its own are under way. A local read gives a controller's total without a message,
+//! once the controller has applied all that it sent:
+//!
+//! ```
+//! use furnacejade::{event, fresh, Record, Refusal, SCRATCH};
+//!
+//! # fn main() -> Result<(), Refusal> {
+//! let mut table = fresh(1, 1)?;
+//! let mut scratch = [0; SCRATCH];
+//! let mut play = |record: Record| event(&mut table, &record.bytes(), &mut scratch).map(|(answer, _)| answer);
+//!
+//! play(Record::Report { sender: 1, amount: 30 })?;
+//! play(Record::Report { sender: 1, amount: 12 })?;
+//! assert_eq!(play(Record::Sync { sender: 1 }), Err(Refusal::OWN_PENDING));
+//! assert_eq!(play(Record::LocalRead { controller: 1 }), Err(Refusal::READ_PENDING));
+//! play(Record::Handover { receiver: 1, owner: 1 })?;
+//! assert_eq!(play(Record::LocalRead { controller: 1 })?.total, 42);
+//! # Ok(())
+//! # }
+//! ```
+//!
 //! In tables and files of version 2 each report names a weight class, and a panel shows a total of each. A whole file goes
 //! through [`run`]:
 //!
@@ -71,10 +92,9 @@ pub fn fresh(version: usize, n: usize) -> Result<Table, Refusal> {
     Ok(answer.table)
 }
 
-/// Carries out the record with which the bytes begin: the set applied and a finished sync's answer, and the part of the
-/// bytes that is unread. The table's version says whether a report has a class byte. It needs [`SCRATCH`] bytes of
-/// scratch, and leaves them zero. A refused event leaves table and
-/// scratch as they were.
+/// Carries out the record with which the bytes begin: the set applied and the total of a finished sync or of a local read,
+/// and the part of the bytes that is unread. The table's version says whether a report has a class byte. It needs
+/// [`SCRATCH`] bytes of scratch, and leaves them zero. A refused event leaves table and scratch as they were.
 pub fn event<'a>(table: &mut Table, bytes: &'a [u8], scratch: &mut [u8]) -> Result<(Answer, &'a [u8]), Refusal> {
     let mut answer = Answer::BLANK;
     let left = calls::event(table, bytes, scratch, &mut answer);

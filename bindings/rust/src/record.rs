@@ -5,7 +5,7 @@ use crate::Class;
 /// One event. Its fields may hold anything: the engine answers a record that it cannot carry out with a refusal.
 #[derive(Clone, Copy, Debug, PartialEq, Eq, Hash)]
 pub enum Record {
-    /// A sender reports an amount of eggs, -360 to 360 and not 0, in version 1.
+    /// A sender reports an amount of eggs, -360 to 360 and not 0, in version 1. Any number of its reports may be pending.
     Report {
         /// The controller that sends it.
         sender: u8,
@@ -21,7 +21,8 @@ pub enum Record {
         /// What the eggs weigh, [`Class::XL`] to [`Class::S`].
         class: Class,
     },
-    /// A sender asks for the total after everything that is under way before this message.
+    /// A sender asks for the total after everything that is under way before this message. It has no message of its own
+    /// pending.
     Sync {
         /// The controller that sends it.
         sender: u8,
@@ -40,6 +41,12 @@ pub enum Record {
         /// How many entries of its log are kept.
         kept: u16,
     },
+    /// A controller asks for the total that its panel shows, without a message; the table stays as it is. It has no message
+    /// of its own pending.
+    LocalRead {
+        /// The controller that reads.
+        controller: u8,
+    },
 }
 
 impl Record {
@@ -50,6 +57,7 @@ impl Record {
     /// assert_eq!(Record::Report { sender: 3, amount: -2 }.bytes(), [4, 1, 3, 0xFF, 0xFE]);
     /// assert_eq!(Record::ClassedReport { sender: 3, amount: -2, class: Class::M }.bytes(), [5, 1, 3, 0xFF, 0xFE, 3]);
     /// assert_eq!(Record::Handover { receiver: 2, owner: 1 }.bytes(), [3, 3, 2, 1]);
+    /// assert_eq!(Record::LocalRead { controller: 2 }.bytes(), [2, 5, 2]);
     /// ```
     pub fn bytes(&self) -> Vec<u8> {
         match *self {
@@ -67,6 +75,7 @@ impl Record {
                 let [high, low] = kept.to_be_bytes();
                 vec![4, 4, controller, high, low]
             }
+            Record::LocalRead { controller } => vec![2, 5, controller],
         }
     }
 }

@@ -37,18 +37,19 @@ refusals! {
     (3, COUNT, "Is the number of controllers from 1 to 7?"),
     (4, TABLE, "Is the table well formed?"),
     (5, RECORD, "Are the length byte and all the bytes it counts there?"),
-    (6, KIND, "Is there a kind, from 1 to 4?"),
+    (6, KIND, "Is there a kind, from 1 to 5?"),
     (7, LENGTH, "Is the length that of the kind?"),
     (8, CONTROLLER, "Is every controller named from 1 to n?"),
     (9, AMOUNT, "Is a report's amount from -360 to 360 and not 0?"),
-    (10, STOPPED, "Is the sender, receiver or controller to be stopped still running?"),
-    (11, OWN_PENDING, "Has the sender no message of its own pending?"),
+    (10, STOPPED, "Is the sender, receiver, or controller to be stopped or read still running?"),
+    (11, OWN_PENDING, "Has the sender of a sync no message of its own pending?"),
     (12, FULL, "Has the run fewer than 64 messages?"),
     (13, NO_ENTRY, "Does the log have an entry that the receiver has not read?"),
     (14, KEPT, "Is the length kept at most the log's, and at least every read position in it?"),
     (15, SCRATCH_LENGTH, "Has the scratch area 4,096 bytes or more?"),
     (16, LISTING_LENGTH, "Does the line fit in what is left of the listing?"),
     (17, CLASS, "Is the class of a report of version 2 from 1 to 4?"),
+    (18, READ_PENDING, "Has the controller of a local read no message of its own pending?"),
 }
 
 impl Refusal {

@@ -1,4 +1,5 @@
-//! The calls as a user makes them: the worked run, a run with classes, what a refusal leaves, and the numbers' texts.
+//! The calls as a user makes them: the worked run, a run with classes, one with reports under way, what a refusal leaves, and
+//! the numbers' texts.
 
 use furnacejade::{calls, event, file_of, fresh, look, run};
 use furnacejade::{
@@ -8,6 +9,7 @@ use std::mem::size_of;
 
 const WORKED: &[u8] = include_bytes!("../../worked.run");
 const CLASSES: &[u8] = include_bytes!("../../classes.run");
+const UNDERWAY: &[u8] = include_bytes!("../../underway.run");
 
 fn name(sender: u8, number: u8) -> Name {
     Name { sender, number: MessageNumber(number) }
@@ -57,6 +59,40 @@ fn a_panel_shows_each_class() {
 }
 
 #[test]
+fn two_reports_of_one_sender_are_under_way_at_once() {
+    let (mut listing, mut scratch) = ([0; 256], [7; SCRATCH]);
+    let answer = run(UNDERWAY, &mut listing, &mut scratch);
+    assert_eq!((answer.number, answer.events), (Refusal::ACCEPTED, 13));
+    assert_eq!(&listing[..answer.written], b"4 2 30 1.1\n7 1 30 1.1\n8 1 50 1.2\n12 3 30 1.1\n13 3 50 1.2\n");
+    let (table, answers) = events_of(UNDERWAY);
+    assert_eq!(table, answer.table);
+    // Events 5 and 9 are local reads, of 2 and of 1; no other event of this run gives a total.
+    let totals: Vec<i32> = answers.iter().map(|answer| answer.total).collect();
+    assert_eq!(totals, [0, 0, 0, 0, 30, 0, 0, 0, 50, 0, 0, 0, 0]);
+    assert_eq!(answers[4], Answer { total: 30, ..Answer::BLANK });
+}
+
+#[test]
+fn a_local_read_leaves_the_table_as_it_is() {
+    let handover = Record::Handover { receiver: 1, owner: 1 }.bytes();
+    let local_read = [Record::LocalRead { controller: 1 }.bytes(), vec![9]].concat();
+    let (plain, classed) =
+        (Record::Report { sender: 1, amount: 9 }, Record::ClassedReport { sender: 1, amount: 9, class: Class::L });
+    for (version, report) in [(1, plain), (2, classed)] {
+        let (mut table, mut scratch) = (fresh(version, 1).unwrap(), [7; SCRATCH]);
+        for _ in 1..=3 {
+            event(&mut table, &report.bytes(), &mut scratch).unwrap();
+        }
+        assert_eq!(event(&mut table, &local_read, &mut scratch), Err(Refusal::READ_PENDING));
+        assert_eq!(event(&mut table, &handover, &mut scratch).unwrap().0.applied().len(), 3);
+        let before = *table.as_bytes();
+        scratch.fill(7);
+        assert_eq!(event(&mut table, &local_read, &mut scratch), Ok((Answer { total: 27, ..Answer::BLANK }, &[9][..])));
+        assert_eq!((*table.as_bytes(), scratch), (before, [0; SCRATCH]));
+    }
+}
+
+#[test]
 fn a_sync_answers_the_total_when_it_is_finished() {
     let handover = Record::Handover { receiver: 1, owner: 1 };
     let (plain, classed) =
@@ -103,11 +139,13 @@ fn a_refused_call_changes_nothing() {
         (Record::ClassedReport { sender: 1, amount: 360, class: Class(0) }.bytes(), Refusal::CLASS),
         (Record::Handover { receiver: 1, owner: 2 }.bytes(), Refusal::NO_ENTRY),
         (Record::Stop { controller: 2, kept: 256 }.bytes(), Refusal::KEPT),
+        (Record::LocalRead { controller: 0 }.bytes(), Refusal::CONTROLLER),
     ] {
         assert_eq!(event(&mut table, &bytes, &mut scratch), Err(refusal));
     }
-    let sync = Record::Sync { sender: 1 }.bytes();
-    assert_eq!(event(&mut table, &sync, &mut scratch[1..]), Err(Refusal::SCRATCH_LENGTH));
+    for record in [Record::Sync { sender: 1 }, Record::LocalRead { controller: 1 }] {
+        assert_eq!(event(&mut table, &record.bytes(), &mut scratch[1..]), Err(Refusal::SCRATCH_LENGTH));
+    }
     assert_eq!(look(&table, 0), Err(Refusal::CONTROLLER));
     assert_eq!((table, scratch), (before, [7; SCRATCH]));
 }
