@@ -155,8 +155,8 @@ fn random_files(version: usize, policy: fn(&mut Random) -> Policy) -> Vec<Vec<u8
     (0..100).map(|_| legal_file(&mut random, version, 300, policy).0).collect()
 }
 
-/// The last handover of a file to a receiver that has 64 messages pending, after which so many of them are applied, and the
-/// table before it.
+/// The last handover of a file to a receiver that has 64 messages pending, after which so many of them are applied, and
+/// the table before it.
 fn of_sixty_four(file: &[u8], applied: usize) -> (Table, Vec<u8>) {
     let (mut state, mut rest, mut last) = (State::fresh(file[0] as usize, file[1] as usize), &file[2..], None);
     while !rest.is_empty() {

@@ -179,8 +179,8 @@ fn list_head(case: &Case, engine: &dyn Engine) -> Option<(Ledger, Table)> {
     }
 }
 
-/// What breaks demand 3 in the answers of one engine. Wherever the ending speaks, looks and local reads are added to the
-/// list.
+/// What breaks demand 3 in the answers of one engine. Wherever the ending speaks, looks and local reads are added to
+/// the list.
 pub fn demand3(case: &Case, engine: &dyn Engine) -> Result<(), String> {
     let Some((mut ledger, table)) = list_head(case, engine) else { return Ok(()) };
     let mut side = Side { engine, table };

@@ -190,8 +190,8 @@ impl Ledger {
         self.expect(total == sum, || format!("{c} shows {total}, not {sum}"));
     }
 
-    /// A local read of a controller at which the ending speaks, lent enough scratch. What it gives is the ending's sum, since
-    /// it is the sum over what was applied.
+    /// A local read of a controller at which the ending speaks, lent enough scratch. What it gives is the ending's sum,
+    /// since it is the sum over what was applied.
     pub fn ending_read(&mut self, c: usize, number: u8, total: i64) {
         self.expect(number == 0, || format!("the ending: a local read of {c} is refused"));
         self.local_read(c, Some(total));

@@ -450,7 +450,8 @@ pub fn in_a_circle(n: usize) -> Vec<(usize, usize)> {
     (0..n).flat_map(|further| (0..n).map(move |r| (r + 1, (r + further) % n + 1))).collect()
 }
 
-/// 64 reports of so many senders in turn, all sent before anything is handed over; then every handover, each pair's in a row.
+/// 64 reports of so many senders in turn, all sent before anything is handed over; then every handover, each pair's in
+/// a row.
 pub fn under_way_run(version: usize, n: usize, senders: usize, turns: Turns) -> Vec<u8> {
     let mut state = State::fresh(version, n);
     let mut records: Vec<Vec<u8>> = (0..MAX_MESSAGES).map(|k| report_in(version, 1 + k % senders, 1)).collect();
@@ -468,11 +469,11 @@ pub fn under_way_run(version: usize, n: usize, senders: usize, turns: Turns) -> 
     file_of(version, n, &records)
 }
 
-/// The most that can be under way: 64 messages pending everywhere, of one sender, of seven, and in a circle, where no message
-/// goes before all others and a set has all 64. Each run is the reference's and keeps demand 3.
+/// The most that can be under way: 64 messages pending everywhere, of one sender, of seven, and in a circle, where none
+/// can be applied before the others and a set has all 64. Each run is the reference's and keeps demand 3.
 fn sixty_four_under_way(engine: &dyn Engine) -> Result<(), String> {
-    let of_one = (1..=7).map(|n| (n, 1, by_log as Turns));
-    for (n, senders, turns) in of_one.chain([(7, 7, by_log as Turns), (7, 7, in_a_circle)]) {
+    let of_one = (1..=7).map(|n| (n, 1, by_log as Turns, n == 1));
+    for (n, senders, turns, as_one) in of_one.chain([(7, 7, by_log as Turns, false), (7, 7, in_a_circle, true)]) {
         let file = under_way_run(1, n, senders, turns);
         let end = same_run(engine, &file, LISTING, SCRATCH, "64 messages under way")?;
         expect(end == (64 + 64 * n * n, 0), "64 messages under way: its events")?;
@@ -480,6 +481,9 @@ fn sixty_four_under_way(engine: &dyn Engine) -> Result<(), String> {
         let run = engine.run(&file, &mut listing, &mut [7; SCRATCH]);
         let ledger = Ledger::file(&file, run.events, &listing[..run.written]);
         expect(ledger.broken().is_none() && ledger.ended().len() == n, "64 messages under way: demand 3")?;
+        let sizes =
+            listing[..run.written].split(|byte| *byte == b'\n').map(|line| line.split(|b| *b == b'.').count() - 1);
+        expect(!as_one || sizes.max() == Some(MAX_MESSAGES), "64 messages under way: applied as one")?;
         let mut last = Script { engine, table: run.table };
         let reads = (1..=n).all(|c| last.answer(&local_read(c), SCRATCH).total == 64);
         expect(reads, "64 messages under way: local reads at the end")?;

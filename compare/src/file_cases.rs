@@ -53,8 +53,8 @@ pub fn file_limits(random: &mut Random) -> Case {
     Case { head: Head::File { bytes, listing, scratch }, calls }
 }
 
-/// A file with very many local reads, so that numbers of up to five digits stand before its last lines. Some are as long as
-/// a file may be, or end in the middle of a record. These files take long, so most turns make a short one.
+/// A file with very many local reads, so that numbers of up to five digits stand before its last lines. Some are as
+/// long as a file may be, or end in the middle of a record. These files take long, so most turns make a short one.
 pub fn file_long(random: &mut Random) -> Case {
     if !random.one_in(12) {
         return file_mangled(random);

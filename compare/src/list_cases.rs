@@ -95,8 +95,9 @@ impl Making {
     }
 }
 
-/// Several reports each of some senders, in a row and before anything is handed over; then some handovers, and local reads
-/// of all. Short ones go on to the end. Long ones, up to 64 messages, take a slow reference many comparisons, and are few.
+/// Several reports each of some senders, in a row and before anything is handed over; then some handovers, and local
+/// reads of all. Short ones go on to the end. Long ones, up to 64 messages, take a slow reference many comparisons, and
+/// are few.
 pub fn under_way(random: &mut Random) -> Case {
     let mut making = Making::fresh(any_version(random), random.pick(&[1, 2, 3, 3, 4, 5, 6, 7]));
     let n = making.state.n;
@@ -119,8 +120,8 @@ pub fn under_way(random: &mut Random) -> Case {
     making.case()
 }
 
-/// A sender with several messages pending stops. Its log is cut behind any of them that nobody has read, or of what it has
-/// forwarded in between; then all is handed over.
+/// A sender with several messages pending stops. Its log is cut behind any of them that nobody has read, or of what it
+/// has forwarded in between; then all is handed over.
 pub fn cut_off(random: &mut Random) -> Case {
     let mut making = Making::fresh(any_version(random), random.pick(&[1, 1, 2, 3, 3, 4, 5, 7]));
     let n = making.state.n;

@@ -348,7 +348,8 @@ impl State {
         Answer { total: self.total(controller), ..Answer::default() }
     }
 
-    /// Carries out an event that passed its questions. Answers the set and the total of a finished sync or a local read.
+    /// Carries out an event that passed its questions. Answers the set and the total of a finished sync or a local
+    /// read.
     fn carry_out(&mut self, event: Event) -> Answer {
         let (set, subject) = match event {
             Event::Send { sender, payload } => (self.send(sender, payload), sender),

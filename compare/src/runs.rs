@@ -5,8 +5,8 @@ use crate::records::{classed_report, handover, local_read, report, stop, sync};
 use crate::reference::{Message, Payload, State, MAX_MESSAGES, SCRATCH};
 
 /// How a run goes: one event in `send` is a send, one in `stop` a stop, one in `read` a local read, and each pair of
-/// receiver and log owner has a weight. Weights of 0 let messages pile up and let logs differ in their order. One send in
-/// `on` may be by a sender that has messages of its own pending; and while nobody has read its last report, a sender
+/// receiver and log owner has a weight. Weights of 0 let messages pile up and let logs differ in their order. One send
+/// in `on` may be by a sender that has messages of its own pending; and while nobody has read its last report, a sender
 /// reports again but for one time in `burst`.
 pub struct Policy {
     pub send: usize,

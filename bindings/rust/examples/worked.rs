@@ -1,7 +1,7 @@
 //! Plays a run file, read from standard input, event by event: the set applied, or what a local read gives, and then a
 //! look at every panel; of a file of version 2 it prints in the end what each panel shows of each class.
-//! `bindings/worked.run`, `bindings/classes.run` and `bindings/underway.run` are the runs of docs/RULES.md, sections 19,
-//! 25 and 26.
+//! `bindings/worked.run`, `bindings/classes.run` and `bindings/underway.run` are the runs of docs/RULES.md, sections
+//! 19, 25 and 26.
 
 use furnacejade::{event, fresh, look, Class, Table, SCRATCH};
 use std::error::Error;

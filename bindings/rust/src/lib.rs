@@ -30,8 +30,8 @@
 //! # }
 //! ```
 //!
-//! A sender reports on while reports of its own are under way. A local read gives a controller's total without a message,
-//! once the controller has applied all that it sent:
+//! A sender reports on while reports of its own are under way. A local read gives a controller's total without a
+//! message, once the controller has applied all that it sent:
 //!
 //! ```
 //! use furnacejade::{event, fresh, Record, Refusal, SCRATCH};
@@ -92,8 +92,8 @@ pub fn fresh(version: usize, n: usize) -> Result<Table, Refusal> {
     Ok(answer.table)
 }
 
-/// Carries out the record with which the bytes begin: the set applied and the total of a finished sync or of a local read,
-/// and the part of the bytes that is unread. The table's version says whether a report has a class byte. It needs
+/// Carries out the record with which the bytes begin: the set applied and the total of a finished sync or of a local
+/// read, and the part of the bytes that is unread. The table's version says whether a report has a class byte. It needs
 /// [`SCRATCH`] bytes of scratch, and leaves them zero. A refused event leaves table and scratch as they were.
 pub fn event<'a>(table: &mut Table, bytes: &'a [u8], scratch: &mut [u8]) -> Result<(Answer, &'a [u8]), Refusal> {
     let mut answer = Answer::BLANK;

@@ -5,7 +5,8 @@ use crate::Class;
 /// One event. Its fields may hold anything: the engine answers a record that it cannot carry out with a refusal.
 #[derive(Clone, Copy, Debug, PartialEq, Eq, Hash)]
 pub enum Record {
-    /// A sender reports an amount of eggs, -360 to 360 and not 0, in version 1. Any number of its reports may be pending.
+    /// A sender reports an amount of eggs, -360 to 360 and not 0, in version 1. Any number of its reports may be
+    /// pending.
     Report {
         /// The controller that sends it.
         sender: u8,
@@ -41,8 +42,8 @@ pub enum Record {
         /// How many entries of its log are kept.
         kept: u16,
     },
-    /// A controller asks for the total that its panel shows, without a message; the table stays as it is. It has no message
-    /// of its own pending.
+    /// A controller asks for the total that its panel shows, without a message; the table stays as it is. It has no
+    /// message of its own pending.
     LocalRead {
         /// The controller that reads.
         controller: u8,

@@ -1,5 +1,5 @@
-//! The calls as a user makes them: the worked run, a run with classes, one with reports under way, what a refusal leaves, and
-//! the numbers' texts.
+//! The calls as a user makes them: the worked run, a run with classes, one with reports under way, what a refusal
+//! leaves, and the numbers' texts.
 
 use furnacejade::{calls, event, file_of, fresh, look, run};
 use furnacejade::{
