@@ -32,7 +32,7 @@ use Rattle.events.specs.declared.effects.Effect.{Effect}
 use Rattle.events.specs.declared.files.Cursor.{Cursor}
 use Rattle.events.specs.declared.files.Advance.{Advance}
 use Rattle.events.specs.Effects.{Leaves, effectOf, Effected}
-use Rattle.events.specs.Turns.{progressOf, ended, Before, turned, Turned}
+use Rattle.events.specs.Turns.{progressOf, ended, ReadPast, Before, turned, Turned}
 use Rattle.events.proofs.Subjects.{line-shown}
 use Rattle.events.proofs.Asking.{allowed}
 
@@ -119,20 +119,19 @@ module _ (c : Cursor) (t : Table) (s l w : List ℕ) (b : Before c t s l) where
       unfolding firstNo lineFits
       verdict-said = verdict-accepted number-said ∙ rw (no-line-said, le-leb 0 space (omega arith)) refl
 
-      pub turn-read : (u : ℕ) → u ≡ size s + 1 → (y : Controller) (v : List ℕ) → v ≡ cleared w
-          → Turned c t s l w (record { cursor = record { number = 0; events = c .events + 1; written = c .written }; used = u; controller = y }) l v
+      pub turn-read : (u : ℕ) → u ≡ size s + 1 → (y : Controller) (v : List ℕ) (a : Advance) → ReadPast c y u w a v → Turned c t s l w a l v
       unfolding turned progressOf overlay
-      turn-read u eu y v ev =
+      turn-read u eu y v a r =
           let on = advance-gone so-far s (length w) (length l) verdict-said in
-          record {
+          rw (r .advance) (record {
             number = rw on refl;
             events = rw on refl;
             written = rw (on, no-line-said, append-nil (take (c .written) l)) (sym lines-length);
             used = rw on eu;
             leaves = λ _ e q. absurd (act-not-read e o (sym q ∙ eo));
             listed = rw (on, no-line-said, append-nil (take (c .written) l), lines-length) (sym (take-append-drop (c .written) l));
-            clear = scratch-said v ev;
-          }
+            clear = scratch-said v (r .clear);
+          })
 
   module _ (z : Sized t) (passed : firstNo (stepQuestions t s (length w)) ≡ 0) (e : Event) (ee : decode (t .version) s ≡ Act e)
       (d : Effect) (v : List ℕ) (a : Effected t e w d v) where

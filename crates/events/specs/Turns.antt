@@ -9,8 +9,9 @@ use Rattle.lists.specs.Build.{overlay}
 use Rattle.model.specs.Events.{subject}
 use Rattle.model.specs.Records.{size, decode}
 use Rattle.model.specs.WellFormed.{wellFormed}
-use Rattle.model.specs.Calls.{step, scratchAfter}
+use Rattle.model.specs.Calls.{step, cleared, scratchAfter}
 use Rattle.model.specs.Runs.{Progress, advance, progress, ran}
+use Rattle.model.specs.declared.Controller.{Controller}
 use Rattle.model.specs.declared.Table.{Table}
 use Rattle.model.specs.declared.Event.{Event}
 use Rattle.model.specs.declared.Command.{Command}
@@ -36,6 +37,11 @@ progressOf c t l = record { number = c .number; events = c .events; lines = take
 
 unfoldable pub ended : Cursor → ℕ → Cursor
 ended c k = record { number = k; events = c .events; written = c .written }
+
+-- what an accepted local read answers, and what it leaves of the scratch area w: one event more
+pub record ReadPast (c : Cursor) (x : Controller) (used : ℕ) (w : List ℕ) (answer : Advance) (scratch : List ℕ) : Type 0 where
+  pub advance : answer ≡ record { cursor = record { number = 0; events = c .events + 1; written = c .written }; used = used; controller = x }
+  pub clear : scratch ≡ cleared w
 
 -- what a turn relies on: with the table t, the bytes s left and the listing l
 pub record Before (c : Cursor) (t : Table) (s l : List ℕ) : Type 0 where

@@ -1,12 +1,13 @@
 // The file run: its records one after the other, each carried out, listed and stored in place, until the first refusal.
 ghost use mathlib.Core.Path.{_≡_};
+ghost use Prim.Native.Nat.{_≤_};
 ghost use lib.ListN.{take};
 ghost use Rattle.model.specs.Events.{subject, total};
 ghost use Rattle.model.specs.Questions.{firstNo, fileQuestions};
 ghost use Rattle.model.specs.Runs.{lineOf};
 ghost use Rattle.listing.specs.Writing.{Wrote};
 ghost use Rattle.events.specs.Reading.{Found};
-ghost use Rattle.events.specs.Turns.{aheadOf, ended, Before, Turned, Ran};
+ghost use Rattle.events.specs.Turns.{aheadOf, ended, ReadPast, Before, Turned, Ran};
 ghost use Rattle.events.specs.Stepped.{Runs};
 use crate::effects;
 use crate::effects::Effect;
@@ -92,8 +93,25 @@ fn ended(cursor: Cursor, number: u8) -> Cursor
     }
 }
 
+// A local read counts as an event and zeroes scratch. It has no line, and its total is not asked for.
+fn read_past(cursor: Cursor, x: Controller, used: usize, scratch: &mut [u8]) -> Advance
+    requires { ⌜ cursor .events ≤ 65535 ⌝ }
+    ensures { λ r. ⌜ ReadPast cursor x used (now (scratch .entry)) r (now (scratch .exit)) ⌝ }
+{
+    delivery::clear(scratch);
+    Advance {
+        cursor: Cursor {
+            number: refusal::ACCEPTED,
+            events: cursor.events + 1,
+            written: cursor.written,
+        },
+        used,
+        controller: x,
+    }
+}
+
 // Carries out the record that was read off the bytes left, and lists it; a refusal ends the run. Its event's subject is x, and it
-// reads the log of y. A local read has no line, and its total is not asked for.
+// reads the log of y.
 fn turn(
     cursor: Cursor,
     t: Table,
@@ -118,16 +136,7 @@ fn turn(
     }
     let command = found.command;
     let Command::Act(event) = command else {
-        delivery::clear(scratch);
-        return Advance {
-            cursor: Cursor {
-                number: refusal::ACCEPTED,
-                events: cursor.events + 1,
-                written: start,
-            },
-            used: found.used,
-            controller: x,
-        };
+        return read_past(cursor, x, found.used, scratch);
     };
     let done = effects::carry_out(t, x, y, event, scratch);
     let controller = done.controller;

@@ -25,7 +25,7 @@ use Rattle.events.proofs.files.turn.Tie as tie
 abbrev line : tie.After-slice-known5 → tie.After-list-line
 line c = c .before .before
 
-abbrev carried : tie.After-struct-known2 → tie.After-carry-out
+abbrev carried : tie.After-struct-known → tie.After-carry-out
 carried c = c .before .before .before .before .before
 
 abbrev commanded : tie.After-carry-out-arg → tie.After-command
@@ -94,22 +94,19 @@ enum-known-command c = search needs
 enum-told : tie.Need-enum-told
 enum-told c = search needs
 
-clear-requires : tie.Need-clear-requires
-clear-requires c κs = search needs
-
-add-t24 : tie.Need-add-t24
-add-t24 c = omega (arith, begin (c .before .before .before .before .before .before .before) .pre .0 .few)
+read-past-requires : tie.Need-read-past-requires
+read-past-requires c κs = omega (arith, begin (c .before .before .before) .pre .0 .few)
 
 same-length : tie.Need-same-length
 same-length c = search needs
 
 returns-2 : tie.Need-returns-2
 returns-2 c =
-    let d = c .before .before .before in
+    let d = c .before .before in
     let k = d .before .before in
     let s = begin (k .before .before) in
     let p = passed (k .before .before) in
-    turn-read _ _ _ _ _ (s .pre .0) p _ (read-is k) _ (used-read _ _ _ _ (record-is s) p) _ _ (d .clear .ensures)
+    turn-read _ _ _ _ _ (s .pre .0) p _ (read-is k) _ (used-read _ _ _ _ (record-is s) p) _ _ _ (d .read-past .ensures)
 
 carry-out-requires : tie.Need-carry-out-requires
 carry-out-requires c κs =
@@ -151,8 +148,8 @@ returns-3 c =
     let s = begin (asked k) in
     turn-full _ _ _ _ _ (s .pre .0) (sized s) (passed (asked k)) _ (event-is k) _ _ (d .carry-out .ensures) _ _ (n .list-line .ensures) (c .before .if2 .taken) _ (c .ended2 .ensures) _
 
-add-t31 : tie.Need-add-t31
-add-t31 c = add-list-line (line (c .before .before) .before)
+add-t28 : tie.Need-add-t28
+add-t28 c = add-list-line (line (c .before .before) .before)
 
 add-t17 : tie.Need-add-t17
 add-t17 c =
@@ -189,8 +186,7 @@ turn-spec =
     returns
     enum-known-command
     enum-told
-    clear-requires
-    add-t24
+    read-past-requires
     same-length
     returns-2
     carry-out-requires
@@ -203,7 +199,7 @@ turn-spec =
     same-length-2
     same-length-3
     returns-3
-    add-t31
+    add-t28
     add-t17
     same-length-4
     same-length-5
