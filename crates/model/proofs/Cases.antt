@@ -168,11 +168,12 @@ three : List (List ℕ)
 unfolding report handover
 three = report 1 5 ∷ report 2 5 ∷ report 3 5 ∷ handover 1 2 ∷ handover 1 3 ∷ handover 2 1 ∷ handover 2 1 ∷ []
 
--- k messages of a machine of one, each applied: the first of the sets is that of message x
+-- k reports of one sender, all under way
 full : ℕ → List (List ℕ)
-unfolding report handover times
-full k = times k (report 1 1 ∷ handover 1 1 ∷ [])
+unfolding report times
+full k = times k (report 1 1 ∷ [])
 
+-- the sets of k messages of a machine of one, each applied before the next is sent; x is the first
 each : ℕ → ℕ → List (List ℕ)
 each zero x = []
 each (suc k) x = [] ∷ (x ∷ []) ∷ each k (suc x)
@@ -208,8 +209,7 @@ table =
     ∷ quiet₂ 2 (classed 2 1 1 ∷ []) (handover 1 2) 4096 0 2
     -- P: a second report while the first is pending, and the 64th; a sync is refused
     ∷ quiet 2 (report 1 1 ∷ []) (report 1 1) 4096 0 2
-    ∷ quiet 2 (times 63 (report 1 1 ∷ [])) (report 1 1) 4096 0 64
-    ∷ quiet 2 (times 64 (report 1 1 ∷ [])) (report 1 1) 0 12 64
+    ∷ quiet 2 (full 63) (report 1 1) 4096 0 64
     ∷ quiet 2 (report 1 1 ∷ []) (sync 1) 4096 11 1
     ∷ quiet 2 (report 1 1 ∷ report 1 1 ∷ []) (sync 1) 4096 11 2
     -- so is a sync after a sync, but not a report
@@ -270,15 +270,14 @@ table =
     ∷ quiet₂ 2 (stop 1 0 ∷ []) (classed 1 361 5) 0 9 1
     ∷ quiet₂ 2 (stop 1 0 ∷ []) (classed 1 360 5) 0 17 1
     ∷ quiet₂ 2 (stop 1 0 ∷ []) (classed 1 360 4) 0 10 1
-    -- P: the 64th message is accepted, and the 65th gives 12
-    ∷ case 1 (full 63) (report 1 1) 4096 0 (each 63 101 ++ ([] ∷ []))
-    ∷ case 1 (full 64) (report 1 1) 0 12 (each 64 101)
+    -- P: the 64th message is accepted (above), and the 65th gives 12
+    ∷ quiet 2 (full 64) (report 1 1) 0 12 64
     ∷ quiet 1 [] (report 1 1) 4095 15 0
     -- a sync: 8 before 10 before 11 before 12 before 15; no controller 8 runs
     ∷ quiet 2 [] (sync 8) 0 8 0
     ∷ quiet 2 (report 1 1 ∷ stop 1 1 ∷ []) (sync 1) 0 10 2
-    ∷ case 1 (full 63 ++ (report 1 1 ∷ [])) (sync 1) 0 11 (each 63 101 ++ ([] ∷ []))
-    ∷ case 1 (full 64) (sync 1) 0 12 (each 64 101)
+    ∷ quiet 2 (full 64) (sync 1) 0 11 64
+    ∷ quiet 2 (full 64) (sync 2) 0 12 64
     ∷ quiet 1 [] (sync 1) 4095 15 0
     -- a handover: 8 before 10 before 13 before 15
     ∷ quiet 2 (stop 1 0 ∷ []) (handover 1 3) 0 8 1
