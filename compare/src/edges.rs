@@ -261,13 +261,20 @@ fn runs(engine: &dyn Engine) -> Result<(), String> {
     Ok(())
 }
 
-fn majority_of_four(engine: &dyn Engine) -> Result<(), String> {
-    let mut s = Script::fresh(engine, 1, 4);
-    s.number(report(1, 5));
-    s.number(handover(2, 1));
-    s.number(handover(3, 1));
-    expect(s.event(handover(1, 2)) == (0, vec![]), "n = 4, two marks")?;
-    expect(s.event(handover(1, 3)) == (0, vec![(1, 1)]), "n = 4, three marks")
+/// A report that is alone in panel 1's buffer is applied there with the marks of a majority, and not with one fewer.
+fn majorities(engine: &dyn Engine) -> Result<(), String> {
+    for (n, majority) in (1..).zip([1, 2, 2, 3, 3, 4, 4]) {
+        let mut s = Script::fresh(engine, 1, n);
+        s.number(report(1, 5));
+        for marks in 1..=majority {
+            if marks > 1 {
+                s.number(handover(marks, 1));
+            }
+            let applied = if marks == majority { vec![(1, 1)] } else { vec![] };
+            expect(s.event(handover(1, marks)) == (0, applied), &format!("n = {n}, {marks} marks"))?;
+        }
+    }
+    Ok(())
 }
 
 fn sixty_four_messages(engine: &dyn Engine) -> Result<(), String> {
@@ -540,7 +547,7 @@ pub fn check(engine: &dyn Engine) -> Result<(), String> {
     versions(engine)?;
     marks_above_n(engine)?;
     runs(engine)?;
-    majority_of_four(engine)?;
+    majorities(engine)?;
     sixty_four_messages(engine)?;
     amounts(engine)?;
     classes(engine)?;

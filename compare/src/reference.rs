@@ -9,7 +9,6 @@ pub const MAX_MESSAGES: usize = 64;
 pub const CLASSES: usize = 5;
 pub const SCRATCH: usize = 4096;
 pub const LISTING: usize = 16_384;
-const MAJORITY: [usize; MAX_CONTROLLERS] = [1, 2, 2, 3, 3, 4, 4];
 
 /// Absent is greater than every forward number, and not less than absent.
 const ABSENT: usize = usize::MAX;
@@ -165,10 +164,15 @@ fn classed(event: &Event, version: usize) -> bool {
 
 // ---------- the set that is applied ----------
 
+/// Half of n rounded down, plus one.
+fn majority(n: usize) -> usize {
+    n / 2 + 1
+}
+
 /// Do at least as many of the controllers 1 to n as a majority has say yes?
 fn majority_says(n: usize, yes: impl Fn(usize) -> bool) -> bool {
     let count = (0..n).filter(|f| yes(*f)).count();
-    count >= MAJORITY[n - 1]
+    count >= majority(n)
 }
 
 /// "Goes before" (line 16): a majority has a smaller forward number for x than for y.

@@ -4,18 +4,15 @@ use mathlib.Core.Bool.{true}
 use mathlib.Core.Logic.{_⊎_, inl, inr, _↔_}
 use Prim.Native.Nat.{ℕ, suc, _+_, _-_, _*_, min, _≤_, _<_}
 use native.Mathlib.Omega.{arith}
-use lib.ListN.{getD}
-use lib.Dec.{leb}
-use borrow.Author.Tests.{leb-true}
-use Rattle.lists.specs.Below.{count, all}
+use Rattle.lists.specs.Below.{count}
 use Rattle.lists.proofs.Tests.{contradiction, refuted, or-cases}
-use Rattle.lists.proofs.Below.{all-at, count-ext}
+use Rattle.lists.proofs.Below.{count-ext}
 use Rattle.model.specs.Tables.{seats, yes?, at, message, slotAt, place, held, applied}
 use Rattle.model.specs.WellFormed.{inLog}
 use Rattle.model.specs.declared.Controller.{Controller}
 use Rattle.model.specs.declared.Table.{Table}
 use Rattle.model.specs.Facts.{Among, GoodController, WellFormed}
-use Rattle.model.specs.Delivery.{majorities, majority}
+use Rattle.model.specs.Delivery.{majority}
 use Rattle.invariant.proofs.Stores.{seated}
 use Rattle.invariant.proofs.Logs.{in-log-at, in-log-of}
 use Rattle.broadcast.specs.State.{State}
@@ -83,13 +80,6 @@ module _ (n : ℕ) (t : Table) (w : WellFormed t) (s : State) (v : Invariant (sy
 
 -- THE WHOLE TABLE
 
--- a majority is no more than half of n, and one
-majority-least : (n : ℕ) → n ≤ seats → 2 * majority n ≤ n + 2
-unfolding majority all
-majority-least n h =
-    let m : min n seats ≡ n = omega arith in
-    rw m (leb-true (2 * getD majorities n 0) (n + 2) (all-at 8 (λ k. leb (2 * getD majorities k 0) (k + 2)) refl n (omega arith)))
-
 module _ {n : ℕ} {t : Table} {s : State} (g : Related n t s) where
   abbrev v : Invariant (system n) s
   v = g .all .invariant
@@ -144,6 +134,7 @@ module _ {n : ℕ} {t : Table} {s : State} (g : Related n t s) where
 
   -- more than half run: a quorum does
   pub quorum-runs : n < 2 * count n (λ i. yes? (at t (suc i) .running)) → majority n ≤ count (min n seats) (s .running)
+  unfolding majority
   quorum-runs h =
       let m : min n seats ≡ n = omega (arith, few) in
-      rw m (omega (arith, majority-least n few, count-ext n (s .running) (λ i. yes? (at t (suc i) .running)) (λ i l. g .controllers i l .running)))
+      rw m (omega (arith, count-ext n (s .running) (λ i. yes? (at t (suc i) .running)) (λ i l. g .controllers i l .running)))

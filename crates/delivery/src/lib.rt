@@ -12,13 +12,11 @@ use model::ForwardNumber;
 use model::Pending;
 use model::Table;
 
-const MAJORITIES: [usize; 8] = [1, 1, 2, 2, 3, 3, 4, 4];
-
+// More than half of n controllers.
 fn majority(n: usize) -> usize
     ensures { λ r. ⌜ r ≡ majority n ⌝ }
 {
-    let index = numbers::at_most(n, Table::CONTROLLERS);
-    MAJORITIES[index]
+    n / 2 + 1
 }
 
 // How many of n controllers have forwarded the message, as far as is known here.

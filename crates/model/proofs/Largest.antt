@@ -3,7 +3,7 @@
 use mathlib.Core.Path.{_≡_, refl, sym, _∙_}
 use mathlib.Core.Logic.{_≢_}
 use mathlib.Core.Bool.{Bool, true, false, not, _&&_, _||_, true≢false, false≢true}
-use mathlib.Core.List.{List}
+use mathlib.Core.List.{List, [], _∷_}
 use Prim.Native.Nat.{ℕ, zero, suc, min, _+_, _≤_, _<_}
 use native.Mathlib.Omega.{arith}
 use native.Mathlib.Decide.{ℕ-discrete}
@@ -11,13 +11,13 @@ use lib.ListN.{length, getD, set, length-set}
 use lib.Seq.{ext-getD, getD-set-same, getD-set-other}
 use lib.Dec.{eqb, leb, ltb}
 use borrow.Author.Tests.{eqb-true, eqb-false, ltb-true, leb-true}
-use Rattle.lists.specs.Below.{count, all, Within}
-use Rattle.lists.specs.Build.{tabulate}
+use Rattle.lists.specs.Below.{count, Within}
+use Rattle.lists.specs.Build.{tabulateFrom, tabulate}
 use Rattle.lists.proofs.Tests.{cond-case, and-left, and-right, both, bool-eq, contradiction}
 use Rattle.lists.proofs.Below.{all-at, all-of, count-le, count-eq, count-pos, count-bound, apart-count}
 use Rattle.lists.proofs.Build.{length-tabulate, getD-tabulate}
 use Rattle.model.specs.Tables.{seats, capacity, yes?, entry, mark}
-use Rattle.model.specs.Delivery.{Slots, has, clears, round, settle, largest, majorities, majority, markCount, beforeCount, goesBefore, applicable}
+use Rattle.model.specs.Delivery.{Slots, has, clears, round, settle, largest, majority, markCount, beforeCount, goesBefore, applicable}
 use Rattle.model.specs.Largest.{Closed, Largest, Reached, candidates, removal, inBuffer, candidate, precedes}
 use Rattle.model.specs.declared.Pending.{Pending}
 
@@ -159,11 +159,15 @@ module _ (n : ℕ) (P : List Pending) where
 
 -- MAJORITIES
 
+-- 1, 2, 2, 3, 3, 4, 4 for n from 1 to 7, and 1 for none
+pub majority-listed : (n : ℕ) → n ≤ 7 → majority n ≡ getD (1 ∷ 1 ∷ 2 ∷ 2 ∷ 3 ∷ 3 ∷ 4 ∷ 4 ∷ []) n 0
+unfolding majority tabulate tabulateFrom
+majority-listed n h = sym (getD-tabulate 8 majority 0 n (omega arith))
+
 -- twice a majority is more than all, for every table
 pub majority-more : (n : ℕ) → min n seats < majority n + majority n
-unfolding majority all
-majority-more n =
-    ltb-true (min n seats) (majority n + majority n) (all-at 8 (λ k. ltb k (getD majorities k 0 + getD majorities k 0)) refl (min n seats) (omega arith))
+unfolding majority
+majority-more n = omega arith
 
 -- two majorities meet, so two messages do not each go before the other
 pub not-both-before : (n : ℕ) (p q : Pending) → goesBefore n p q ≡ true → goesBefore n q p ≡ true → ⊥

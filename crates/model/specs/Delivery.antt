@@ -1,8 +1,8 @@
 -- Lines 15 and 16 of Algorithm 1: the set of buffered messages that a controller applies.
 -- It is the largest set of RULES.md, section 8 (Apply), as Largest.antt says it: proofs/Largest.antt.
-use Prim.Native.Nat.{ℕ, zero, suc, min}
+use Prim.Native.Nat.{ℕ, zero, suc, _+_, _/_, min}
 use mathlib.Core.Bool.{Bool, false, not, _&&_, _||_, cond}
-use mathlib.Core.List.{List, [], _∷_}
+use mathlib.Core.List.{List}
 use lib.ListN.{getD}
 use lib.Dec.{eqb, leb, ltb}
 use Rattle.lists.specs.Below.{count, all}
@@ -10,12 +10,9 @@ use Rattle.lists.specs.Build.{tabulate}
 use Rattle.model.specs.Tables.{seats, capacity, absent, yes?, entry, mark}
 use Rattle.model.specs.declared.Pending.{Pending}
 
--- more than half of n controllers, for n from 0 to 7; a table has no more
-abbrev pub majorities : List ℕ
-majorities = 1 ∷ 1 ∷ 2 ∷ 2 ∷ 3 ∷ 3 ∷ 4 ∷ 4 ∷ []
-
+-- more than half of n controllers: half of n rounded down, plus one
 unfoldable pub majority : ℕ → ℕ
-majority n = getD majorities (min n seats) 0
+majority n = n / 2 + 1
 
 -- how many of n controllers have forwarded the message, as far as is known here
 unfoldable pub markCount : ℕ → Pending → ℕ
