@@ -168,6 +168,17 @@ three : List (List ℕ)
 unfolding report handover
 three = report 1 5 ∷ report 2 5 ∷ report 3 5 ∷ handover 1 2 ∷ handover 1 3 ∷ handover 2 1 ∷ handover 2 1 ∷ []
 
+-- a report of 1, which 1 has read in the logs of all below k, and k has in its log
+backed : ℕ → List (List ℕ)
+unfolding report handover
+backed zero = []
+backed (suc zero) = report 1 5 ∷ []
+backed (suc (suc k)) = backed (suc k) ++ (handover 1 (suc k) ∷ handover (suc (suc k)) 1 ∷ [])
+
+-- of n controllers, it takes the marks of m to apply a report
+abbrev takes : ℕ → ℕ → Row
+takes n m = case n (backed m) (handover 1 m) 4096 0 (times (2 * m - 1) ([] ∷ []) ++ ((101 ∷ []) ∷ []))
+
 -- k reports of one sender, all under way
 full : ℕ → List (List ℕ)
 unfolding report times
@@ -179,7 +190,7 @@ each zero x = []
 each (suc k) x = [] ∷ (x ∷ []) ∷ each k (suc x)
 
 table : List Row
-unfolding report classed sync handover stop local minus times worked graded gradedSets underway further underwaySets three full each none
+unfolding report classed sync handover stop local minus times worked graded gradedSets underway further underwaySets three backed full each none
 table =
     -- P: the sets of the worked run; event 10 applies nothing
     case 3 worked (handover 3 1) 4096 0 ([] ∷ [] ∷ [] ∷ (101 ∷ []) ∷ [] ∷ [] ∷ (101 ∷ []) ∷ (301 ∷ []) ∷ [] ∷ [] ∷ (101 ∷ 301 ∷ []) ∷ [])
@@ -188,6 +199,12 @@ table =
     ∷ case 4 (report 1 5 ∷ handover 1 1 ∷ handover 2 1 ∷ handover 1 2 ∷ handover 3 1 ∷ []) (handover 1 3) 4096 0 ([] ∷ [] ∷ [] ∷ [] ∷ [] ∷ (101 ∷ []) ∷ [])
     -- P: n = 1
     ∷ case 1 (report 1 5 ∷ []) (handover 1 1) 4096 0 ([] ∷ (101 ∷ []) ∷ [])
+    -- P: and so for each other n
+    ∷ takes 2 2
+    ∷ takes 3 2
+    ∷ takes 5 3
+    ∷ takes 6 4
+    ∷ takes 7 4
     -- P: amounts
     ∷ quiet 1 [] (report 1 360) 4096 0 1
     ∷ quiet 1 [] (report 1 361) 4096 9 0
@@ -350,5 +367,5 @@ pub record AllCases : Type 0 where
   hold : results table ≡ expected table
 
 pub all-cases : AllCases
-unfolding computed flatten results expected table called played given report classed sync handover stop local minus times worked graded gradedSets underway further underwaySets three full each none
+unfolding computed flatten results expected table called played given report classed sync handover stop local minus times worked graded gradedSets underway further underwaySets three backed full each none
 all-cases = record { hold = refl }
