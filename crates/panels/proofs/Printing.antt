@@ -18,6 +18,7 @@ use Rattle.model.specs.Runs.{header, footer, Progress, RunOutcome, progress, ra
 use Rattle.model.specs.declared.RunAnswer.{RunAnswer}
 use Rattle.model.proofs.Lengths.{header-bound, footer-bound}
 use Rattle.model.proofs.Steps.{file-run-ran}
+use Rattle.invariant.proofs.Listing.{listing-fits}
 use Rattle.listing.specs.declared.Put.{Put}
 use Rattle.listing.specs.Writing.{putAnswer, tailAfter, Wrote}
 use Rattle.panels.specs.Printed.{printed}
@@ -65,6 +66,10 @@ laid-behind {x} {l} {t} {k} y m j h p e = record {
 
 abbrev lent : List ℕ → Progress
 lent s = progress s 4096 16384
+
+-- no file fills the listing: question 16 refuses no record of it
+pub never-16 : (s : List ℕ) → firstNo (fileQuestions s) ≡ 0 → lent s .number ≢ 16
+never-16 s e = listing-fits s 4096 16384 e (omega arith) .0
 
 pub only-end : (s l t : List ℕ) (k : ℕ) (q : Put) → k ≡ firstNo (fileQuestions s) → k ≢ 0 → k < 256 → length l ≡ 16448
     → Wrote (footer 0 k) l t q → take (q .written) t ≡ printed s
