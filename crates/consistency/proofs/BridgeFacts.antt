@@ -13,6 +13,7 @@ use Rattle.model.specs.declared.Controller.{Controller}
 use Rattle.model.specs.declared.Table.{Table}
 use Rattle.model.specs.Facts.{Among, GoodController, WellFormed}
 use Rattle.model.specs.Delivery.{majority}
+use Rattle.model.proofs.Largest.{majority-half}
 use Rattle.invariant.proofs.Stores.{seated}
 use Rattle.invariant.proofs.Logs.{in-log-at, in-log-of}
 use Rattle.broadcast.specs.State.{State}
@@ -134,7 +135,6 @@ module _ {n : ℕ} {t : Table} {s : State} (g : Related n t s) where
 
   -- more than half run: a quorum does
   pub quorum-runs : n < 2 * count n (λ i. yes? (at t (suc i) .running)) → majority n ≤ count (min n seats) (s .running)
-  unfolding majority
   quorum-runs h =
       let m : min n seats ≡ n = omega (arith, few) in
-      rw m (omega (arith, count-ext n (s .running) (λ i. yes? (at t (suc i) .running)) (λ i l. g .controllers i l .running)))
+      rw m (majority-half n _ .1 (omega (arith, count-ext n (s .running) (λ i. yes? (at t (suc i) .running)) (λ i l. g .controllers i l .running))))

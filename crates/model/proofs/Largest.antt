@@ -1,10 +1,10 @@
 -- The set applied is closed, contains every closed set, and is the only set with both: for every table, well formed or not.
 -- Line 16's own loop, which removes one message at a time in any order, ends in it too: `removals-end`. Assumes nothing.
 use mathlib.Core.Path.{_≡_, refl, sym, _∙_}
-use mathlib.Core.Logic.{_≢_}
+use mathlib.Core.Logic.{_≢_, _↔_}
 use mathlib.Core.Bool.{Bool, true, false, not, _&&_, _||_, true≢false, false≢true}
 use mathlib.Core.List.{List, [], _∷_}
-use Prim.Native.Nat.{ℕ, zero, suc, min, _+_, _≤_, _<_}
+use Prim.Native.Nat.{ℕ, zero, suc, min, _+_, _*_, _≤_, _<_}
 use native.Mathlib.Omega.{arith}
 use native.Mathlib.Decide.{ℕ-discrete}
 use lib.ListN.{length, getD, set, length-set}
@@ -158,6 +158,11 @@ module _ (n : ℕ) (P : List Pending) where
   applicable-held s h m = and-left (inBuffer n P s) (candidate n P s) (applicable-largest .closed .chosen s h m)
 
 -- MAJORITIES
+
+-- lines 15 and 16 ask for more than n/2: that is at least a majority, for every n
+pub majority-half : (n k : ℕ) → (majority n ≤ k) ↔ (n < 2 * k)
+unfolding majority
+majority-half n k = ((λ h. omega arith), (λ h. omega arith))
 
 -- 1, 2, 2, 3, 3, 4, 4 for n from 1 to 7, and 1 for none
 pub majority-listed : (n : ℕ) → n ≤ 7 → majority n ≡ getD (1 ∷ 1 ∷ 2 ∷ 2 ∷ 3 ∷ 3 ∷ 4 ∷ 4 ∷ []) n 0
