@@ -6,17 +6,18 @@ use mathlib.Core.Logic.{_⊎_}
 use mathlib.Core.Bool.{Bool, true, false, _&&_, _||_, cond}
 use mathlib.Core.List.{List, [], _∷_, _++_, map, flatMap, flatten, foldl}
 use lib.ListN.{length, getD, take, drop}
-use lib.IntN.{ℤ, pos, _+ℤ_, _-ℤ_}
+use lib.IntN.{ℤ, pos, negsuc, _-ℤ_}
 use lib.Dec.{eqb, ltb}
 use Rattle.lists.specs.Below.{count}
 use Rattle.lists.specs.Build.{tabulate}
-use Rattle.model.specs.Tables.{classCount, scratchSize, messageNumber, noName, Among}
+use Rattle.model.specs.Tables.{classCount, scratchSize, messageNumber, noName, noSums, Among}
 use Rattle.model.specs.Records.{byte, kind, word, behind, decode}
 use Rattle.model.specs.Questions.{firstNo, fileQuestions}
 use Rattle.model.specs.Calls.{EventAnswer, event, freshTable, look}
 use Rattle.model.specs.Runs.{RunOutcome, fileRun}
 use Rattle.model.specs.declared.Name.{Name}
 use Rattle.model.specs.declared.Payload.{Payload}
+use Rattle.model.specs.declared.Sums.{Sums}
 use Rattle.model.specs.declared.Panel.{Panel}
 use Rattle.model.specs.declared.Table.{Table}
 use Rattle.model.specs.declared.Event.{Event}
@@ -59,12 +60,17 @@ pub data Call : Type 0 where
   singleEvent : (bytes scratch : List ℕ) → Call
   panelLook : (controller : ℕ) → Call
 
+-- what a listing line says: the set applied, and the two sums
+pub record Line : Type 0 where
+  pub set : List Name
+  pub sums : Sums
+
 -- "Its words are read from the calls' arguments and answers, never from the stored table." A call's arguments with its answer; or
--- a record that a file run accepted, with the set of its listing line.
+-- a record that a file run accepted, with its listing line.
 pub data Entry : Type 0 where
   answered : (bytes scratch : List ℕ) → EventAnswer → Entry
   looked : (controller : ℕ) → LookAnswer → Entry
-  listed : (bytes : List ℕ) (set : List Name) → Entry
+  listed : (bytes : List ℕ) → Line → Entry
 
 unfoldable pub entry : Table → Call → Entry
 entry t (singleEvent s w) = answered s w (event t s (length w) .answer)
@@ -112,7 +118,7 @@ stepsOf r (Read c) ms = []
 unfoldable pub steps : ℕ → Entry → List Step
 steps v (answered s w a) = cond (eqb (a .number) 0) (stepsOf (said v s) (decode v s) (a .names)) []
 steps v (looked c a) = []
-steps v (listed s ms) = stepsOf (said v s) (decode v s) ms
+steps v (listed s x) = stepsOf (said v s) (decode v s) (x .set)
 
 -- what entries did
 abbrev pub did : ℕ → List Entry → List Step
@@ -194,25 +200,43 @@ sentNames l = map (λ m. m .name) (l .sent)
 abbrev pub remaining : Ledger → List Name
 remaining l = less (sentNames l) (l .cut)
 
--- a figure of a message: its amount; or its amount if it is of class k, and else 0
-abbrev pub amountOf : Sent → ℤ
-amountOf x = x .amount
+-- the sum of a weight of messages
+unfoldable pub weightOf : (Sent → ℕ) → List Sent → Name → ℕ
+weightOf w [] m = 0
+weightOf w (x ∷ xs) m = cond (same m (x .name)) (w x) (weightOf w xs m)
 
-abbrev pub amountInClass : ℕ → Sent → ℤ
-amountInClass k x = cond (eqb (x .class) k) (x .amount) (pos 0)
+unfoldable pub weights : (Sent → ℕ) → List Sent → List Name → ℕ
+weights w xs [] = 0
+weights w xs (m ∷ ms) = weightOf w xs m + weights w xs ms
 
--- the sum of a figure of messages
-unfoldable pub figureOf : (Sent → ℤ) → List Sent → Name → ℤ
-figureOf f [] m = pos 0
-figureOf f (x ∷ xs) m = cond (same m (x .name)) (f x) (figureOf f xs m)
+-- the parts of an amount: above 0, and below 0 with the sign dropped
+unfoldable pub above : ℤ → ℕ
+above (pos x) = x
+above (negsuc x) = 0
 
-unfoldable pub figures : (Sent → ℤ) → List Sent → List Name → ℤ
-figures f xs [] = pos 0
-figures f xs (m ∷ ms) = figureOf f xs m +ℤ figures f xs ms
+unfoldable pub below : ℤ → ℕ
+below (pos x) = 0
+below (negsuc x) = suc x
 
--- the panel of messages: the sum of their amounts, and for each class of the amounts of that class
+-- "demand 3 is read for each, over its own part of the amounts"
+abbrev pub bothOf : ((Sent → ℕ) → ℕ) → Sums
+bothOf f = record { added = f (λ x. above (x .amount)); withdrawn = f (λ x. below (x .amount)) }
+
+-- a weight of the messages of class k alone
+abbrev pub ofClass : ℕ → (Sent → ℕ) → Sent → ℕ
+ofClass k w x = cond (eqb (x .class) k) (w x) 0
+
+-- the panel of messages: the sums over them, and for each class over those of that class
 unfoldable pub showing : List Sent → List Name → Panel
-showing xs ms = record { total = figures amountOf xs ms; classes = tabulate classCount (λ k. figures (amountInClass k) xs ms) }
+showing xs ms = record {
+  sums = bothOf (λ w. weights w xs ms);
+  classes = tabulate classCount (λ k. bothOf (λ w. weights (ofClass k w) xs ms));
+}
+
+-- whether a set holds a sync that c sent
+unfoldable pub finishing : List Sent → List Name → ℕ → Bool
+finishing [] ms c = false
+finishing (x ∷ xs) ms c = (eqb (x .payload .kind) 2 && (eqb (x .name .sender) c && has (x .name) ms)) || finishing xs ms c
 
 -- THE LINES OF A FILE RUN
 
@@ -237,17 +261,28 @@ numberIn s = numberFrom 0 s
 unfoldable pub nameIn : List ℕ → Name
 nameIn s = let ps = split 46 s in name (numberIn (getD ps 0 [])) (numberIn (getD ps 1 []))
 
--- A line's fields, separated by spaces: event number, controller, total, names. The set of event e is that of its line, or empty.
-unfoldable pub lineSet : ℕ → List (List ℕ) → List Name
-lineSet e [] = []
-lineSet e (l ∷ ls) =
+-- A line's fields, separated by spaces: event number, controller, what was added, what was withdrawn, names.
+unfoldable pub lineIn : List (List ℕ) → Line
+lineIn fs = record {
+  set = map nameIn (drop 4 fs);
+  sums = record { added = numberIn (getD fs 2 []); withdrawn = numberIn (getD fs 3 []) };
+}
+
+-- an event without a line applied nothing
+abbrev pub noLine : Line
+noLine = record { set = []; sums = noSums }
+
+-- the line of event e
+unfoldable pub lineFor : ℕ → List (List ℕ) → Line
+lineFor e [] = noLine
+lineFor e (l ∷ ls) =
     let fs = split 32 l in
-    cond (eqb (numberIn (getD fs 0 [])) e) (map nameIn (drop 3 fs)) (lineSet e ls)
+    cond (eqb (numberIn (getD fs 0 [])) e) (lineIn fs) (lineFor e ls)
 
 -- k records of s, the first of them event e
 unfoldable pub recordEntries : ℕ → ℕ → List ℕ → List (List ℕ) → List Entry
 recordEntries zero e s ls = []
-recordEntries (suc k) e s ls = listed s (lineSet e ls) ∷ recordEntries k (e + 1) (behind s) ls
+recordEntries (suc k) e s ls = listed s (lineFor e ls) ∷ recordEntries k (e + 1) (behind s) ls
 
 -- "the records it accepted stand first as calls, its listing lines give their sets"
 unfoldable pub fileEntries : List ℕ → RunOutcome → List Entry
@@ -326,12 +361,19 @@ readRecord c = 2 ∷ 5 ∷ c ∷ []
 abbrev pub IsRead : List ℕ → Type 0
 IsRead s = kind s ≡ 5
 
--- a local read of r behind these calls, lent this scratch area, and what it is answered: it is not refused, and gives this total
-pub record ReadGives (h : Head) (calls : List Call) (r : ℕ) (scratch : List ℕ) (total : ℤ) : Type 0 where
+-- a local read of r behind these calls, lent this scratch area, and what it is answered: it is not refused, and gives these sums
+pub record ReadGives (h : Head) (calls : List Call) (r : ℕ) (scratch : List ℕ) (sums : Sums) : Type 0 where
   pub answer : EventAnswer
   pub last : entries h (calls ++ (singleEvent (readRecord r) scratch ∷ [])) ≡ entries h calls ++ (answered (readRecord r) scratch answer ∷ [])
   pub accepted : answer .number ≡ 0
-  pub gives : answer .total ≡ total
+  pub gives : answer .sums ≡ sums
+
+-- what a handover answers besides its set: f, whether it finishes a sync of the receiver's own; if so, the sums z, and else zeros. The
+-- answer of a record in a file is the two figures of its line, which does not say whether it does.
+unfoldable pub Finishes : Entry → Bool → Sums → Type 0
+Finishes (answered s w a) f z = (a .finished ≡ f) × (a .sums ≡ cond f z noSums)
+Finishes (looked c a) f z = ⊥
+Finishes (listed s x) f z = f ≡ true → x .sums ≡ z
 
 -- "Demand 3 is a single claim about the whole list, and not one for each call."
 pub record Consistent (h : Head) (calls : List Call) : Type 0 where
@@ -346,19 +388,30 @@ pub record Consistent (h : Head) (calls : List Call) : Type 0 where
       → did (version h) (entries h calls) ≡ before ++ (carried r e ms ∷ after) → Contains (sentNames (ledger before)) ms
   -- "and no controller applies it twice": "in two of them, or twice in one"
   pub once : (i c : ℕ) → Distinct (applied (moment h calls i) c)
-  -- "Each look that is not refused shows the sum of the amounts that its controller has applied", and for each class of those of
-  -- that class
+  -- "Each look that is not refused shows the sum of the amounts that its controller has applied", each sum over its own part of them,
+  -- and for each class of those of that class
   pub looks : (i c : ℕ) (a : LookAnswer) (after : List Entry) → drop i (entries h calls) ≡ looked c a ∷ after
       → let l = moment h calls i in
       a .number ≡ 0 → a .panel ≡ showing (l .sent) (applied l c)
-  -- each local read that is not refused gives the same sum; its controller is the byte behind its kind
+  -- each local read that is not refused gives the same sums; its controller is the byte behind its kind
   pub reads : (i : ℕ) (s w : List ℕ) (a : EventAnswer) (after : List Entry) → drop i (entries h calls) ≡ answered s w a ∷ after
       → let l = moment h calls i in
-      IsRead s → a .number ≡ 0 → a .total ≡ showing (l .sent) (applied l (byte s 2)) .total
+      IsRead s → a .number ≡ 0 → a .sums ≡ showing (l .sent) (applied l (byte s 2)) .sums
   -- and rests on every message that its controller has sent
   pub reads-own : (i : ℕ) (s w : List ℕ) (a : EventAnswer) (after : List Entry) → drop i (entries h calls) ≡ answered s w a ∷ after
       → let l = moment h calls i in
       IsRead s → a .number ≡ 0 → Contains (applied l (byte s 2)) (ownOf (byte s 2) (sentNames l))
+  -- each accepted handover to r whose set holds a sync of r's own, and no other, answers that it is finished, and then the two sums
+  -- over all that r has then applied
+  pub syncs : (i r o : ℕ) (q : Said) (ms : List Name) (e : Entry) (after : List Entry) → drop i (entries h calls) ≡ e ∷ after
+      → steps (version h) e ≡ carried q (Handover r o) ms ∷ []
+      → let l = moment h calls (suc i) in
+      Finishes e (finishing (l .sent) ms r) (showing (l .sent) (applied l r) .sums)
+  -- each line of a file run gives the two sums over all that its controller has then applied
+  pub lines : (i r o : ℕ) (q : Said) (m : Name) (ms : List Name) (s : List ℕ) (x : Line) (after : List Entry) → drop i (entries h calls) ≡ listed s x ∷ after
+      → steps (version h) (listed s x) ≡ carried q (Handover r o) (m ∷ ms) ∷ []
+      → let l = moment h calls (suc i) in
+      x .sums ≡ showing (l .sent) (applied l r) .sums
   -- "Two reports of one sender are applied in number order or together": whoever has applied c.k has applied each c.j that was sent
   -- with j below k
   pub in-order : (i r c j k : ℕ)
@@ -369,8 +422,8 @@ pub record Consistent (h : Head) (calls : List Call) : Type 0 where
   pub ending : (i r : ℕ)
       → let l = moment h calls i in
       ReadOut (controllers h) l → Runs (controllers h) l r → Exactly (applied l r) (remaining l)
-  -- "and a look at it shows the sum of their amounts", and each class comes out as the whole does: the list up to a moment, extended
-  -- by that look
+  -- "and a look at it shows the sum of their amounts", each sum over its own part, and each class comes out as the whole does: the
+  -- list up to a moment, extended by that look
   pub ending-look : (i r : ℕ)
       → let now = take i calls in
       let l = ledger (did (version h) (entries h now)) in
@@ -381,4 +434,4 @@ pub record Consistent (h : Head) (calls : List Call) : Type 0 where
       → let now = take i calls in
       let l = ledger (did (version h) (entries h now)) in
       ReadOut (controllers h) l → Runs (controllers h) l r → scratchSize ≤ length w
-      → ReadGives h now r w (showing (l .sent) (remaining l) .total)
+      → ReadGives h now r w (showing (l .sent) (remaining l) .sums)

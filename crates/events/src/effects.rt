@@ -3,9 +3,8 @@ ghost use mathlib.Core.Path.{_≡_};
 ghost use mathlib.Core.Bool.{true, cond};
 ghost use Prim.Native.Nat.{_+_, _≤_, _<_};
 ghost use lib.ListN.{length};
-ghost use lib.IntN.{pos};
-ghost use Rattle.model.specs.Tables.{scratchSize, unheld, withEntry, withMark, withStop};
-ghost use Rattle.model.specs.Events.{forward, deliver, subject, next, total};
+ghost use Rattle.model.specs.Tables.{scratchSize, noSums, unheld, withEntry, withMark, withStop};
+ghost use Rattle.model.specs.Events.{forward, deliver, subject, next, sums};
 ghost use Rattle.model.specs.WellFormed.{wellFormed};
 ghost use Rattle.model.specs.declared.Event.the-variants.{Handover};
 ghost use Rattle.events.specs.Conditions.{Accepted, Receivable, OfRun};
@@ -20,6 +19,7 @@ use model::Message;
 use model::MessageNumber;
 use model::Name;
 use model::Pending;
+use model::Sums;
 use model::Table;
 
 // THE CONTROLLERS
@@ -224,22 +224,22 @@ pub(crate) fn no_set(number: u8) -> Answer
     Answer {
         number,
         finished: 0,
-        total: 0,
+        sums: Sums::zero(),
         size: 0,
         names: [none; 64],
     }
 }
 
-// The total of a controller that is not in the table yet.
-pub(crate) fn total(t: Table, c: Controller) -> i32
-    ensures { λ r. ⌜ r ≡ total t c ⌝ }
+// The sums of a controller that is not in the table yet.
+pub(crate) fn sums(t: Table, c: Controller) -> Sums
+    ensures { λ r. ⌜ r ≡ sums t c ⌝ }
 {
     let messages = t.messages;
     let applied = c.applied;
-    totals::total(t.count, messages, applied)
+    totals::sums(t.count, messages, applied)
 }
 
-// What a local read answers: the total that the panel shows.
+// What a local read answers: the sums that the panel shows.
 pub(crate) fn read_answer(t: Table, c: u8) -> Answer
     requires { ⌜ (0 < c) × (c ≤ 7) ⌝ }
     ensures { λ r. ⌜ r ≡ readAnswer t c ⌝ }
@@ -247,18 +247,18 @@ pub(crate) fn read_answer(t: Table, c: u8) -> Answer
     let i = c as usize - 1;
     let x = t.controllers[i];
     let mut answer = no_set(0);
-    answer.total = total(t, x);
+    answer.sums = sums(t, x);
     answer
 }
 
-// A finished sync's answer, where the controller has applied its set; 0 where none is finished.
-fn sync_answer(t: Table, c: Controller, finished: bool) -> i32
-    ensures { λ r. ⌜ r ≡ cond finished (total t c) (pos 0) ⌝ }
+// A finished sync's answer, where the controller has applied its set; zeros where none is finished.
+fn sync_answer(t: Table, c: Controller, finished: bool) -> Sums
+    ensures { λ r. ⌜ r ≡ cond finished (sums t c) noSums ⌝ }
 {
     if finished {
-        return total(t, c);
+        return sums(t, c);
     }
-    0
+    Sums::zero()
 }
 
 // An entry is read; a set that is not empty is named and applied.
@@ -288,12 +288,12 @@ fn hand_over(
     let names = all.names;
     let finished = totals::finishes(t.count, messages, members, receiver);
     let after = delivered(t, c, members);
-    let total = sync_answer(t, after, finished);
+    let sums = sync_answer(t, after, finished);
     Effect {
         answer: Answer {
             number: 0,
             finished: numbers::flag(finished),
-            total,
+            sums,
             size,
             names,
         },

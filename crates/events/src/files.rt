@@ -2,7 +2,7 @@
 ghost use mathlib.Core.Path.{_≡_};
 ghost use Prim.Native.Nat.{_≤_};
 ghost use lib.ListN.{take};
-ghost use Rattle.model.specs.Events.{subject, total};
+ghost use Rattle.model.specs.Events.{subject, sums};
 ghost use Rattle.model.specs.Questions.{firstNo, fileQuestions};
 ghost use Rattle.model.specs.Runs.{lineOf};
 ghost use Rattle.listing.specs.Writing.{Wrote};
@@ -37,9 +37,9 @@ struct Advance {
     controller: Controller,
 }
 
-// Lists what an event applied; the total is added up only where there is a line.
+// Lists what an event applied; the sums are added up only where there is a line.
 fn list_line(tail: &mut [u8], event: usize, e: Event, t: Table, done: Effect) -> Put
-    ensures { λ r. ⌜ Wrote (lineOf event (subject e) (total t (done .controller)) (take (done .answer .size) (done .answer .names))) (now (tail .entry)) (now (tail .exit)) r ⌝ }
+    ensures { λ r. ⌜ Wrote (lineOf event (subject e) (sums t (done .controller)) (take (done .answer .size) (done .answer .names))) (now (tail .entry)) (now (tail .exit)) r ⌝ }
 {
     let answer = done.answer;
     let size = answer.size;
@@ -50,9 +50,9 @@ fn list_line(tail: &mut [u8], event: usize, e: Event, t: Table, done: Effect) ->
         };
     }
     let controller = done.controller;
-    let total = effects::total(t, controller);
+    let sums = effects::sums(t, controller);
     let names = answer.names;
-    listing::put_line(tail, event, effects::subject(e), total, names, size)
+    listing::put_line(tail, event, effects::subject(e), sums, names, size)
 }
 
 // The record that the bytes left begin with, and the indices of the controllers that its event reads; those of a local read are
@@ -93,7 +93,7 @@ fn ended(cursor: Cursor, number: u8) -> Cursor
     }
 }
 
-// A local read counts as an event and zeroes scratch. It has no line, and its total is not asked for.
+// A local read counts as an event and zeroes scratch. It has no line, and its sums are not asked for.
 fn read_past(cursor: Cursor, x: Controller, used: usize, scratch: &mut [u8]) -> Advance
     requires { ⌜ cursor .events ≤ 65535 ⌝ }
     ensures { λ r. ⌜ ReadPast cursor x used (now (scratch .entry)) r (now (scratch .exit)) ⌝ }

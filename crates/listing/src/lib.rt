@@ -1,12 +1,12 @@
 // The lines of a listing, each written into the tail of the listing behind the line before.
 use model::Name;
+use model::Sums;
 use model::refusal;
 ghost use mathlib.Core.Path.{_≡_};
 ghost use mathlib.Core.List.{[], _∷_};
 ghost use Prim.Native.Nat.{_+_, _≤_, _<_, min};
 ghost use lib.ListN.{length, take};
-ghost use lib.IntN.{natAbs};
-ghost use Rattle.model.specs.Runs.{decimal, signed, nameFields, line, lineOf, header, footer};
+ghost use Rattle.model.specs.Runs.{decimal, sumFields, nameFields, line, lineOf, header, footer};
 ghost use Rattle.listing.specs.Writing.{Wrote, Stored};
 
 // What a writer answers: the refusal number, 0 if the line fits, and the bytes written.
@@ -17,16 +17,14 @@ pub struct Put {
 
 const SPACE: u8 = 32;
 
-const MINUS: u8 = 45;
-
 const POINT: u8 = 46;
 
 const ZERO: u8 = 48;
 
 const NEWLINE: u8 = 10;
 
-// The longest line: numbers of 20, 3 and 11 bytes, 64 names of 8 bytes, two spaces and the end of the line.
-const LINE: usize = 549;
+// The longest line: numbers of 20, 3, 10 and 10 bytes, 64 names of 8 bytes, three spaces and the end of the line.
+const LINE: usize = 559;
 
 // Stores a byte.
 fn put_byte(buffer: &mut [u8], at: usize, b: u8) -> usize
@@ -58,26 +56,13 @@ fn put_field(buffer: &mut [u8], at: usize, b: u8, x: usize) -> usize
     put_number(buffer, next, x)
 }
 
-// A number without its sign.
-fn magnitude(x: i32) -> usize
-    ensures { λ r. ⌜ r ≡ natAbs x ⌝ }
+// Stores the two sums, with a space before each.
+fn put_sums(buffer: &mut [u8], at: usize, sums: Sums) -> usize
+    requires { ⌜ at + length (sumFields sums) ≤ length (now buffer) ⌝ }
+    ensures { λ r. ⌜ Stored (sumFields sums) (now (buffer .entry)) at (now (buffer .exit)) r ⌝ }
 {
-    if x < 0 {
-        return (0 - (x as i64)) as usize;
-    }
-    x as usize
-}
-
-// Stores a number in decimal, a minus sign before a negative one.
-fn put_signed(buffer: &mut [u8], at: usize, x: i32) -> usize
-    requires { ⌜ at + length (signed x) ≤ length (now buffer) ⌝ }
-    ensures { λ r. ⌜ Stored (signed x) (now (buffer .entry)) at (now (buffer .exit)) r ⌝ }
-{
-    let size = magnitude(x);
-    if x < 0 {
-        return put_field(buffer, at, MINUS, size);
-    }
-    put_number(buffer, at, size)
+    let next = put_field(buffer, at, SPACE, sums.added as usize);
+    put_field(buffer, next, SPACE, sums.withdrawn as usize)
 }
 
 // Stores a name, with a space before it.
@@ -107,18 +92,17 @@ fn store_line(
     buffer: &mut [u8],
     event: usize,
     controller: u8,
-    total: i32,
+    sums: Sums,
     names: [Name; 64],
     count: usize,
 ) -> usize
-    requires { ⌜ (count ≤ 64) × (length (line event controller total (take count names)) ≤ length (now buffer)) ⌝ }
-    ensures { λ r. ⌜ Stored (line event controller total (take count names)) (now (buffer .entry)) 0 (now (buffer .exit)) r ⌝ }
+    requires { ⌜ (count ≤ 64) × (length (line event controller sums (take count names)) ≤ length (now buffer)) ⌝ }
+    ensures { λ r. ⌜ Stored (line event controller sums (take count names)) (now (buffer .entry)) 0 (now (buffer .exit)) r ⌝ }
 {
     let after_event = put_number(buffer, 0, event);
     let after_controller = put_field(buffer, after_event, SPACE, controller as usize);
-    let after_space = put_byte(buffer, after_controller, SPACE);
-    let after_total = put_signed(buffer, after_space, total);
-    let after_names = put_names(buffer, after_total, names, count);
+    let after_sums = put_sums(buffer, after_controller, sums);
+    let after_names = put_names(buffer, after_sums, names, count);
     put_byte(buffer, after_names, NEWLINE)
 }
 
@@ -153,11 +137,11 @@ pub fn put_line(
     tail: &mut [u8],
     event: usize,
     controller: u8,
-    total: i32,
+    sums: Sums,
     names: [Name; 64],
     size: usize,
 ) -> Put
-    ensures { λ r. ⌜ Wrote (lineOf event controller total (take size names)) (now (tail .entry)) (now (tail .exit)) r ⌝ }
+    ensures { λ r. ⌜ Wrote (lineOf event controller sums (take size names)) (now (tail .entry)) (now (tail .exit)) r ⌝ }
 {
     let count = numbers::at_most(size, 64);
     if count == 0 {
@@ -167,7 +151,7 @@ pub fn put_line(
         };
     }
     let mut buffer = [0u8; LINE];
-    let end = store_line(&mut buffer, event, controller, total, names, count);
+    let end = store_line(&mut buffer, event, controller, sums, names, count);
     put_whole(tail, &buffer[..end])
 }
 

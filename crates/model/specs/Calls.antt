@@ -3,15 +3,15 @@ use Prim.Native.Nat.{ℕ}
 use mathlib.Core.Bool.{Bool, false, cond}
 use mathlib.Core.List.{List, [], _∷_}
 use lib.ListN.{length, replicate}
-use lib.IntN.{ℤ, pos}
 use lib.Dec.{eqb}
 use Rattle.lists.specs.Build.{over, overlay}
-use Rattle.model.specs.Tables.{capacity, scratchSize, noName, noPanel, fresh, zeroTable}
+use Rattle.model.specs.Tables.{capacity, scratchSize, noName, noSums, noPanel, fresh, zeroTable}
 use Rattle.model.specs.Events.{subject, next, appliedBy, resulting, panelOf, namesOf, finishes}
 use Rattle.model.specs.Records.{behind, decode}
 use Rattle.model.specs.WellFormed.{named}
 use Rattle.model.specs.Questions.{ask, firstNo, freshQuestions, lentTable, stepQuestions}
 use Rattle.model.specs.declared.Name.{Name}
+use Rattle.model.specs.declared.Sums.{Sums}
 use Rattle.model.specs.declared.Table.{Table}
 use Rattle.model.specs.declared.Command.{Command}
 use Rattle.model.specs.declared.Command.the-variants.{Act, Read}
@@ -22,13 +22,13 @@ use Rattle.model.specs.declared.LookAnswer.{LookAnswer}
 -- THE SINGLE EVENT
 
 -- The answer: the refusal number, 0 if accepted; the set applied, by sender and then number; whether a sync of the
--- receiver's own is in it, and then that sync's answer, the total after the set, or the total that a local read gives;
+-- receiver's own is in it, and then that sync's answer, the sums after the set, or the sums that a local read gives;
 -- the unread rest of the bytes.
 pub record EventAnswer : Type 0 where
   pub number : ℕ
   pub names : List Name
   pub finished : Bool
-  pub total : ℤ
+  pub sums : Sums
   pub rest : List ℕ
 
 -- what an event call leaves besides
@@ -41,16 +41,16 @@ unfoldable pub answering : Table → Command → List ℕ → EventAnswer
 answering t (Act e) r =
     let S = appliedBy t e in
     let f = finishes t S (subject e) in
-    let z = panelOf (next t e) (subject e) .total in
-    record { number = 0; names = namesOf t S; finished = f; total = cond f z (pos 0); rest = r }
-answering t (Read c) r = record { number = 0; names = []; finished = false; total = panelOf t c .total; rest = r }
+    let z = panelOf (next t e) (subject e) .sums in
+    record { number = 0; names = namesOf t S; finished = f; sums = cond f z noSums; rest = r }
+answering t (Read c) r = record { number = 0; names = []; finished = false; sums = panelOf t c .sums; rest = r }
 
 unfoldable pub accepted : Table → List ℕ → Outcome
 accepted t s = let a = decode (t .version) s in record { answer = answering t a (behind s); table = resulting t a }
 
 unfoldable pub refused : Table → List ℕ → ℕ → Outcome
 refused t s k = record {
-  answer = record { number = k; names = []; finished = false; total = pos 0; rest = s };
+  answer = record { number = k; names = []; finished = false; sums = noSums; rest = s };
   table = t;
 }
 
@@ -79,7 +79,7 @@ unfoldable pub answerOf : EventAnswer → Answer
 answerOf a = record {
   number = a .number;
   finished = cond (a .finished) 1 0;
-  total = a .total;
+  sums = a .sums;
   size = length (a .names);
   names = overlay (a .names) (replicate capacity noName);
 }

@@ -4,7 +4,6 @@ use Prim.Native.Nat.{ℕ, zero, suc, _+_, max}
 use mathlib.Core.Bool.{Bool, _&&_, _||_, cond}
 use mathlib.Core.List.{List, [], _∷_}
 use lib.ListN.{getD}
-use lib.IntN.{ℤ, pos, _-ℤ_}
 use lib.Dec.{eqb, leb, ltb}
 use Rattle.lists.specs.Below.{count, sum, greatest}
 use Rattle.lists.specs.Build.{tabulate}
@@ -14,6 +13,7 @@ use Rattle.model.specs.declared.Payload.{Payload}
 use Rattle.model.specs.declared.Message.{Message}
 use Rattle.model.specs.declared.Name.{Name}
 use Rattle.model.specs.declared.Controller.{Controller}
+use Rattle.model.specs.declared.Sums.{Sums}
 use Rattle.model.specs.declared.Panel.{Panel}
 use Rattle.model.specs.declared.Table.{Table}
 use Rattle.model.specs.declared.Event.{Event}
@@ -111,27 +111,31 @@ unfoldable pub resulting : Table → Command → Table
 resulting t (Act e) = next t e
 resulting t (Read c) = t
 
--- WHAT A PANEL SHOWS (the local counter): that of Algorithm 4, widened to signed amounts, of all messages and of each class
+-- WHAT A PANEL SHOWS (the local counter): that of Algorithm 4, as two sums, over all messages and over each class
 
 -- the sum of a weight over what x has applied
 unfoldable pub weigh : (Payload → ℕ) → Table → Controller → ℕ
 weigh w t x = sum (t .count) (λ s. let v = w (message t s .payload) in cond (applied x s) v 0)
 
--- what x has applied of what was added, less what was withdrawn
-unfoldable pub total : Table → Controller → ℤ
-total t x = pos (weigh (λ p. p .added) t x) -ℤ pos (weigh (λ p. p .withdrawn) t x)
+-- each sum is over its own part of the amounts: those above 0, and those below 0 with the sign dropped
+abbrev pub bothOf : ((Payload → ℕ) → ℕ) → Sums
+bothOf f = record { added = f (λ p. p .added); withdrawn = f (λ p. p .withdrawn) }
+
+-- the sums over what x has applied
+unfoldable pub sums : Table → Controller → Sums
+sums t x = bothOf (λ w. weigh w t x)
 
 -- a weight of the payloads of class k alone
 abbrev pub ofClass : ℕ → (Payload → ℕ) → Payload → ℕ
 ofClass k w p = cond (eqb (p .class) k) (w p) 0
 
 -- the same of class k
-unfoldable pub classTotal : Table → Controller → ℕ → ℤ
-classTotal t x k = pos (weigh (ofClass k (λ p. p .added)) t x) -ℤ pos (weigh (ofClass k (λ p. p .withdrawn)) t x)
+unfoldable pub classSums : Table → Controller → ℕ → Sums
+classSums t x k = bothOf (λ w. weigh (ofClass k w) t x)
 
--- the panel of a controller that is x: the total, and that of each class from 0
+-- the panel of a controller that is x: the sums, and those of each class from 0
 unfoldable pub shown : Table → Controller → Panel
-shown t x = record { total = total t x; classes = tabulate classCount (classTotal t x) }
+shown t x = record { sums = sums t x; classes = tabulate classCount (classSums t x) }
 
 -- the panel of controller c
 unfoldable pub panelOf : Table → ℕ → Panel

@@ -3,7 +3,6 @@ use Prim.Native.Nat.{ℕ, zero, suc, _+_, _-_, _/_, _%_}
 use mathlib.Core.Bool.{cond}
 use mathlib.Core.List.{List, [], _∷_, _++_}
 use lib.ListN.{length, drop}
-use lib.IntN.{ℤ, pos, negsuc}
 use lib.Dec.{eqb}
 use Rattle.lists.specs.Build.{overlay}
 use Rattle.model.specs.Tables.{fresh, zeroTable}
@@ -12,6 +11,7 @@ use Rattle.model.specs.Records.{byte, behind, decode}
 use Rattle.model.specs.Questions.{ask, firstNo, fileQuestions, lineFits}
 use Rattle.model.specs.Calls.{step, cleared}
 use Rattle.model.specs.declared.Name.{Name}
+use Rattle.model.specs.declared.Sums.{Sums}
 use Rattle.model.specs.declared.Table.{Table}
 use Rattle.model.specs.declared.RunAnswer.{RunAnswer}
 
@@ -27,22 +27,21 @@ digits (suc f) (suc x) = digits f (suc x / 10) ++ ((48 + suc x % 10) ∷ [])
 unfoldable pub decimal : ℕ → List ℕ
 decimal x = digits x (x / 10) ++ ((48 + x % 10) ∷ [])
 
--- with a minus sign, byte 45, before a negative number
-unfoldable pub signed : ℤ → List ℕ
-signed (pos x) = decimal x
-signed (negsuc x) = 45 ∷ decimal (suc x)
-
 -- ' sender.number' for each name
 unfoldable pub nameFields : List Name → List ℕ
 nameFields [] = []
 nameFields (m ∷ ms) = (32 ∷ decimal (m .sender)) ++ ((46 ∷ decimal (m .number .0)) ++ nameFields ms)
 
--- the line of event number e, in which controller c applied a set and its total is then z
-unfoldable pub line : ℕ → ℕ → ℤ → List Name → List ℕ
-line e c z ms = decimal e ++ ((32 ∷ decimal c) ++ ((32 ∷ signed z) ++ (nameFields ms ++ (10 ∷ []))))
+-- ' sum' for each of the two: what was added, what was withdrawn
+unfoldable pub sumFields : Sums → List ℕ
+sumFields z = (32 ∷ decimal (z .added)) ++ (32 ∷ decimal (z .withdrawn))
+
+-- the line of event number e, in which controller c applied a set and its sums are then z
+unfoldable pub line : ℕ → ℕ → Sums → List Name → List ℕ
+line e c z ms = decimal e ++ ((32 ∷ decimal c) ++ (sumFields z ++ (nameFields ms ++ (10 ∷ []))))
 
 -- no line for an empty set
-unfoldable pub lineOf : ℕ → ℕ → ℤ → List Name → List ℕ
+unfoldable pub lineOf : ℕ → ℕ → Sums → List Name → List ℕ
 lineOf e c z [] = []
 lineOf e c z (m ∷ ms) = line e c z (m ∷ ms)
 
@@ -60,7 +59,7 @@ unfoldable pub lineAt : Progress → List ℕ → ℕ → List ℕ
 lineAt p s room =
     let o = step (p .table) s room in
     let c = controllerOf (decode (p .table .version) s) in
-    lineOf (p .events + 1) c (panelOf (o .table) c .total) (o .answer .names)
+    lineOf (p .events + 1) c (panelOf (o .table) c .sums) (o .answer .names)
 
 -- its refusal number, question 16 put last
 unfoldable pub verdict : Progress → List ℕ → ℕ → ℕ → ℕ

@@ -4,7 +4,6 @@ use Prim.Native.Nat.{ℕ, _+_, _-_, _≤_, _<_}
 use mathlib.Core.Bool.{Bool}
 use mathlib.Core.List.{List, []}
 use lib.ListN.{getD, set, replicate}
-use lib.IntN.{pos}
 use lib.Dec.{ltb}
 use Rattle.model.specs.declared.ForwardNumber.{ForwardNumber}
 use Rattle.model.specs.declared.MessageNumber.{MessageNumber}
@@ -13,6 +12,7 @@ use Rattle.model.specs.declared.Message.{Message}
 use Rattle.model.specs.declared.Name.{Name}
 use Rattle.model.specs.declared.Pending.{Pending}
 use Rattle.model.specs.declared.Controller.{Controller}
+use Rattle.model.specs.declared.Sums.{Sums}
 use Rattle.model.specs.declared.Panel.{Panel}
 use Rattle.model.specs.declared.Table.{Table}
 
@@ -79,9 +79,12 @@ noName = record { sender = 0; number = none }
 abbrev pub noMessage : Message
 noMessage = record { sender = 0; number = none; payload = record { kind = 0; class = 0; added = 0; withdrawn = 0 } }
 
--- a panel that shows nothing, as refusals answer it
+-- the sums over no message, and a panel that shows nothing, as refusals answer them
+abbrev pub noSums : Sums
+noSums = record { added = 0; withdrawn = 0 }
+
 abbrev pub noPanel : Panel
-noPanel = record { total = pos 0; classes = replicate classCount (pos 0) }
+noPanel = record { sums = noSums; classes = replicate classCount noSums }
 
 abbrev pub noPending : Pending
 noPending = record { held = 0; marks = [] }

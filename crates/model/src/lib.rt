@@ -3,7 +3,7 @@ ghost use mathlib.Core.Path.{_≡_};
 ghost use mathlib.Core.Bool.{cond};
 ghost use lib.Dec.{eqb};
 ghost use Rattle.model.specs.WellFormed.{fairMagnitude, fairAmount, fairClass, known};
-ghost use Rattle.model.specs.Tables.{report, sync, messageOf, forwardNumber, messageNumber, start, fresh, zeroTable, noPanel};
+ghost use Rattle.model.specs.Tables.{report, sync, messageOf, forwardNumber, messageNumber, start, fresh, zeroTable, noSums, noPanel};
 
 pub mod refusal;
 
@@ -70,21 +70,28 @@ pub struct Table {
     pub controllers: [Controller; 7],
 }
 
-// What a panel shows (the local counter): the total of what its controller has applied, and that of each class, from 0 for none.
+// Two sums of amounts: of those above 0, and of those below 0 with the sign dropped.
+#[repr(C)]
+pub struct Sums {
+    pub added: u32,
+    pub withdrawn: u32,
+}
+
+// What a panel shows (the local counter): the sums over what its controller has applied, and those of each class, from 0 for none.
 #[repr(C)]
 pub struct Panel {
-    pub total: i32,
-    pub classes: [i32; 5],
+    pub sums: Sums,
+    pub classes: [Sums; 5],
 }
 
 // What the single-event call answers: the refusal number, 0 if accepted; whether a sync of the receiver's own is in the
-// set applied, and then its answer, the total after the set; or the total that a local read gives; how many messages are in
+// set applied, and then its answer, the sums after the set; or the sums that a local read gives; how many messages are in
 // the set, and their names, zeros behind them.
 #[repr(C)]
 pub struct Answer {
     pub number: u8,
     pub finished: u8,
-    pub total: i32,
+    pub sums: Sums,
     pub size: usize,
     pub names: [Name; 64],
 }
@@ -208,6 +215,18 @@ impl Payload {
     }
 }
 
+impl Sums {
+    // The sums over no message.
+    pub fn zero() -> Sums
+        ensures { λ r. ⌜ r ≡ noSums ⌝ }
+    {
+        Sums {
+            added: 0,
+            withdrawn: 0,
+        }
+    }
+}
+
 impl Panel {
     // Those of the four weight classes, and that of none.
     pub const CLASSES: usize = 5;
@@ -217,8 +236,8 @@ impl Panel {
         ensures { λ r. ⌜ r ≡ noPanel ⌝ }
     {
         Panel {
-            total: 0,
-            classes: [0; Panel::CLASSES],
+            sums: Sums::zero(),
+            classes: [Sums::zero(); Panel::CLASSES],
         }
     }
 }
