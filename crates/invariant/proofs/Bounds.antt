@@ -1,84 +1,96 @@
--- On a well-formed table what was added, and what was withdrawn, comes to at most 23,040, and a total, of all messages or of a class,
--- lies between the two. Assumes nothing.
-use mathlib.Core.Path.{_≡_, refl}
-use mathlib.Core.Bool.{true, _&&_, _||_, cond}
+-- On a well-formed table the two sums, of all messages or of a class, come together to at most 23,040: 64 amounts of at most 360. So
+-- of all that a look or an event answers, on every table. Assumes nothing.
+use mathlib.Core.Path.{_≡_, sym}
+use mathlib.Core.Bool.{Bool, true, false, _&&_, _||_, cond}
 use mathlib.Core.Logic.{_⊎_, inl, inr}
-use Prim.Native.Nat.{ℕ, zero, suc, _-_, _≤_}
+use mathlib.Core.List.{List, [], _∷_}
+use Prim.Native.Nat.{ℕ, _+_, _≤_}
 use native.Mathlib.Omega.{arith}
 use lib.Dec.{eqb, ltb}
-use lib.IntN.{ℤ, pos, negsuc, _-ℤ_}
-use lib.Signed.{leZ}
-use borrow.Author.Tests.{leb-true, eqb-true, le-leb}
+use borrow.Author.Tests.{leb-true, eqb-true}
 use Rattle.lists.proofs.Tests.{and-left, and-right, or-cases, cond-case}
-use Rattle.lists.proofs.Below.{sum-bound}
-use Rattle.model.specs.Tables.{message, applied}
-use Rattle.model.specs.Events.{weigh, total, classTotal}
+use Rattle.lists.proofs.Below.{sum-bound, sum-plus}
+use Rattle.model.specs.Tables.{noSums, at, message, applied}
+use Rattle.model.specs.Events.{weigh, ofClass, sums, classSums}
 use Rattle.model.specs.WellFormed.{fairMagnitude, fairAmount}
 use Rattle.model.specs.declared.Payload.{Payload}
+use Rattle.model.specs.declared.Sums.{Sums}
 use Rattle.model.specs.declared.Controller.{Controller}
 use Rattle.model.specs.declared.Table.{Table}
 use Rattle.model.specs.Facts.{WellFormed}
+
+-- AN AMOUNT
 
 magnitude-bound : (x : ℕ) → fairMagnitude x ≡ true → x ≤ 360
 unfolding fairMagnitude
 magnitude-bound x e = leb-true x 360 (and-right (ltb 0 x) _ e)
 
-zero-bound : (x : ℕ) → eqb x 0 ≡ true → x ≤ 360
-zero-bound x e = omega (arith, eqb-true x 0 e)
+-- it has at most one part that is not 0, of at most 360
+pub record FairParts (p : Payload) : Type 0 where
+  pub apart : (p .added ≡ 0) ⊎ (p .withdrawn ≡ 0)
+  pub small : p .added + p .withdrawn ≤ 360
 
-fair-bounds : (p : Payload) → fairAmount p ≡ true → (p .added ≤ 360) × (p .withdrawn ≤ 360)
+pub fair-parts : (p : Payload) → fairAmount p ≡ true → FairParts p
 unfolding fairAmount
-fair-bounds p e = kinds (or-cases (eqb (p .kind) 1 && (fairMagnitude (p .added) && eqb (p .withdrawn) 0 || eqb (p .added) 0 && fairMagnitude (p .withdrawn))) _ e)
+fair-parts p e = kinds (or-cases (eqb (p .kind) 1 && (fairMagnitude (p .added) && eqb (p .withdrawn) 0 || eqb (p .added) 0 && fairMagnitude (p .withdrawn))) _ e)
   where
-    amounts : (fairMagnitude (p .added) && eqb (p .withdrawn) 0 ≡ true) ⊎ (eqb (p .added) 0 && fairMagnitude (p .withdrawn) ≡ true)
-        → (p .added ≤ 360) × (p .withdrawn ≤ 360)
-    amounts (inl q) = (magnitude-bound (p .added) (and-left _ _ q), zero-bound (p .withdrawn) (and-right (fairMagnitude (p .added)) _ q))
-    amounts (inr q) = (zero-bound (p .added) (and-left _ _ q), magnitude-bound (p .withdrawn) (and-right (eqb (p .added) 0) _ q))
+    one : (p .added ≡ 0) ⊎ (p .withdrawn ≡ 0) → p .added ≤ 360 → p .withdrawn ≤ 360 → FairParts p
+    one (inl z) a w = record { apart = inl z; small = omega arith }
+    one (inr z) a w = record { apart = inr z; small = omega arith }
+
+    amounts : (fairMagnitude (p .added) && eqb (p .withdrawn) 0 ≡ true) ⊎ (eqb (p .added) 0 && fairMagnitude (p .withdrawn) ≡ true) → FairParts p
+    amounts (inl q) =
+        let z = eqb-true (p .withdrawn) 0 (and-right (fairMagnitude (p .added)) _ q) in
+        one (inr z) (magnitude-bound (p .added) (and-left _ _ q)) (omega arith)
+    amounts (inr q) =
+        let z = eqb-true (p .added) 0 (and-left _ _ q) in
+        one (inl z) (omega arith) (magnitude-bound (p .withdrawn) (and-right (eqb (p .added) 0) _ q))
 
     kinds : (eqb (p .kind) 1 && (fairMagnitude (p .added) && eqb (p .withdrawn) 0 || eqb (p .added) 0 && fairMagnitude (p .withdrawn)) ≡ true)
         ⊎ (eqb (p .kind) 2 && (eqb (p .added) 0 && eqb (p .withdrawn) 0) ≡ true)
-        → (p .added ≤ 360) × (p .withdrawn ≤ 360)
+        → FairParts p
     kinds (inl q) = amounts (or-cases (fairMagnitude (p .added) && eqb (p .withdrawn) 0) _ (and-right (eqb (p .kind) 1) _ q))
     kinds (inr q) =
         let r = and-right (eqb (p .kind) 2) _ q in
-        (zero-bound (p .added) (and-left _ _ r), zero-bound (p .withdrawn) (and-right (eqb (p .added) 0) _ r))
+        let a = eqb-true (p .added) 0 (and-left _ _ r) in
+        let w = eqb-true (p .withdrawn) 0 (and-right (eqb (p .added) 0) _ r) in
+        one (inl a) (omega arith) (omega arith)
 
-weigh-bound : (t : Table) (v : Payload → ℕ) → WellFormed t → ((p : Payload) → fairAmount p ≡ true → v p ≤ 360) → (x : Controller) → weigh v t x ≤ 23040
-unfolding weigh
-weigh-bound t v w f x =
-    omega (
-      arith,
-      w .counted,
-      sum-bound (t .count) _ 360 (λ s h.
-          cond-case (λ k. k ≤ 360) (applied x s) (v (message t s .payload)) 0 (λ _. f (message t s .payload) (w .amounts s h)) (λ _. omega arith)),
-    )
+-- TWO SUMS
 
--- a difference is not below what is taken away, nor above what there was
-difference-low : (k a b : ℕ) → b ≤ suc k → leZ (negsuc k) (pos a -ℤ pos b) ≡ true
-difference-low k a zero h = refl
-difference-low k a (suc b) h =
-    cond-case (λ x. leZ (negsuc k) x ≡ true) (ltb a (suc b)) (negsuc (suc b - suc a)) (pos (a - suc b)) (λ _. le-leb (suc b - suc a) k (omega arith)) (λ _. refl)
+-- as sums are
+pub record Bounded (z : Sums) : Type 0 where
+  pub added : z .added ≤ 23040
+  pub withdrawn : z .withdrawn ≤ 23040
+  pub together : z .added + z .withdrawn ≤ 23040
 
-difference-high : (k a b : ℕ) → a ≤ k → leZ (pos a -ℤ pos b) (pos k) ≡ true
-difference-high k a zero h = le-leb _ k (omega arith)
-difference-high k a (suc b) h =
-    cond-case (λ x. leZ x (pos k) ≡ true) (ltb a (suc b)) (negsuc (suc b - suc a)) (pos (a - suc b)) (λ _. refl) (λ _. le-leb (a - suc b) k (omega arith))
+bounded : (z : Sums) → z .added + z .withdrawn ≤ 23040 → Bounded z
+bounded z h = record { added = omega arith; withdrawn = omega arith; together = h }
 
--- as a total is, and that of a class
-abbrev pub Within : ℤ → Type 0
-Within z = (leZ (negsuc 23039) z ≡ true) × (leZ z (pos 23040) ≡ true)
+module _ (t : Table) (f : WellFormed t) (x : Controller) where
+  -- of any two weights that come to at most 360 for each message
+  weigh-bound : (v w : Payload → ℕ) → ((p : Payload) → fairAmount p ≡ true → v p + w p ≤ 360) → weigh v t x + weigh w t x ≤ 23040
+  unfolding weigh
+  weigh-bound v w h =
+      omega (
+        arith,
+        f .counted,
+        sum-plus (t .count) (λ s. cond (applied x s) (v (message t s .payload)) 0) (λ s. cond (applied x s) (w (message t s .payload)) 0),
+        sum-bound (t .count) _ 360 (λ s l. each (applied x s) _ _ (h (message t s .payload) (f .amounts s l))),
+      )
+    where
+      each : (b : Bool) (v w : ℕ) → v + w ≤ 360 → cond b v 0 + cond b w 0 ≤ 360
+      each true v w h = h
+      each false v w h = omega arith
 
-difference-within : (a b : ℕ) → a ≤ 23040 → b ≤ 23040 → Within (pos a -ℤ pos b)
-difference-within a b h k = (difference-low 23039 a b k, difference-high 23040 a b h)
+  pub sums-bounded : Bounded (sums t x)
+  unfolding sums
+  sums-bounded = bounded _ (weigh-bound _ _ (λ p e. fair-parts p e .small))
 
-pub total-bounds : (t : Table) → WellFormed t → (x : Controller) → Within (total t x)
-unfolding total
-total-bounds t w x = difference-within _ _ (weigh-bound t _ w (λ p e. fair-bounds p e .0) x) (weigh-bound t _ w (λ p e. fair-bounds p e .1) x)
-
-pub class-bounds : (t : Table) → WellFormed t → (x : Controller) (k : ℕ) → Within (classTotal t x k)
-unfolding classTotal
-class-bounds t w x k =
-    difference-within _ _ (weigh-bound t _ w (λ p e. of-class k p (p .added) (fair-bounds p e .0)) x) (weigh-bound t _ w (λ p e. of-class k p (p .withdrawn) (fair-bounds p e .1)) x)
-  where
-    of-class : (k : ℕ) (p : Payload) (x : ℕ) → x ≤ 360 → cond (eqb (p .class) k) x 0 ≤ 360
-    of-class k p x h = cond-case (λ y. y ≤ 360) (eqb (p .class) k) x 0 (λ _. h) (λ _. omega arith)
+  pub class-bounded : (k : ℕ) → Bounded (classSums t x k)
+  unfolding classSums
+  class-bounded k = bounded _ (weigh-bound _ _ (λ p e. one (eqb (p .class) k) _ _ (fair-parts p e .small)))
+    where
+      one : (b : Bool) (v w : ℕ) → v + w ≤ 360 → cond b v 0 + cond b w 0 ≤ 360
+      one true v w h = h
+      one false v w h = omega arith

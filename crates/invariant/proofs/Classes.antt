@@ -1,11 +1,10 @@
--- On a well-formed table every message is of one of the classes that a panel shows, so that their totals add up to the whole total.
+-- On a well-formed table every message is of one of the classes that a panel shows, so that their sums add up to the whole sums.
 -- Assumes nothing.
-use mathlib.Core.Path.{_≡_, refl, sym, ap, ap₂, _∙_}
+use mathlib.Core.Path.{_≡_, refl, sym, ap, fun-ext, _∙_}
 use mathlib.Core.Bool.{Bool, true, false, _&&_, cond}
 use mathlib.Core.List.{[], _∷_, foldr}
 use Prim.Native.Nat.{ℕ, zero, suc, _+_, _≤_}
 use native.Mathlib.Omega.{arith}
-use lib.IntN.{pos, _+ℤ_, _-ℤ_}
 use lib.Dec.{eqb, leb, ltb}
 use borrow.Author.Tests.{leb-true, eqb-true}
 use Rattle.lists.specs.Below.{sum}
@@ -13,12 +12,12 @@ use Rattle.lists.specs.Build.{tabulateFrom, tabulate}
 use Rattle.lists.proofs.Tests.{and-right, cond-case}
 use Rattle.lists.proofs.Below.{sum-ext, sum-plus}
 use Rattle.lists.proofs.Clipped.{sum-none}
-use Rattle.lists.proofs.Differences.{differences-added}
-use Rattle.model.specs.Tables.{lastClass, classCount, noPanel, at, message, applied}
-use Rattle.model.specs.Events.{weigh, total, ofClass, classTotal, shown, panelOf}
+use Rattle.model.specs.Tables.{lastClass, classCount, noSums, noPanel, at, message, applied}
+use Rattle.model.specs.Events.{weigh, bothOf, plus, sums, ofClass, classSums, shown, panelOf}
 use Rattle.model.specs.WellFormed.{fairClass, named, wellFormed}
 use Rattle.model.specs.Questions.{ask, firstNo, lentTable}
 use Rattle.model.specs.Calls.{look}
+use Rattle.model.specs.declared.Sums.{Sums}
 use Rattle.model.specs.declared.Panel.{Panel}
 use Rattle.model.specs.declared.Payload.{Payload}
 use Rattle.model.specs.declared.Controller.{Controller}
@@ -59,6 +58,13 @@ unfolding tabulate tabulateFrom
 each-class v p h true = one-class (p .class) (v p) h
 each-class v p h false = refl
 
+-- sums are added up part by part
+by-parts : (f : ℕ → Sums) (i m : ℕ)
+    → foldr plus noSums (tabulateFrom i m f) ≡ record { added = foldr _+_ 0 (tabulateFrom i m (λ k. f k .added)); withdrawn = foldr _+_ 0 (tabulateFrom i m (λ k. f k .withdrawn)) }
+unfolding tabulateFrom
+by-parts f i zero = refl
+by-parts f i (suc m) = ap (plus (f i)) (by-parts f (suc i) m)
+
 module _ (t : Table) (w : WellFormed t) (x : Controller) where
   weights-add-up : (v : Payload → ℕ) → over (λ k. weigh (ofClass k v) t x) ≡ weigh v t x
   unfolding weigh tabulate
@@ -66,16 +72,14 @@ module _ (t : Table) (w : WellFormed t) (x : Controller) where
       sums-swapped (λ k s. cond (applied x s) (ofClass k v (message t s .payload)) 0) 0 classCount (t .count)
       ∙ sum-ext (t .count) _ _ (λ s h. each-class v (message t s .payload) (class-bound (t .version) _ (w .classes s h)) (applied x s))
 
-  pub classes-add-up : foldr _+ℤ_ (pos 0) (shown t x .classes) ≡ shown t x .total
-  unfolding shown total classTotal tabulate
-  classes-add-up =
-      differences-added (λ k. weigh (ofClass k (λ p. p .added)) t x) (λ k. weigh (ofClass k (λ p. p .withdrawn)) t x) 0 classCount
-      ∙ ap₂ (λ a b. pos a -ℤ pos b) (weights-add-up (λ p. p .added)) (weights-add-up (λ p. p .withdrawn))
+  pub classes-add-up : foldr plus noSums (shown t x .classes) ≡ shown t x .sums
+  unfolding shown sums classSums tabulate
+  classes-add-up = by-parts (classSums t x) 0 classCount ∙ ap (λ (f : (Payload → ℕ) → ℕ). bothOf f) (fun-ext weights-add-up)
 
 -- so of every look at every table: a refused one shows zeros
-pub look-adds-up : (t : Table) (c : ℕ) → foldr _+ℤ_ (pos 0) (look t c .panel .classes) ≡ look t c .panel .total
+pub look-adds-up : (t : Table) (c : ℕ) → foldr plus noSums (look t c .panel .classes) ≡ look t c .panel .sums
 unfolding look panelOf lentTable
 look-adds-up t c =
     let k = firstNo (lentTable t ∷ ask 8 (named t c) ∷ []) in
-    cond-case (λ (p : Panel). foldr _+ℤ_ (pos 0) (p .classes) ≡ p .total) (eqb k 0) (shown t (at t c)) noPanel
+    cond-case (λ (p : Panel). foldr plus noSums (p .classes) ≡ p .sums) (eqb k 0) (shown t (at t c)) noPanel
     (λ e. classes-add-up t (facts t (no-no 3 (wellFormed t) _ (eqb-true k 0 e) .0)) (at t c)) (λ _. refl)

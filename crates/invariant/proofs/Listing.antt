@@ -1,4 +1,4 @@
--- No file's listing passes 13,888 bytes: each of 7 controllers applies each of 64 messages once, and a message takes at most 31
+-- No file's listing passes 11,200 bytes: each of 7 controllers applies each of 64 messages once, and a message takes at most 25
 -- bytes of lines. So question 16 never refuses where the listing has that room. Assumes nothing.
 use mathlib.Core.Path.{_≡_, refl, sym, ap, _∙_}
 use mathlib.Core.Logic.{_≢_, inl, inr}
@@ -8,8 +8,6 @@ use Prim.Native.Nat.{ℕ, zero, suc, _+_, _-_, _*_, _≤_, _<_}
 use native.Mathlib.Omega.{arith}
 use native.Mathlib.Decide.{ℕ-discrete}
 use lib.ListN.{length, length-append, length-drop, getD, drop}
-use lib.IntN.{ℤ, pos, negsuc, natAbs}
-use lib.Signed.{leZ}
 use lib.Dec.{eqb, leb, ltb}
 use borrow.Author.Tests.{eqb-true, eq-eqb, ne-eqb, ltb-true, leb-true, le-leb}
 use Rattle.lists.specs.Below.{all, sum}
@@ -25,6 +23,7 @@ use Rattle.model.specs.Questions.{firstNo, fileQuestions, kindQuestions, record
 use Rattle.model.specs.Calls.{answering, accepted, step}
 use Rattle.model.specs.Runs.{line, lineOf, Progress, lineAt, verdict, records, begun, progress}
 use Rattle.model.specs.declared.Name.{Name}
+use Rattle.model.specs.declared.Sums.{Sums}
 use Rattle.model.specs.declared.Table.{Table}
 use Rattle.model.specs.declared.Event.{Event}
 use Rattle.model.specs.declared.Command.{Command}
@@ -34,34 +33,36 @@ use Rattle.model.proofs.Allowed.{no-no, step-asked, file-allowed, subject-allow
 use Rattle.model.proofs.Steps.{step-number, step-is-accepted, accepted-asked, accepted-within}
 use Rattle.model.proofs.Runs.{gone, verdict-passed, advance-case}
 use Rattle.model.proofs.Decimals.{decimal-bound}
-use Rattle.model.proofs.Lengths.{length-insert, SmallName, signed-bound, names-bound, length-line}
+use Rattle.model.proofs.Lengths.{length-insert, SmallName, names-bound, length-sums, length-line}
 use Rattle.invariant.proofs.Sizes.{next-n, fresh-sized}
 use Rattle.invariant.proofs.Kept.{next-well-formed, resulting-kept, fresh-well-formed}
 use Rattle.invariant.proofs.Refusals.{step-number-range}
 use Rattle.invariant.proofs.Counter.{weighSet, weigh-next}
-use Rattle.invariant.proofs.Bounds.{total-bounds}
+use Rattle.invariant.proofs.Bounds.{Bounded, sums-bounded}
 
 -- LINES
 
--- what a line is written for, in numbers that are small enough
-record SmallLine (e c : ℕ) (z : ℤ) (ms : List Name) : Type 0 where
+-- what a line is written for: numbers of 5 digits, 1 digit and twice 5 digits, and names of 1 and 2 digits
+record SmallLine (e c : ℕ) (z : Sums) (ms : List Name) : Type 0 where
   event : e < 100000
-  controller : c < 100000
-  total : natAbs z < 100000
-  names : Every SmallName ms
+  controller : c < 10
+  sums : Bounded z
+  names : Every (SmallName 0 1) ms
 
-line-length : (e c : ℕ) (z : ℤ) (ms : List Name) → SmallLine e c z ms → length (line e c z ms) ≤ 19 + 8 * length ms
+line-length : (e c : ℕ) (z : Sums) (ms : List Name) → SmallLine e c z ms → length (line e c z ms) ≤ 20 + 5 * length ms
 line-length e c z ms h =
     omega (
       arith,
       length-line e c z ms,
       decimal-bound 4 e (h .event),
-      decimal-bound 4 c (h .controller),
-      signed-bound 4 z (h .total),
-      names-bound ms (h .names),
+      decimal-bound 0 c (h .controller),
+      length-sums z,
+      decimal-bound 4 (z .added) (omega (arith, h .sums .added)),
+      decimal-bound 4 (z .withdrawn) (omega (arith, h .sums .withdrawn)),
+      names-bound 0 1 ms (h .names),
     )
 
-lineOf-length : (e c : ℕ) (z : ℤ) (ms : List Name) → SmallLine e c z ms → length (lineOf e c z ms) ≤ 31 * length ms
+lineOf-length : (e c : ℕ) (z : Sums) (ms : List Name) → SmallLine e c z ms → length (lineOf e c z ms) ≤ 25 * length ms
 unfolding lineOf
 lineOf-length e c z [] h = omega arith
 lineOf-length e c z (m ∷ ms) h = omega (arith, line-length e c z (m ∷ ms) h)
@@ -81,21 +82,16 @@ every-below P (suc k) t S h =
     let r = every-below P k t S (λ s l. h s (omega arith)) in
     cond-case (Every P) (has S k) _ _ (λ _. every-insert P (nameOf (message t k)) (namesBelow k t S) (h k (omega arith)) r) (λ _. r)
 
-small-total : (x : ℤ) → leZ (negsuc 23039) x ≡ true → leZ x (pos 23040) ≡ true → natAbs x < 100000
-small-total (pos x) l h = omega (arith, leb-true x 23040 h)
-small-total (negsuc x) l h = omega (arith, leb-true x 23039 l)
-
 -- of an event that no question refuses
 small-line : (t : Table) (e : Event) → Sized t → WellFormed t → firstNo (eventQuestions t e) ≡ 0 → (k : ℕ) → k < 100000
-    → SmallLine k (subject e) (panelOf (next t e) (subject e) .total) (namesOf t (appliedBy t e))
+    → SmallLine k (subject e) (panelOf (next t e) (subject e) .sums) (namesOf t (appliedBy t e))
 unfolding panelOf shown namesOf
 small-line t e z w q k h =
-    let b = total-bounds (next t e) (next-well-formed t e z w q) (at (next t e) (subject e)) in
     record {
       event = h;
       controller = omega (arith, w .few, subject-allowed t e q .high);
-      total = small-total (panelOf (next t e) (subject e) .total) (b .0) (b .1);
-      names = every-below SmallName (t .count) t (appliedBy t e)
+      sums = sums-bounded (next t e) (next-well-formed t e z w q) (at (next t e) (subject e));
+      names = every-below (SmallName 0 1) (t .count) t (appliedBy t e)
           (λ s l. record { sender = omega (arith, w .few, w .senders s l .high); number = omega (arith, w .numbers s l .1) });
     }
 
@@ -156,14 +152,14 @@ deliveries-next t e z w q =
 
 -- the line of a record that no question refuses takes no more than what it delivers allows; a local read delivers nothing and has none
 line-delivers : (t : Table) (a : Command) (r : List ℕ) → Sized t → WellFormed t → firstNo (commandQuestions t a) ≡ 0 → (k : ℕ) → k < 100000
-    → length (lineOf k (controllerOf a) (panelOf (resulting t a) (controllerOf a) .total) (answering t a r .names)) + 31 * deliveries t ≤ 31 * deliveries (resulting t a)
+    → length (lineOf k (controllerOf a) (panelOf (resulting t a) (controllerOf a) .sums) (answering t a r .names)) + 25 * deliveries t ≤ 25 * deliveries (resulting t a)
 unfolding resulting answering controllerOf commandQuestions lineOf
 line-delivers t (Act e) r z w q k h =
     let ms = namesOf t (appliedBy t e) in
     omega (
       arith,
       deliveries-next t e z w q,
-      lineOf-length k (subject e) (panelOf (next t e) (subject e) .total) ms (small-line t e z w q k h),
+      lineOf-length k (subject e) (panelOf (next t e) (subject e) .sums) ms (small-line t e z w q k h),
     )
 line-delivers t (Read c) r z w q k h = omega arith
 
@@ -173,7 +169,7 @@ record Listed (f : ℕ) (p : Progress) : Type 0 where
   few : p .events + f < 100000
   sized : Sized (p .table)
   formed : WellFormed (p .table)
-  lines : length (p .lines) ≤ 31 * deliveries (p .table)
+  lines : length (p .lines) ≤ 25 * deliveries (p .table)
 
 module _ (p : Progress) (s : List ℕ) (room space f : ℕ) (h : Listed (suc f) p) where
   -- with an accepted event more it is such a run
@@ -193,13 +189,13 @@ module _ (p : Progress) (s : List ℕ) (room space f : ℕ) (h : Listed (suc f) 
         lines = omega (
           arith,
           h .lines,
-          length-append (p .lines) (lineOf (p .events + 1) (controllerOf d) (panelOf (resulting t d) (controllerOf d) .total) (answering t d (behind s) .names)),
+          length-append (p .lines) (lineOf (p .events + 1) (controllerOf d) (panelOf (resulting t d) (controllerOf d) .sums) (answering t d (behind s) .names)),
           line-delivers t d (behind s) (h .sized) (h .formed) q (p .events + 1) (omega (arith, h .few)),
         );
       })
 
   -- so that question 16 does not refuse
-  verdict-not-16 : 13888 ≤ space → verdict p s room space ≢ 16
+  verdict-not-16 : 11200 ≤ space → verdict p s room space ≢ 16
   unfolding verdict firstNo lineFits
   verdict-not-16 l =
       let k = step (p .table) s room .answer .number in
@@ -217,12 +213,12 @@ module _ (p : Progress) (s : List ℕ) (room space f : ℕ) (h : Listed (suc f) 
 
 record Fits (p : Progress) : Type 0 where
   not-16 : p .number ≢ 16
-  short : length (p .lines) ≤ 13888
+  short : length (p .lines) ≤ 11200
 
 listed-fits : (f : ℕ) (p : Progress) → Listed f p → Fits p
 listed-fits f p h = record { not-16 = omega (arith, h .going); short = omega (arith, h .lines, deliveries-bound (p .table) (h .formed)) }
 
-records-fit : (f : ℕ) (p : Progress) (s : List ℕ) (room space : ℕ) → 13888 ≤ space → Listed f p → Fits (records f p s room space)
+records-fit : (f : ℕ) (p : Progress) (s : List ℕ) (room space : ℕ) → 11200 ≤ space → Listed f p → Fits (records f p s room space)
 unfolding records
 records-fit zero p s room space l h = listed-fits 0 p h
 records-fit (suc f) p [] room space l h = listed-fits (suc f) p h
@@ -231,8 +227,8 @@ records-fit (suc f) p (b ∷ s) room space l h =
     (λ v. records-fit f (gone p (b ∷ s) room space) (behind (b ∷ s)) room space l (accepted-listed p (b ∷ s) room space f h (verdict-passed p (b ∷ s) room space v .0)))
     (λ d. rw (ne-eqb (verdict p (b ∷ s) room space) 0 d) (record { not-16 = verdict-not-16 p (b ∷ s) room space f h l; short = listed-fits (suc f) p h .short }))
 
-pub listing-fits : (s : List ℕ) (room space : ℕ) → firstNo (fileQuestions s) ≡ 0 → 13888 ≤ space
-    → (progress s room space .number ≢ 16) × (length (progress s room space .lines) ≤ 13888)
+pub listing-fits : (s : List ℕ) (room space : ℕ) → firstNo (fileQuestions s) ≡ 0 → 11200 ≤ space
+    → (progress s room space .number ≢ 16) × (length (progress s room space .lines) ≤ 11200)
 unfolding progress begun
 listing-fits s room space q h =
     let a = file-allowed s q in

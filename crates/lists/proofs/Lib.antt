@@ -7,4 +7,3 @@ pub mod Loops
 pub mod Clipped
 pub mod Stores
 pub mod Every
-pub mod Differences

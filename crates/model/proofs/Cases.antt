@@ -6,11 +6,11 @@ use Prim.Native.Nat.{ℕ, zero, suc, _+_, _*_, _/_, _%_, _-_}
 use mathlib.Core.Bool.{Bool, true, false, cond}
 use mathlib.Core.List.{List, [], _∷_, _++_, map, flatten}
 use lib.Dec.{eqb}
-use lib.IntN.{ℤ, pos, negsuc}
-use Rattle.model.specs.Tables.{noPanel, fresh}
+use Rattle.model.specs.Tables.{noSums, noPanel, fresh}
 use Rattle.model.specs.Calls.{EventAnswer, step, event, freshTable, look}
 use Rattle.model.specs.Runs.{progress, fileRun}
 use Rattle.model.specs.declared.Name.{Name}
+use Rattle.model.specs.declared.Sums.{Sums}
 use Rattle.model.specs.declared.Panel.{Panel}
 use Rattle.model.specs.declared.Table.{Table}
 use Rattle.model.proofs.Computed.{computed}
@@ -61,8 +61,8 @@ data Case : Type 0 where
   -- the records of a file past question 3, and how many bytes of scratch and of listing
   run : List ℕ → ℕ → ℕ → Case
 
--- the number; the set of each accepted event, a message as 100 times its sender plus its number; what a look shows, or in its total the
--- answer's total; whether an own sync is finished; and the lines of a run
+-- the number; the set of each accepted event, a message as 100 times its sender plus its number; what a look shows, or in its sums the
+-- answer's sums; whether an own sync is finished; and the lines of a run
 record Given : Type 0 where
   number : ℕ
   sets : List (List ℕ)
@@ -70,8 +70,8 @@ record Given : Type 0 where
   finished : Bool
   lines : List ℕ
 
-abbrev totalled : ℤ → Panel
-totalled x = record { total = x; classes = noPanel .classes }
+abbrev summed : Sums → Panel
+summed z = record { sums = z; classes = noPanel .classes }
 
 abbrev coded : Name → ℕ
 coded m = m .sender * 100 + m .number .0
@@ -83,7 +83,7 @@ setOf a = cond (eqb (a .number) 0) (map coded (a .names)) ((1000 + a .number) �
 called : Table → Call → Given
 called t (single s room) =
     let a = event t s room .answer in
-    record { number = a .number; sets = cond (eqb (a .number) 0) (map coded (a .names) ∷ []) []; shown = totalled (a .total); finished = a .finished; lines = [] }
+    record { number = a .number; sets = cond (eqb (a .number) 0) (map coded (a .names) ∷ []) []; shown = summed (a .sums); finished = a .finished; lines = [] }
 called t (panel c) = let a = look t c in record { number = a .number; sets = []; shown = a .panel; finished = false; lines = [] }
 
 played : Table → List (List ℕ) → Call → Given
@@ -123,16 +123,17 @@ quiet n rs s room k j = case n rs s room k (times j ([] ∷ []))
 abbrev quiet₂ : ℕ → List (List ℕ) → List ℕ → ℕ → ℕ → ℕ → Row
 quiet₂ n rs s room k j = row (events 2 n rs (single s room)) k (times j ([] ∷ []))
 
--- a look shows a total, and that of each class
-abbrev shows : ℕ → ℕ → List (List ℕ) → ℕ → List (List ℕ) → ℤ → List ℤ → Row
-shows v n rs c ss x xs = record { of = events v n rs (panel c); gives = record { number = 0; sets = ss; shown = record { total = x; classes = xs }; finished = false; lines = [] } }
+-- what was added and what was withdrawn
+abbrev both : ℕ → ℕ → Sums
+both a w = record { added = a; withdrawn = w }
 
--- an event whose answer has this total, and whether it finishes an own sync
-abbrev totals : ℕ → ℕ → List (List ℕ) → List ℕ → List (List ℕ) → Bool → ℤ → Row
-totals v n rs s ss f x = record { of = events v n rs (single s 4096); gives = record { number = 0; sets = ss; shown = totalled x; finished = f; lines = [] } }
+-- a look shows the sums, and those of each class
+abbrev shows : ℕ → ℕ → List (List ℕ) → ℕ → List (List ℕ) → Sums → List Sums → Row
+shows v n rs c ss z zs = record { of = events v n rs (panel c); gives = record { number = 0; sets = ss; shown = record { sums = z; classes = zs }; finished = false; lines = [] } }
 
-none : ℤ
-none = pos 0
+-- an event whose answer has these sums, and whether it finishes an own sync
+abbrev sums : ℕ → ℕ → List (List ℕ) → List ℕ → List (List ℕ) → Bool → Sums → Row
+sums v n rs s ss f z = record { of = events v n rs (single s 4096); gives = record { number = 0; sets = ss; shown = summed z; finished = f; lines = [] } }
 
 -- the run of RULES.md, section 19 (The worked run), but for its last record
 worked : List (List ℕ)
@@ -190,10 +191,17 @@ each zero x = []
 each (suc k) x = [] ∷ (x ∷ []) ∷ each k (suc x)
 
 table : List Row
-unfolding report classed sync handover stop local minus times worked graded gradedSets underway further underwaySets three backed full each none
+unfolding report classed sync handover stop local minus times worked graded gradedSets underway further underwaySets three backed full each
 table =
     -- P: the sets of the worked run; event 10 applies nothing
     case 3 worked (handover 3 1) 4096 0 ([] ∷ [] ∷ [] ∷ (101 ∷ []) ∷ [] ∷ [] ∷ (101 ∷ []) ∷ (301 ∷ []) ∷ [] ∷ [] ∷ (101 ∷ 301 ∷ []) ∷ [])
+    -- P: its lines, with both sums
+    ∷ lists (1 ∷ 3 ∷ flatten (worked ++ (handover 3 1 ∷ []))) 4096 16384 0
+    (52 ∷ 32 ∷ 49 ∷ 32 ∷ 51 ∷ 48 ∷ 32 ∷ 48 ∷ 32 ∷ 49 ∷ 46 ∷ 49 ∷ 10
+    ∷ 55 ∷ 32 ∷ 50 ∷ 32 ∷ 51 ∷ 48 ∷ 32 ∷ 48 ∷ 32 ∷ 49 ∷ 46 ∷ 49 ∷ 10
+    ∷ 56 ∷ 32 ∷ 50 ∷ 32 ∷ 51 ∷ 48 ∷ 32 ∷ 50 ∷ 32 ∷ 51 ∷ 46 ∷ 49 ∷ 10
+    ∷ 49 ∷ 49 ∷ 32 ∷ 51 ∷ 32 ∷ 51 ∷ 48 ∷ 32 ∷ 50 ∷ 32 ∷ 49 ∷ 46 ∷ 49 ∷ 32 ∷ 51 ∷ 46 ∷ 49 ∷ 10
+    ∷ [])
     -- P: n = 4, two marks: not applied; three: applied
     ∷ quiet 4 (report 1 5 ∷ handover 1 1 ∷ handover 2 1 ∷ []) (handover 1 2) 4096 0 4
     ∷ case 4 (report 1 5 ∷ handover 1 1 ∷ handover 2 1 ∷ handover 1 2 ∷ handover 3 1 ∷ []) (handover 1 3) 4096 0 ([] ∷ [] ∷ [] ∷ [] ∷ [] ∷ (101 ∷ []) ∷ [])
@@ -238,21 +246,24 @@ table =
     ∷ case 1 (report 1 5 ∷ report 1 7 ∷ handover 1 1 ∷ []) (stop 1 1) 4096 0 ([] ∷ [] ∷ (101 ∷ 102 ∷ []) ∷ [] ∷ [])
     -- P: the run with reports under way: its sets, what a local read gives in it, and a local read that is refused in between
     ∷ case 3 further (handover 3 2) 4096 0 (underwaySets ++ ((102 ∷ []) ∷ [] ∷ [] ∷ [] ∷ (101 ∷ []) ∷ (102 ∷ []) ∷ []))
-    ∷ totals 1 3 underway (local 2) (underwaySets ++ ([] ∷ [])) false (pos 30)
+    ∷ sums 1 3 underway (local 2) (underwaySets ++ ([] ∷ [])) false (both 30 0)
     ∷ case 3 underway (local 1) 4096 18 underwaySets
-    ∷ totals 1 3 further (local 1) (underwaySets ++ ((102 ∷ []) ∷ [] ∷ [] ∷ [] ∷ (101 ∷ []) ∷ [] ∷ [])) false (pos 50)
+    ∷ sums 1 3 further (local 1) (underwaySets ++ ((102 ∷ []) ∷ [] ∷ [] ∷ [] ∷ (101 ∷ []) ∷ [] ∷ [])) false (both 50 0)
     ∷ lists (1 ∷ 3 ∷ flatten further) 4096 16384 0
-    (52 ∷ 32 ∷ 50 ∷ 32 ∷ 51 ∷ 48 ∷ 32 ∷ 49 ∷ 46 ∷ 49 ∷ 10
-    ∷ 55 ∷ 32 ∷ 49 ∷ 32 ∷ 51 ∷ 48 ∷ 32 ∷ 49 ∷ 46 ∷ 49 ∷ 10
-    ∷ 56 ∷ 32 ∷ 49 ∷ 32 ∷ 53 ∷ 48 ∷ 32 ∷ 49 ∷ 46 ∷ 50 ∷ 10
-    ∷ 49 ∷ 50 ∷ 32 ∷ 51 ∷ 32 ∷ 51 ∷ 48 ∷ 32 ∷ 49 ∷ 46 ∷ 49 ∷ 10
+    (52 ∷ 32 ∷ 50 ∷ 32 ∷ 51 ∷ 48 ∷ 32 ∷ 48 ∷ 32 ∷ 49 ∷ 46 ∷ 49 ∷ 10
+    ∷ 55 ∷ 32 ∷ 49 ∷ 32 ∷ 51 ∷ 48 ∷ 32 ∷ 48 ∷ 32 ∷ 49 ∷ 46 ∷ 49 ∷ 10
+    ∷ 56 ∷ 32 ∷ 49 ∷ 32 ∷ 53 ∷ 48 ∷ 32 ∷ 48 ∷ 32 ∷ 49 ∷ 46 ∷ 50 ∷ 10
+    ∷ 49 ∷ 50 ∷ 32 ∷ 51 ∷ 32 ∷ 51 ∷ 48 ∷ 32 ∷ 48 ∷ 32 ∷ 49 ∷ 46 ∷ 49 ∷ 10
     ∷ [])
-    -- P: a local read counts what its panel has applied, in both versions; the answer's total is else that of an own sync that is finished
-    ∷ totals 1 1 [] (local 1) ([] ∷ []) false (pos 0)
-    ∷ totals 2 1 (classed 1 30 2 ∷ handover 1 1 ∷ classed 1 (minus 37) 4 ∷ handover 1 1 ∷ []) (local 1) (each 2 101 ++ ([] ∷ [])) false (negsuc 6)
-    ∷ totals 1 2 (report 2 9 ∷ handover 1 2 ∷ []) (local 1) ([] ∷ [] ∷ [] ∷ []) false (pos 0)
-    ∷ totals 1 1 (report 1 5 ∷ []) (handover 1 1) ([] ∷ (101 ∷ []) ∷ []) false (pos 0)
-    ∷ totals 1 1 (report 1 5 ∷ handover 1 1 ∷ sync 1 ∷ []) (handover 1 1) ([] ∷ (101 ∷ []) ∷ [] ∷ (102 ∷ []) ∷ []) true (pos 5)
+    -- P: a local read counts what its panel has applied, in both versions; the answer's sums are else those of an own sync that is finished
+    ∷ sums 1 1 [] (local 1) ([] ∷ []) false noSums
+    ∷ sums 2 1 (classed 1 30 2 ∷ handover 1 1 ∷ classed 1 (minus 37) 4 ∷ handover 1 1 ∷ []) (local 1) (each 2 101 ++ ([] ∷ [])) false (both 30 37)
+    ∷ sums 1 2 (report 2 9 ∷ handover 1 2 ∷ []) (local 1) ([] ∷ [] ∷ [] ∷ []) false noSums
+    ∷ sums 1 1 (report 1 5 ∷ []) (handover 1 1) ([] ∷ (101 ∷ []) ∷ []) false noSums
+    ∷ sums 1 1 (report 1 5 ∷ handover 1 1 ∷ sync 1 ∷ []) (handover 1 1) ([] ∷ (101 ∷ []) ∷ [] ∷ (102 ∷ []) ∷ []) true (both 5 0)
+    -- the sums over all that the receiver has then applied: before the set, and with it
+    ∷ sums 1 1 (report 1 (minus 7) ∷ handover 1 1 ∷ report 1 5 ∷ handover 1 1 ∷ sync 1 ∷ []) (handover 1 1) (each 2 101 ++ ([] ∷ (103 ∷ []) ∷ [])) true (both 5 7)
+    ∷ sums 1 1 (sync 1 ∷ report 1 5 ∷ report 1 (minus 360) ∷ []) (handover 1 1) ([] ∷ [] ∷ [] ∷ (101 ∷ 102 ∷ 103 ∷ []) ∷ []) true (both 5 360)
     -- a local read: 7 before 8 before 10 before 18 before 15
     ∷ quiet 1 [] (1 ∷ 5 ∷ []) 4096 7 0
     ∷ quiet 1 [] (3 ∷ 5 ∷ 9 ∷ 0 ∷ []) 0 7 0
@@ -321,14 +332,14 @@ table =
     ∷ row (file (2 ∷ 3 ∷ [])) 0 []
     ∷ row (file (1 ∷ 1 ∷ 9 ∷ [])) 5 []
     ∷ row (run (1 ∷ 1 ∷ report 1 5 ++ handover 1 1) 4095 0) 15 []
-    ∷ row (run (1 ∷ 1 ∷ report 1 5 ++ handover 1 1) 4096 9) 16 []
-    ∷ lists (1 ∷ 1 ∷ report 1 5 ++ handover 1 1) 4096 10 0 (50 ∷ 32 ∷ 49 ∷ 32 ∷ 53 ∷ 32 ∷ 49 ∷ 46 ∷ 49 ∷ 10 ∷ [])
+    ∷ row (run (1 ∷ 1 ∷ report 1 5 ++ handover 1 1) 4096 11) 16 []
+    ∷ lists (1 ∷ 1 ∷ report 1 5 ++ handover 1 1) 4096 12 0 (50 ∷ 32 ∷ 49 ∷ 32 ∷ 53 ∷ 32 ∷ 48 ∷ 32 ∷ 49 ∷ 46 ∷ 49 ∷ 10 ∷ [])
     -- a local read counts as an event and has no line
-    ∷ lists (1 ∷ 1 ∷ local 1 ++ (report 1 5 ++ (handover 1 1 ++ local 1))) 4096 10 0 (51 ∷ 32 ∷ 49 ∷ 32 ∷ 53 ∷ 32 ∷ 49 ∷ 46 ∷ 49 ∷ 10 ∷ [])
+    ∷ lists (1 ∷ 1 ∷ local 1 ++ (report 1 5 ++ (handover 1 1 ++ local 1))) 4096 12 0 (51 ∷ 32 ∷ 49 ∷ 32 ∷ 53 ∷ 32 ∷ 48 ∷ 32 ∷ 49 ∷ 46 ∷ 49 ∷ 10 ∷ [])
     -- the length of a record goes by the file's version
-    ∷ lists (2 ∷ 1 ∷ classed 1 5 2 ++ handover 1 1) 4096 10 0 (50 ∷ 32 ∷ 49 ∷ 32 ∷ 53 ∷ 32 ∷ 49 ∷ 46 ∷ 49 ∷ 10 ∷ [])
-    ∷ row (run (2 ∷ 1 ∷ report 1 5 ++ handover 1 1) 4096 10) 7 []
-    ∷ row (run (1 ∷ 1 ∷ classed 1 5 2 ++ handover 1 1) 4096 10) 7 []
+    ∷ lists (2 ∷ 1 ∷ classed 1 5 2 ++ handover 1 1) 4096 12 0 (50 ∷ 32 ∷ 49 ∷ 32 ∷ 53 ∷ 32 ∷ 48 ∷ 32 ∷ 49 ∷ 46 ∷ 49 ∷ 10 ∷ [])
+    ∷ row (run (2 ∷ 1 ∷ report 1 5 ++ handover 1 1) 4096 12) 7 []
+    ∷ row (run (1 ∷ 1 ∷ classed 1 5 2 ++ handover 1 1) 4096 12) 7 []
     -- a fresh table: 2 before 3; versions 1 and 2, 1 to 7 controllers
     ∷ row (request 0 8) 2 []
     ∷ row (request 3 8) 2 []
@@ -342,17 +353,17 @@ table =
     ∷ row (request 2 1) 0 []
     ∷ row (request 2 7) 0 []
     ∷ row (request 2 8) 3 []
-    -- a look: 4 before 8; the total of the worked run, and a negative one; and each class
+    -- a look: 4 before 8; the sums of the worked run, and of a withdrawal alone; and each class
     ∷ row (events 1 0 [] (panel 1)) 4 []
     ∷ row (events 1 2 [] (panel 0)) 8 []
     ∷ row (events 1 2 [] (panel 3)) 8 []
-    ∷ shows 1 3 worked 2 ([] ∷ [] ∷ [] ∷ (101 ∷ []) ∷ [] ∷ [] ∷ (101 ∷ []) ∷ (301 ∷ []) ∷ [] ∷ [] ∷ []) (pos 28) (pos 28 ∷ none ∷ none ∷ none ∷ none ∷ [])
-    ∷ shows 1 1 (report 1 (minus 7) ∷ handover 1 1 ∷ stop 1 1 ∷ []) 1 ([] ∷ (101 ∷ []) ∷ [] ∷ []) (negsuc 6) (negsuc 6 ∷ none ∷ none ∷ none ∷ none ∷ [])
-    ∷ shows 2 1 (classed 1 30 2 ∷ handover 1 1 ∷ classed 1 (minus 7) 4 ∷ handover 1 1 ∷ classed 1 5 2 ∷ handover 1 1 ∷ []) 1 (each 3 101) (pos 28)
-    (none ∷ none ∷ pos 35 ∷ none ∷ negsuc 6 ∷ [])
+    ∷ shows 1 3 worked 2 ([] ∷ [] ∷ [] ∷ (101 ∷ []) ∷ [] ∷ [] ∷ (101 ∷ []) ∷ (301 ∷ []) ∷ [] ∷ [] ∷ []) (both 30 2) (both 30 2 ∷ noSums ∷ noSums ∷ noSums ∷ noSums ∷ [])
+    ∷ shows 1 1 (report 1 (minus 7) ∷ handover 1 1 ∷ stop 1 1 ∷ []) 1 ([] ∷ (101 ∷ []) ∷ [] ∷ []) (both 0 7) (both 0 7 ∷ noSums ∷ noSums ∷ noSums ∷ noSums ∷ [])
+    ∷ shows 2 1 (classed 1 30 2 ∷ handover 1 1 ∷ classed 1 (minus 7) 4 ∷ handover 1 1 ∷ classed 1 (minus 5) 2 ∷ handover 1 1 ∷ []) 1 (each 3 101) (both 30 12)
+    (noSums ∷ noSums ∷ both 30 5 ∷ noSums ∷ both 0 7 ∷ [])
     -- P: the run with classes, its sets and what both panels show of each class
-    ∷ shows 2 2 graded 1 gradedSets (pos 40) (none ∷ pos 30 ∷ none ∷ pos 12 ∷ negsuc 1 ∷ [])
-    ∷ shows 2 2 graded 2 gradedSets (pos 40) (none ∷ pos 30 ∷ none ∷ pos 12 ∷ negsuc 1 ∷ [])
+    ∷ shows 2 2 graded 1 gradedSets (both 42 2) (noSums ∷ both 30 0 ∷ noSums ∷ both 12 0 ∷ both 0 2 ∷ [])
+    ∷ shows 2 2 graded 2 gradedSets (both 42 2) (noSums ∷ both 30 0 ∷ noSums ∷ both 12 0 ∷ both 0 2 ∷ [])
     ∷ []
 
 results : List Row → List Given
@@ -367,5 +378,5 @@ pub record AllCases : Type 0 where
   hold : results table ≡ expected table
 
 pub all-cases : AllCases
-unfolding computed flatten results expected table called played given report classed sync handover stop local minus times worked graded gradedSets underway further underwaySets three backed full each none
+unfolding computed flatten results expected table called played given report classed sync handover stop local minus times worked graded gradedSets underway further underwaySets three backed full each
 all-cases = record { hold = refl }

@@ -2,14 +2,15 @@
 use mathlib.Core.Path.{_≡_, refl, ap}
 use mathlib.Core.List.{List, [], _∷_, _++_}
 use Prim.Native.Nat.{ℕ, zero, suc, _+_, _*_, _^_, _≤_, _<_}
+use native.Mathlib.Nat.{suc-mul}
 use native.Mathlib.Omega.{arith}
 use lib.ListN.{length, length-append}
-use lib.IntN.{ℤ, pos, negsuc, natAbs}
 use Rattle.lists.proofs.Tests.{cond-case}
 use Rattle.lists.proofs.Every.{Every}
 use Rattle.model.specs.Events.{earlier, insert, namesBelow, namesOf}
-use Rattle.model.specs.Runs.{decimal, signed, nameFields, line, header, footer}
+use Rattle.model.specs.Runs.{decimal, sumFields, nameFields, line, header, footer}
 use Rattle.model.specs.declared.Name.{Name}
+use Rattle.model.specs.declared.Sums.{Sums}
 use Rattle.model.specs.declared.Table.{Table}
 use Rattle.model.proofs.Decimals.{decimal-bound}
 
@@ -32,39 +33,38 @@ none-named t = no-names (t .count) t
 
 -- BYTES
 
-pub signed-bound : (k : ℕ) (x : ℤ) → natAbs x < 10 ^ suc k → length (signed x) ≤ suc (suc k)
-unfolding signed
-signed-bound k (pos x) h = omega (arith, decimal-bound k x h)
-signed-bound k (negsuc x) h = omega (arith, decimal-bound k (suc x) h)
+-- a name whose numbers have at most so many digits and one
+pub record SmallName (a b : ℕ) (m : Name) : Type 0 where
+  pub sender : m .sender < 10 ^ suc a
+  pub number : m .number .0 < 10 ^ suc b
 
--- a name whose numbers have at most three digits, as bytes have
-pub record SmallName (m : Name) : Type 0 where
-  pub sender : m .sender < 1000
-  pub number : m .number .0 < 1000
-
-pub names-bound : (ms : List Name) → Every SmallName ms → length (nameFields ms) ≤ 8 * length ms
+pub names-bound : (a b : ℕ) (ms : List Name) → Every (SmallName a b) ms → length (nameFields ms) ≤ length ms * (a + b + 4)
 unfolding nameFields Every
-names-bound [] h = omega arith
-names-bound (m ∷ ms) h =
-    let b = h .0 in
+names-bound a b [] h = omega arith
+names-bound a b (m ∷ ms) h =
     omega (
       arith,
       length-append (32 ∷ decimal (m .sender)) ((46 ∷ decimal (m .number .0)) ++ nameFields ms),
       length-append (46 ∷ decimal (m .number .0)) (nameFields ms),
-      decimal-bound 2 (m .sender) (b .sender),
-      decimal-bound 2 (m .number .0) (b .number),
-      names-bound ms (h .1),
+      decimal-bound a (m .sender) (h .0 .sender),
+      decimal-bound b (m .number .0) (h .0 .number),
+      names-bound a b ms (h .1),
+      suc-mul (length ms) (a + b + 4),
     )
 
-pub length-line : (e c : ℕ) (z : ℤ) (ms : List Name)
-    → length (line e c z ms) ≡ length (decimal e) + length (decimal c) + length (signed z) + length (nameFields ms) + 3
+pub length-sums : (z : Sums) → length (sumFields z) ≡ length (decimal (z .added)) + length (decimal (z .withdrawn)) + 2
+unfolding sumFields
+length-sums z = omega (arith, length-append (32 ∷ decimal (z .added)) (32 ∷ decimal (z .withdrawn)))
+
+pub length-line : (e c : ℕ) (z : Sums) (ms : List Name)
+    → length (line e c z ms) ≡ length (decimal e) + length (decimal c) + length (sumFields z) + length (nameFields ms) + 2
 unfolding line
 length-line e c z ms =
     omega (
       arith,
-      length-append (decimal e) ((32 ∷ decimal c) ++ ((32 ∷ signed z) ++ (nameFields ms ++ (10 ∷ [])))),
-      length-append (32 ∷ decimal c) ((32 ∷ signed z) ++ (nameFields ms ++ (10 ∷ []))),
-      length-append (32 ∷ signed z) (nameFields ms ++ (10 ∷ [])),
+      length-append (decimal e) ((32 ∷ decimal c) ++ (sumFields z ++ (nameFields ms ++ (10 ∷ [])))),
+      length-append (32 ∷ decimal c) (sumFields z ++ (nameFields ms ++ (10 ∷ []))),
+      length-append (sumFields z) (nameFields ms ++ (10 ∷ [])),
       length-append (nameFields ms) (10 ∷ []),
     )
 

@@ -121,6 +121,10 @@ weigh w t x = sum (t .count) (λ s. let v = w (message t s .payload) in cond (ap
 abbrev pub bothOf : ((Payload → ℕ) → ℕ) → Sums
 bothOf f = record { added = f (λ p. p .added); withdrawn = f (λ p. p .withdrawn) }
 
+-- sums added up, part by part
+abbrev pub plus : Sums → Sums → Sums
+plus y z = record { added = y .added + z .added; withdrawn = y .withdrawn + z .withdrawn }
+
 -- the sums over what x has applied
 unfoldable pub sums : Table → Controller → Sums
 sums t x = bothOf (λ w. weigh w t x)

@@ -235,9 +235,10 @@ impl Panel {
     pub fn zero() -> Panel
         ensures { λ r. ⌜ r ≡ noPanel ⌝ }
     {
+        let none = Sums::zero();
         Panel {
-            sums: Sums::zero(),
-            classes: [Sums::zero(); Panel::CLASSES],
+            sums: none,
+            classes: [none; Panel::CLASSES],
         }
     }
 }

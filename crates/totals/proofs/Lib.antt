@@ -1,5 +1,4 @@
-pub mod Classes
 pub mod Panels
 pub mod Parts
-pub mod Signed
+pub mod Passing
 pub mod Weights

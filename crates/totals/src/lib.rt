@@ -3,9 +3,9 @@
 ghost use mathlib.Core.Path.{_≡_};
 ghost use lib.ListN.{length};
 ghost use Rattle.model.specs.Tables.{classCount};
-ghost use Rattle.model.specs.Events.{panelOf, finishes};
+ghost use Rattle.model.specs.Events.{plus, panelOf, finishes};
 ghost use Rattle.model.specs.Parts.{part};
-ghost use Rattle.totals.specs.Shown.{sumsOf, classesOf, shownOf, countedOf, plusOf, withAmount, largestSum, AtMost, EachAtMost};
+ghost use Rattle.totals.specs.Shown.{sumsOf, classesOf, shownOf, countedOf, withAmount, largestSum, AtMost, EachAtMost};
 use model::Message;
 use model::Panel;
 use model::Payload;
@@ -30,7 +30,7 @@ fn counted(flag: u8, p: Payload) -> Sums
 // Each sum with an amount more.
 fn plus(s: Sums, more: Sums) -> Sums
     requires { ⌜ AtMost largestSum s × AtMost 65535 more ⌝ }
-    ensures { λ r. ⌜ r ≡ plusOf s more ⌝ }
+    ensures { λ r. ⌜ r ≡ plus s more ⌝ }
 {
     Sums {
         added: s.added + more.added,
