@@ -4,6 +4,7 @@ use mathlib.Core.Path.{_≡_, refl, ap, sym, fun-ext, _∙_}
 use mathlib.Core.Bool.{Bool, true, false, cond}
 use mathlib.Core.List.{List}
 use Prim.Native.Nat.{ℕ, _+_, _*_, min, _≤_, _<_}
+use native.Mathlib.Nat.{add-zero}
 use native.Mathlib.Omega.{arith}
 use lib.ListN.{length, getD, set, replicate, length-replicate, getD-replicate}
 use lib.Dec.{eqb}
@@ -23,6 +24,9 @@ use Rattle.totals.proofs.Weights.{term, weigh-summed}
 
 -- AN AMOUNT MORE
 
+plus-none : (z : Sums) → plus z noSums ≡ z
+plus-none z = rw (add-zero (z .added), add-zero (z .withdrawn)) refl
+
 module _ (S : List Sums) (class : ℕ) (more : Sums) (l : length S ≡ classCount) where
   pub amount-stored : class < classCount → set S class (plus (getD S class noSums) more) ≡ withAmount S class more
   unfolding withAmount
@@ -30,16 +34,16 @@ module _ (S : List Sums) (class : ℕ) (more : Sums) (l : length S ≡ classCoun
       ap (λ x. set x class (plus (getD S class noSums) more)) (sym (tabulate-self S noSums classCount (λ c. getD S c noSums) l (λ c _. refl)))
       ∙ set-tabulate classCount _ _ noSums class _ h
       (rw (eq-eqb class class refl))
-      (λ c _ d. rw (ne-eqb class c (λ e. d (sym e))) refl)
+      (λ c _ d. rw (ne-eqb class c (λ e. d (sym e))) (sym (plus-none _)))
 
   pub amount-left : classCount ≤ class → S ≡ withAmount S class more
   unfolding withAmount
-  amount-left h = sym (tabulate-self S noSums classCount _ l (λ c b. rw (ne-eqb class c (omega arith)) refl))
+  amount-left h = sym (tabulate-self S noSums classCount _ l (λ c b. rw (ne-eqb class c (omega arith)) (plus-none _)))
 
 at-most-more : (s : ℕ) (z more : Sums) → AtMost (65535 * s) z → AtMost 65535 more → AtMost (65535 * (s + 1)) (plus z more)
 at-most-more s z more h k = record { added = omega (arith, h .added, k .added); withdrawn = omega (arith, h .withdrawn, k .withdrawn) }
 
-at-most-none : (most : ℕ) → AtMost most noSums
+pub at-most-none : (most : ℕ) → AtMost most noSums
 at-most-none most = record { added = omega arith; withdrawn = omega arith }
 
 -- OF ANY WEIGHTS: `of` makes them of the two parts of an amount

@@ -1,11 +1,9 @@
 // What a panel shows, of all messages and of each class, and whether a set holds a sync of a controller's own: on every
 // table, what no array holds being zero.
 ghost use mathlib.Core.Path.{_≡_};
-ghost use lib.ListN.{length};
-ghost use Rattle.model.specs.Tables.{classCount};
 ghost use Rattle.model.specs.Events.{plus, panelOf, finishes};
 ghost use Rattle.model.specs.Parts.{part};
-ghost use Rattle.totals.specs.Shown.{sumsOf, classesOf, shownOf, countedOf, withAmount, largestSum, AtMost, EachAtMost};
+ghost use Rattle.totals.specs.Shown.{sumsOf, classesOf, shownOf, countedOf, largestSum, AtMost};
 use model::Message;
 use model::Panel;
 use model::Payload;
@@ -21,10 +19,9 @@ fn counted(flag: u8, p: Payload) -> Sums
     if flag == 0 {
         return Sums::zero();
     }
-    Sums {
-        added: p.added as u32,
-        withdrawn: p.withdrawn as u32,
-    }
+    let added = p.added as u32;
+    let withdrawn = p.withdrawn as u32;
+    Sums { added, withdrawn }
 }
 
 // Each sum with an amount more.
@@ -42,34 +39,29 @@ fn plus(s: Sums, more: Sums) -> Sums
 pub fn sums(count: usize, messages: [Message; 64], applied: [u8; 64]) -> Sums
     ensures { λ r. ⌜ r ≡ sumsOf count messages applied ⌝ }
 {
-    let mut s = Sums::zero();
-    for i in 0..numbers::at_most(count, Table::MESSAGES) {
-        s = plus(s, counted(applied[i], messages[i].payload));
+    let mut sums = Sums::zero();
+    for s in 0..numbers::at_most(count, Table::MESSAGES) {
+        let m = messages[s];
+        sums = plus(sums, counted(applied[s], m.payload));
     }
-    s
+    sums
 }
 
-// An amount more in the sums of its class. Above the last class there is none, and nothing changes.
-fn add_to(classes: &mut [Sums; 5], class: u8, more: Sums)
-    requires { ⌜ (length (now classes) ≡ classCount) × EachAtMost largestSum (now classes) × AtMost 65535 more ⌝ }
-    ensures { λ r. ⌜ now (classes .exit) ≡ withAmount (now (classes .entry)) class more ⌝ }
-{
-    let k = class as usize;
-    if k < Panel::CLASSES {
-        classes[k] = plus(classes[k], more);
-    }
-}
-
-// The sums of each class, from 0, over so many messages, of those flagged as applied.
+// The sums of each class, from 0, over so many messages, of those flagged as applied. Above the last class there are none.
 fn classes(count: usize, messages: [Message; 64], applied: [u8; 64]) -> [Sums; 5]
     ensures { λ r. ⌜ r ≡ classesOf count messages applied ⌝ }
 {
-    let mut classes: [Sums; 5] = [Sums::zero(); Panel::CLASSES];
-    for i in 0..numbers::at_most(count, Table::MESSAGES) {
-        let m = messages[i];
-        add_to(&mut classes, m.payload.class, counted(applied[i], m.payload));
+    let mut sums: [Sums; 5] = [Sums::zero(); Panel::CLASSES];
+    for s in 0..numbers::at_most(count, Table::MESSAGES) {
+        let m = messages[s];
+        let more = counted(applied[s], m.payload);
+        let class = m.payload.class as usize;
+        if Panel::CLASSES <= class {
+            continue;
+        }
+        sums[class] = plus(sums[class], more);
     }
-    classes
+    sums
 }
 
 // The panel of a controller that has applied so, of so many messages.
