@@ -6,39 +6,36 @@ use native.Mathlib.Omega.{arith}
 use native.Mathlib.Decide.{decLt}
 use lib.ListN.{length, take, length-take}
 use lib.Seq.{take-all}
-use lib.IntN.{ℤ}
-use mir.Syntax.{w32}
-use mir.Val.{SFits, toZ, ofZ}
 use Rattle.lists.proofs.Every.{every-take}
-use Rattle.model.specs.Runs.{decimal, signed, nameFields, line, lineOf, header, footer}
+use Rattle.model.specs.Runs.{decimal, sumFields, nameFields, line, lineOf, header, footer}
 use Rattle.model.specs.declared.Name.{Name}
+use Rattle.model.specs.declared.Sums.{Sums}
 use Rattle.model.proofs.Decimals.{decimal-bound}
-use Rattle.model.proofs.Lengths.{SmallName, signed-bound, names-bound, length-line}
-use Rattle.listing.proofs.Signs.{read-back, magnitude-bound}
+use Rattle.model.proofs.Lengths.{SmallName, names-bound, length-sums, length-line}
 use Rattle.listing.proofs.Names.{NameArray}
 
-regroup : (a b k s l z : List ℕ) → ((((a ++ b) ++ k) ++ s) ++ l) ++ z ≡ a ++ (b ++ ((k ++ s) ++ (l ++ z)))
-regroup a b k s l z = simp append-assoc
+regroup : (a b s l z : List ℕ) → (((a ++ b) ++ s) ++ l) ++ z ≡ a ++ (b ++ (s ++ (l ++ z)))
+regroup a b s l z = simp append-assoc
 
 -- the parts, as they are stored one after the other
-pub line-parts : (e c : ℕ) (x : ℤ) (ms : List Name) → ((((decimal e ++ (32 ∷ decimal c)) ++ (32 ∷ [])) ++ signed x) ++ nameFields ms) ++ (10 ∷ []) ≡ line e c x ms
+pub line-parts : (e c : ℕ) (z : Sums) (ms : List Name) → (((decimal e ++ (32 ∷ decimal c)) ++ sumFields z) ++ nameFields ms) ++ (10 ∷ []) ≡ line e c z ms
 unfolding line
-line-parts e c x ms = regroup (decimal e) (32 ∷ decimal c) (32 ∷ []) (signed x) (nameFields ms) (10 ∷ [])
+line-parts e c z ms = regroup (decimal e) (32 ∷ decimal c) (sumFields z) (nameFields ms) (10 ∷ [])
 
 -- THE LINE OF A SET: the first of the names that an array holds, as many as there are
 
-line-of : (e c : ℕ) (x : ℤ) (ms : List Name) → 0 < length ms → line e c x ms ≡ lineOf e c x ms
+line-of : (e c : ℕ) (z : Sums) (ms : List Name) → 0 < length ms → line e c z ms ≡ lineOf e c z ms
 unfolding lineOf
-line-of e c x [] h = absurd (omega arith)
-line-of e c x (m ∷ ms) h = refl
+line-of e c z [] h = absurd (omega arith)
+line-of e c z (m ∷ ms) h = refl
 
 -- an empty set has no line
-pub no-line : (e c : ℕ) (x : ℤ) (ms : List Name) (k size : ℕ) → k ≡ min size 64 → k ≡ 0 → [] ≡ lineOf e c x (take size ms)
+pub no-line : (e c : ℕ) (z : Sums) (ms : List Name) (k size : ℕ) → k ≡ min size 64 → k ≡ 0 → [] ≡ lineOf e c z (take size ms)
 unfolding lineOf
-no-line e c x ms k zero h z = refl
-no-line e c x ms k (suc size) h z = absurd (omega arith)
+no-line e c z ms k zero h q = refl
+no-line e c z ms k (suc size) h q = absurd (omega arith)
 
-module _ (e c : ℕ) (x : ℤ) (ms : List Name) (k size : ℕ) (f : SFits w32 x) (a : NameArray ms) (h : k ≡ min size 64) where
+module _ (e c : ℕ) (z : Sums) (ms : List Name) (k size : ℕ) (a : NameArray ms) (h : k ≡ min size 64) where
   same-names : take k ms ≡ take size ms
   same-names = go (decLt size 64)
     where
@@ -46,25 +43,25 @@ module _ (e c : ℕ) (x : ℤ) (ms : List Name) (k size : ℕ) (f : SFits w32 x)
       go (yes p) = let q : k ≡ size = omega arith in ap (λ (n : ℕ). take n ms) q
       go (no p) = take-all k ms (omega (arith, a .size)) ∙ sym (take-all size ms (omega (arith, a .size)))
 
-  -- the line, with the total as the machine holds it
-  pub line-of-clipped : (k ≡ 0 → ⊥) → line e c (toZ w32 (ofZ w32 x)) (take k ms) ≡ lineOf e c x (take size ms)
+  pub line-of-clipped : (k ≡ 0 → ⊥) → line e c z (take k ms) ≡ lineOf e c z (take size ms)
   line-of-clipped d =
-      rw (read-back x f, same-names)
-      (line-of e c x (take size ms) (omega (arith, a .size, ap length same-names, length-take k ms)))
+      rw same-names
+      (line-of e c z (take size ms) (omega (arith, a .size, ap length same-names, length-take k ms)))
 
   -- at most the bytes of the longest line
-  pub line-room : e < 2 ^ 64 → c < 256 → length (line e c (toZ w32 (ofZ w32 x)) (take k ms)) ≤ 549
-  line-room he hc =
-      rw (read-back x f)
-      (omega (
+  pub line-room : e < 2 ^ 64 → c < 256 → z .added < 2 ^ 32 → z .withdrawn < 2 ^ 32 → length (line e c z (take k ms)) ≤ 559
+  line-room he hc ha hw =
+      omega (
         arith,
-        length-line e c x (take k ms),
+        length-line e c z (take k ms),
         decimal-bound 19 e (omega arith),
         decimal-bound 2 c (omega arith),
-        signed-bound 9 x (omega (arith, magnitude-bound x f)),
-        names-bound (take k ms) (every-take SmallName k ms (a .small)),
+        length-sums z,
+        decimal-bound 9 (z .added) (omega arith),
+        decimal-bound 9 (z .withdrawn) (omega arith),
+        names-bound 2 2 (take k ms) (every-take (SmallName 2 2) k ms (a .small)),
         length-take k ms,
-      ))
+      )
 
 -- THE LINES AROUND THE LISTING
 

@@ -59,9 +59,9 @@ fields-fit (m ∷ ms) (suc i) (suc n) h =
 pub record NameArray (names : List Name) : Type 0 where
   pub size : length names ≡ 64
   -- its numbers are bytes
-  pub small : Every SmallName names
+  pub small : Every (SmallName 2 2) names
 
-each-small : (ms : List Name) (us : List Val) → shadow (each Name (row name.the-type .own) ms us) → Every SmallName ms
+each-small : (ms : List Name) (us : List Val) → shadow (each Name (row name.the-type .own) ms us) → Every (SmallName 2 2) ms
 unfolding Every
 each-small [] us e = tt
 each-small (m ∷ ms) [] e = absurd e

@@ -1,11 +1,9 @@
 -- `put_line` writes the line of an event where it fits. Assumes nothing.
 use mathlib.Core.Path.{_≡_}
 use mathlib.Core.List.{List}
-use Prim.Native.Nat.{ℕ, _≤_}
+use Prim.Native.Nat.{ℕ, _^_, _≤_, _<_}
 use native.Mathlib.Omega.{arith}
 use lib.ListN.{length, take}
-use mir.Syntax.{w32}
-use mir.Val.{toZ, ofZ}
 use Rattle.model.specs.Runs.{line, lineOf}
 use Rattle.listing.proofs.Names.{NameArray, name-array}
 use Rattle.listing.proofs.Lines.{no-line, line-of-clipped, line-room}
@@ -28,25 +26,28 @@ start c = c .before .before
 
 -- the line that is stored, and the one of the set
 abbrev text : tie.After-at-most → List ℕ
-text c = let s = start c in line (s .args .event) (s .args .controller) (toZ w32 (ofZ w32 (s .args .total))) (take (c .at-most .result) (s .args .names))
+text c = let s = start c in line (s .args .event) (s .args .controller) (s .args .sums) (take (c .at-most .result) (s .args .names))
 
 abbrev wanted : tie.Start → List ℕ
-wanted s = lineOf (s .args .event) (s .args .controller) (s .args .total) (take (s .args .size) (s .args .names))
+wanted s = lineOf (s .args .event) (s .args .controller) (s .args .sums) (take (s .args .size) (s .args .names))
 
 owned : (s : tie.Start) → NameArray (s .args .names)
 owned s = name-array (s .args .names) _ (s .good .1 .1 .1 .1 .0)
 
-room : (c : tie.Else1) → length (text (c .before)) ≤ 549
+small : (s : tie.Start) → (s .args .sums .added < 2 ^ 32) × (s .args .sums .withdrawn < 2 ^ 32)
+small s = let fields = s .good .1 .1 .1 .0 .1 .1 in (fields .0 .1, fields .1 .0 .1)
+
+room : (c : tie.Else1) → length (text (c .before)) ≤ 559
 room c =
     let k = c .before in
     let s = start k in
-    line-room (s .args .event) (s .args .controller) (s .args .total) (s .args .names) _ (s .args .size) (s .fits .total) (owned s) (k .at-most .ensures) (s .fits .event .fits) (s .fits .controller .fits)
+    line-room (s .args .event) (s .args .controller) (s .args .sums) (s .args .names) _ (s .args .size) (owned s) (k .at-most .ensures) (s .fits .event .fits) (s .fits .controller .fits) (small s .0) (small s .1)
 
 same-line : (c : tie.Else1) → text (c .before) ≡ wanted (start (c .before))
 same-line c =
     let k = c .before in
     let s = start k in
-    line-of-clipped (s .args .event) (s .args .controller) (s .args .total) (s .args .names) _ (s .args .size) (s .fits .total) (owned s) (k .at-most .ensures) (c .if1 .left)
+    line-of-clipped (s .args .event) (s .args .controller) (s .args .sums) (s .args .names) _ (s .args .size) (owned s) (k .at-most .ensures) (c .if1 .left)
 
 whole : (c : tie.After-store-line) → Front (wanted (start (clipped (c .before)))) (c .store-line .last .0) (c .store-line .result)
 whole c =
@@ -60,7 +61,7 @@ returns : tie.Need-returns
 returns c =
     let k = c .before in
     let s = start k in
-    rw (← no-line (s .args .event) (s .args .controller) (s .args .total) (s .args .names) _ (s .args .size) (k .at-most .ensures) (c .if1 .taken))
+    rw (← no-line (s .args .event) (s .args .controller) (s .args .sums) (s .args .names) _ (s .args .size) (k .at-most .ensures) (c .if1 .taken))
     (fitting-written (omega arith) (stored-none _ 0))
 
 slice-aggregate-store-line : tie.Need-slice-aggregate-store-line
