@@ -7,20 +7,20 @@ use native.Mathlib.Omega.{arith}
 use native.Mathlib.Decide.{ℕ-discrete}
 use lib.ListN.{length}
 use lib.Seq.{take-all}
-use lib.IntN.{ℤ, pos}
 use lib.Dec.{eqb}
 use borrow.Author.Tests.{le-leb}
 use Rattle.lists.proofs.Tests.{cond-true, refuted, contradiction}
 use Rattle.lists.proofs.Clipped.{any-none}
-use Rattle.model.specs.Tables.{seats, scratchSize, message}
+use Rattle.model.specs.Tables.{seats, scratchSize, noSums, message}
 use Rattle.model.specs.Delivery.{Slots, has, applicable}
-use Rattle.model.specs.Events.{received, handoverSet, deliver, subject, after, withSent, next, appliedBy, total, nameOf, insert, namesBelow, namesOf, finishes}
+use Rattle.model.specs.Events.{received, handoverSet, deliver, subject, after, withSent, next, appliedBy, sums, nameOf, insert, namesBelow, namesOf, finishes}
 use Rattle.model.specs.Calls.{cleared, answerOf}
 use Rattle.model.specs.Facts.{Among}
 use Rattle.model.specs.Parts.{part}
 use Rattle.model.specs.Sized.{Sized, SizedController}
 use Rattle.model.specs.declared.Name.{Name}
 use Rattle.model.specs.declared.Pending.{Pending}
+use Rattle.model.specs.declared.Sums.{Sums}
 use Rattle.model.specs.declared.Controller.{Controller}
 use Rattle.model.specs.declared.Table.{Table}
 use Rattle.model.specs.declared.Answer.{Answer}
@@ -33,7 +33,7 @@ use Rattle.naming.specs.Ordering.{padded}
 use Rattle.events.specs.declared.effects.Effect.{Effect}
 use Rattle.events.specs.Conditions.{OfRun}
 use Rattle.events.specs.Effects.{noSet, effectOf}
-use Rattle.events.proofs.Subjects.{total-shown}
+use Rattle.events.proofs.Subjects.{sums-shown}
 use Rattle.events.proofs.Applying.{deliver-none}
 
 -- THE DELIVERY RULE
@@ -74,11 +74,11 @@ none-counted t S a e n = ap length (names-part t S) ∙ (sym (ap (λ (b : Names)
 module _ (t : Table) (r o : ℕ) (z : Sized t) (h : Among seats r) (c : Controller) (ec : c ≡ received t r o) (S : Slots) (es : S ≡ handoverSet t r o) where
   pub handed-effect : (a : Names) → a ≡ padded (namesOf (part 0 0 (t .count) (t .messages)) S)
       → (f : Bool) → f ≡ finishes (part 0 0 (t .count) (t .messages)) S r
-      → (x : Controller) → x ≡ deliver t c S → (y : ℤ) → y ≡ cond f (total t x) (pos 0) → (g : ℕ) → g ≡ cond f 1 0
-      → _≡_ {A = Effect} (record { answer = record { number = 0; finished = g; total = y; size = a .size; names = a .names }; controller = x })
+      → (x : Controller) → x ≡ deliver t c S → (y : Sums) → y ≡ cond f (sums t x) noSums → (g : ℕ) → g ≡ cond f 1 0
+      → _≡_ {A = Effect} (record { answer = record { number = 0; finished = g; sums = y; size = a .size; names = a .names }; controller = x })
       (effectOf t (Handover r o))
   unfolding effectOf answerOf next subject after withSent appliedBy padded finishes message
-  handed-effect a ea f ef x ex y ey g eg = rw (eg, ey, total-shown t r x z h, ef, ea, ← names-part t S, ex, ec, es) refl
+  handed-effect a ea f ef x ex y ey g eg = rw (eg, ey, sums-shown t r x z h, ef, ea, ← names-part t S, ex, ec, es) refl
 
   -- where nothing is named nothing is applied
   pub handed-none : SizedController c → t .count ≤ 64 → OfRun t S → length (namesOf t S) ≡ 0 → (b : Answer) → b ≡ noSet 0

@@ -1,4 +1,4 @@
--- What an event does to its subject is all that it does to the table, but for a send's message; and what the subject's total then
+-- What an event does to its subject is all that it does to the table, but for a send's message; and what the subject's sums then
 -- is. Assumes nothing.
 use mathlib.Core.Path.{_≡_, refl, ap}
 use mathlib.Core.List.{[]}
@@ -9,7 +9,7 @@ use lib.ListN.{set}
 use denote.Enum.Declared.{tagOf}
 use Rattle.lists.proofs.Clipped.{any-none}
 use Rattle.model.specs.Tables.{seats, capacity, message, messageNumber, messageOf, withController, withMessage}
-use Rattle.model.specs.Events.{sentMessage, sent, subject, after, withSent, next, appliedBy, resulting, weigh, total, shown, panelOf, namesOf, finishes}
+use Rattle.model.specs.Events.{sentMessage, sent, subject, after, withSent, next, appliedBy, resulting, weigh, sums, shown, panelOf, namesOf, finishes}
 use Rattle.model.specs.Facts.{Among}
 use Rattle.model.specs.Runs.{lineOf}
 use Rattle.model.specs.Sized.{Sized}
@@ -34,10 +34,10 @@ use Rattle.events.proofs.Accepted.{sendable, handable}
 
 -- THE SUBJECT
 
--- the total of r as x, where it stands in the table
-pub total-shown : (t : Table) (r : ℕ) (x : Controller) → Sized t → Among seats r → total t x ≡ panelOf (withController t r x) r .total
-unfolding total shown panelOf weigh withController message
-total-shown t r x z h = rw (at-same t r x z h) refl
+-- the sums of r as x, where it stands in the table
+pub sums-shown : (t : Table) (r : ℕ) (x : Controller) → Sized t → Among seats r → sums t x ≡ panelOf (withController t r x) r .sums
+unfolding sums shown panelOf weigh withController message
+sums-shown t r x z h = rw (at-same t r x z h) refl
 
 -- the subject of an accepted event has a seat
 pub subject-seated : (t : Table) (e : Event) → Accepted t e → Among seats (subject e)
@@ -92,8 +92,8 @@ read-stays t a c q = rw q refl
 
 -- an event lists what its subject shows, where it lists anything
 pub line-shown : (t : Table) (e : Event) (k : ℕ) → Sized t → Accepted t e
-    → lineOf k (subject e) (total t (after t e)) (namesOf t (appliedBy t e)) ≡ lineOf k (subject e) (panelOf (next t e) (subject e) .total) (namesOf t (appliedBy t e))
+    → lineOf k (subject e) (sums t (after t e)) (namesOf t (appliedBy t e)) ≡ lineOf k (subject e) (panelOf (next t e) (subject e) .sums) (namesOf t (appliedBy t e))
 unfolding lineOf appliedBy subject next withSent
 line-shown t (Send c p) k z q = rw (none-named t) refl
-line-shown t (Handover r o) k z q = rw (total-shown t r (after t (Handover r o)) z (handable t r o q .receiver)) refl
+line-shown t (Handover r o) k z q = rw (sums-shown t r (after t (Handover r o)) z (handable t r o q .receiver)) refl
 line-shown t (Stop c j) k z q = rw (none-named t) refl

@@ -12,7 +12,7 @@ use borrow.Author.Tests.{eq-eqb, ne-eqb, leb-true, le-leb}
 use borrow.Rule.Slice.PartMut.{midOf, postOf, putMid, put-same}
 use Rattle.lists.specs.Build.{overlay}
 use Rattle.lists.proofs.Tests.{cond-true, cond-false, refuted}
-use Rattle.model.specs.Events.{subject, after, appliedBy, controllerOf, resulting, total, namesOf}
+use Rattle.model.specs.Events.{subject, after, appliedBy, controllerOf, resulting, sums, namesOf}
 use Rattle.model.specs.Records.{size, decode}
 use Rattle.model.specs.Sized.{Sized}
 use Rattle.model.specs.Questions.{firstNo, lineFits, stepQuestions}
@@ -141,17 +141,17 @@ module _ (c : Cursor) (t : Table) (s l w : List ℕ) (b : Before c t s l) where
         let r : e ≡ x = cc in
         rw (← r) (allowed t s (length w) (b .formed) passed e ee, ap (λ (y : Effect). y .controller) (a .effect))
 
-    effect-line : lineOf (c .events + 1) (subject e) (total t (d .controller)) (take (d .answer .size) (d .answer .names))
-        ≡ lineOf (c .events + 1) (subject e) (total t (after t e)) (namesOf t (appliedBy t e))
+    effect-line : lineOf (c .events + 1) (subject e) (sums t (d .controller)) (take (d .answer .size) (d .answer .names))
+        ≡ lineOf (c .events + 1) (subject e) (sums t (after t e)) (namesOf t (appliedBy t e))
     unfolding effectOf answerOf overlay
     effect-line = rw (a .effect, take-append-seam) refl
 
-    line-said : lineOf (c .events + 1) (subject e) (total t (d .controller)) (take (d .answer .size) (d .answer .names)) ≡ lineAt so-far s (length w)
+    line-said : lineOf (c .events + 1) (subject e) (sums t (d .controller)) (take (d .answer .size) (d .answer .names)) ≡ lineAt so-far s (length w)
     unfolding lineAt accepted answering resulting controllerOf progressOf
     line-said = effect-line ∙ line-shown t e (c .events + 1) z (leaves e ee .0) ∙ rw (step-is-accepted t s (length w) passed, ee) refl
 
     module _ (q : Put) (m : List ℕ)
-        (ew : Wrote (lineOf (c .events + 1) (subject e) (total t (d .controller)) (take (d .answer .size) (d .answer .names))) (midOf (c .written) space l) m q) where
+        (ew : Wrote (lineOf (c .events + 1) (subject e) (sums t (d .controller)) (take (d .answer .size) (d .answer .names))) (midOf (c .written) space l) m q) where
       abbrev x : List ℕ
       x = lineAt so-far s (length w)
 

@@ -3,7 +3,7 @@ use Prim.Native.Nat.{ℕ}
 use mathlib.Core.Path.{_≡_}
 use mathlib.Core.Bool.{false, cond}
 use mathlib.Core.List.{List, []}
-use lib.IntN.{pos}
+use Rattle.model.specs.Tables.{noSums}
 use Rattle.model.specs.Events.{subject, after, next, appliedBy, panelOf, namesOf, finishes}
 use Rattle.model.specs.Calls.{cleared, answerOf}
 use Rattle.model.specs.declared.Controller.{Controller}
@@ -19,18 +19,18 @@ Leaves t e c = Accepted t e × (c ≡ after t e)
 
 -- the answer of a refusal, or of an event that applies nothing
 unfoldable pub noSet : ℕ → Answer
-noSet k = answerOf (record { number = k; names = []; finished = false; total = pos 0; rest = [] })
+noSet k = answerOf (record { number = k; names = []; finished = false; sums = noSums; rest = [] })
 
 -- the answer of a local read of c
 unfoldable pub readAnswer : Table → ℕ → Answer
-readAnswer t c = answerOf (record { number = 0; names = []; finished = false; total = panelOf t c .total; rest = [] })
+readAnswer t c = answerOf (record { number = 0; names = []; finished = false; sums = panelOf t c .sums; rest = [] })
 
 unfoldable pub effectOf : Table → Event → Effect
 effectOf t e =
     let f = finishes t (appliedBy t e) (subject e) in
-    let z = panelOf (next t e) (subject e) .total in
+    let z = panelOf (next t e) (subject e) .sums in
     record {
-      answer = answerOf (record { number = 0; names = namesOf t (appliedBy t e); finished = f; total = cond f z (pos 0); rest = [] });
+      answer = answerOf (record { number = 0; names = namesOf t (appliedBy t e); finished = f; sums = cond f z noSums; rest = [] });
       controller = after t e;
     }
 

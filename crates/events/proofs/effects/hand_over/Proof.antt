@@ -9,7 +9,6 @@ use Rattle.model.proofs.Owned.{table-sized}
 use Rattle.model.proofs.Tested.{facts}
 use Rattle.invariant.proofs.Stores.{at-sized}
 use Rattle.invariant.proofs.Sizes.{received-sized}
-use Rattle.totals.proofs.Signed.{returned}
 use Rattle.events.specs.Conditions.{OfRun}
 use Rattle.events.proofs.Accepted.{handable, handed-of-run}
 use Rattle.events.proofs.Reading.{taken-received}
@@ -100,7 +99,7 @@ returns-2 c =
     let d = ruled (named f) in
     let s = start (read d) in
     record {
-      effect = handed-effect _ _ _ (sized s) (receiver s) _ (entry-read (read d)) _ (set-is d) _ (named f .names-of .ensures) _ (f .finishes .ensures) _ (c .before .before .delivered .ensures) _ (returned _ (c .before .sync-answer .ok) ∙ c .before .sync-answer .ensures) _ (c .flag .ensures);
+      effect = handed-effect _ _ _ (sized s) (receiver s) _ (entry-read (read d)) _ (set-is d) _ (named f .names-of .ensures) _ (f .finishes .ensures) _ (c .before .before .delivered .ensures) _ (c .before .sync-answer .ensures) _ (c .flag .ensures);
       clear = scratch-cleared _ _ (s .pre .1) (d .apply .ensures);
     }
 

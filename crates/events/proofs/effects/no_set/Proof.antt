@@ -3,12 +3,16 @@ use mathlib.Core.Path.{refl}
 use Rattle.lists.specs.Build.{overlay}
 use Rattle.model.specs.Calls.{answerOf}
 use Rattle.events.specs.Effects.{noSet}
+use borrow.Author.Needs.{needs}
 use Rattle.events.proofs.effects.no_set.Statement.{statement}
 use Rattle.events.proofs.effects.no_set.Tie as tie
 
+zero-requires : tie.Need-zero-requires
+zero-requires c κs = search needs
+
 returns : tie.Need-returns
 unfolding noSet answerOf overlay
-returns c = refl
+returns c = rw (c .zero .ensures) refl
 
 pub no-set-spec : {M : Type 1} → statement M
-no-set-spec = tie.close (tie.spec returns)
+no-set-spec = tie.close (tie.spec zero-requires returns)

@@ -20,12 +20,12 @@ element-copy-out-x c = search needs
 no-set-requires : tie.Need-no-set-requires
 no-set-requires c κs = search needs
 
-total-requires : tie.Need-total-requires
-total-requires c κs = search needs
+sums-requires : tie.Need-sums-requires
+sums-requires c κs = search needs
 
 returns : tie.Need-returns
 unfolding readAnswer noSet answerOf panelOf shown at
-returns c = rw (c .before .no-set .ensures, c .total .ensures) refl
+returns c = rw (c .before .no-set .ensures, c .sums .ensures) refl
 
 pub read-answer-spec : {M : Type 1} → statement M
-read-answer-spec = tie.close (tie.spec sub-i mul-x element-copy-out-x no-set-requires total-requires returns)
+read-answer-spec = tie.close (tie.spec sub-i mul-x element-copy-out-x no-set-requires sums-requires returns)

@@ -1,18 +1,19 @@
--- `sync_answer` is the total, where a sync is finished. Assumes nothing.
-use mathlib.Core.Path.{refl, _∙_}
+-- `sync_answer` is the sums, where a sync is finished. Assumes nothing.
 use borrow.Author.Needs.{needs}
-use Rattle.totals.proofs.Signed.{returned}
 use Rattle.events.proofs.effects.sync_answer.Statement.{statement}
 use Rattle.events.proofs.effects.sync_answer.Tie as tie
 
-total-requires : tie.Need-total-requires
-total-requires c κs = search needs
+sums-requires : tie.Need-sums-requires
+sums-requires c κs = search needs
 
 returns : tie.Need-returns
-returns c = rw (c .before .if1 .taken) (returned _ (c .total .ok) ∙ c .total .ensures)
+returns c = rw (c .before .if1 .taken) (c .sums .ensures)
+
+zero-requires : tie.Need-zero-requires
+zero-requires c κs = search needs
 
 returns-2 : tie.Need-returns-2
-returns-2 c = rw (c .if1 .left) refl
+returns-2 c = rw (c .before .if1 .left) (c .zero .ensures)
 
 pub sync-answer-spec : {M : Type 1} → statement M
-sync-answer-spec = tie.close (tie.spec total-requires returns returns-2)
+sync-answer-spec = tie.close (tie.spec sums-requires returns zero-requires returns-2)

@@ -3,24 +3,23 @@ use mathlib.Core.Path.{_≡_}
 use native.Mathlib.Omega.{arith}
 use borrow.Author.Needs.{needs}
 use Rattle.model.specs.Runs.{lineOf}
-use Rattle.totals.proofs.Signed.{returned}
 use Rattle.events.proofs.Turning.{no-line}
 use Rattle.events.proofs.files.list_line.Statement.{statement}
 use Rattle.events.proofs.files.list_line.Tie as tie
 
--- PLACES: from behind the line to the subject, and from there to the total
+-- PLACES: from behind the line to the subject, and from there to the sums
 abbrev named : tie.After-slice-known2 → tie.After-subject
 named c = c .before .before .before
 
-abbrev total : tie.After-subject → tie.After-total
-total c = c .before .before .before
+abbrev sums : tie.After-subject → tie.After-sums
+sums c = c .before .before .before
 
 returns : tie.Need-returns
 unfolding lineOf
 returns c = rw (c .if1 .taken) (no-line _)
 
-total-requires : tie.Need-total-requires
-total-requires c κs = search needs
+sums-requires : tie.Need-sums-requires
+sums-requires c κs = search needs
 
 subject-requires : tie.Need-subject-requires
 subject-requires c κs = search needs
@@ -33,8 +32,7 @@ same-length c = search needs
 
 returns-2 : tie.Need-returns-2
 returns-2 c =
-    let z = total (named c) .total in
-    rw (← named c .subject .ensures, ← z .ensures) (rw (returned (z .result) (z .ok)) at (c .before .before .put-line .ensures))
+    rw (← named c .subject .ensures, ← sums (named c) .sums .ensures) (c .before .before .put-line .ensures)
 
 pub list-line-spec : {M : Type 1} → statement M
-list-line-spec = tie.close (tie.spec returns total-requires subject-requires put-line-requires same-length returns-2)
+list-line-spec = tie.close (tie.spec returns sums-requires subject-requires put-line-requires same-length returns-2)
