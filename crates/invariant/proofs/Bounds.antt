@@ -1,17 +1,16 @@
--- On a well-formed table the two sums, of all messages or of a class, come together to at most 23,040: 64 amounts of at most 360. So
--- of all that a look or an event answers, on every table. Assumes nothing.
-use mathlib.Core.Path.{_≡_, sym}
+-- On a well-formed table the two sums, of all messages or of a class, come together to at most 23,040: 64 amounts of at most 360.
+-- Assumes nothing.
+use mathlib.Core.Path.{_≡_}
 use mathlib.Core.Bool.{Bool, true, false, _&&_, _||_, cond}
 use mathlib.Core.Logic.{_⊎_, inl, inr}
-use mathlib.Core.List.{List, [], _∷_}
 use Prim.Native.Nat.{ℕ, _+_, _≤_}
 use native.Mathlib.Omega.{arith}
 use lib.Dec.{eqb, ltb}
 use borrow.Author.Tests.{leb-true, eqb-true}
-use Rattle.lists.proofs.Tests.{and-left, and-right, or-cases, cond-case}
+use Rattle.lists.proofs.Tests.{and-left, and-right, or-cases}
 use Rattle.lists.proofs.Below.{sum-bound, sum-plus}
-use Rattle.model.specs.Tables.{noSums, at, message, applied}
-use Rattle.model.specs.Events.{weigh, ofClass, sums, classSums}
+use Rattle.model.specs.Tables.{message, applied}
+use Rattle.model.specs.Events.{weigh, sums, classSums}
 use Rattle.model.specs.WellFormed.{fairMagnitude, fairAmount}
 use Rattle.model.specs.declared.Payload.{Payload}
 use Rattle.model.specs.declared.Sums.{Sums}
@@ -64,8 +63,12 @@ pub record Bounded (z : Sums) : Type 0 where
   pub withdrawn : z .withdrawn ≤ 23040
   pub together : z .added + z .withdrawn ≤ 23040
 
-bounded : (z : Sums) → z .added + z .withdrawn ≤ 23040 → Bounded z
+pub bounded : (z : Sums) → z .added + z .withdrawn ≤ 23040 → Bounded z
 bounded z h = record { added = omega arith; withdrawn = omega arith; together = h }
+
+where-counted : (b : Bool) (v w : ℕ) → v + w ≤ 360 → cond b v 0 + cond b w 0 ≤ 360
+where-counted true v w h = h
+where-counted false v w h = omega arith
 
 module _ (t : Table) (f : WellFormed t) (x : Controller) where
   -- of any two weights that come to at most 360 for each message
@@ -76,12 +79,8 @@ module _ (t : Table) (f : WellFormed t) (x : Controller) where
         arith,
         f .counted,
         sum-plus (t .count) (λ s. cond (applied x s) (v (message t s .payload)) 0) (λ s. cond (applied x s) (w (message t s .payload)) 0),
-        sum-bound (t .count) _ 360 (λ s l. each (applied x s) _ _ (h (message t s .payload) (f .amounts s l))),
+        sum-bound (t .count) _ 360 (λ s l. where-counted (applied x s) _ _ (h (message t s .payload) (f .amounts s l))),
       )
-    where
-      each : (b : Bool) (v w : ℕ) → v + w ≤ 360 → cond b v 0 + cond b w 0 ≤ 360
-      each true v w h = h
-      each false v w h = omega arith
 
   pub sums-bounded : Bounded (sums t x)
   unfolding sums
@@ -89,8 +88,4 @@ module _ (t : Table) (f : WellFormed t) (x : Controller) where
 
   pub class-bounded : (k : ℕ) → Bounded (classSums t x k)
   unfolding classSums
-  class-bounded k = bounded _ (weigh-bound _ _ (λ p e. one (eqb (p .class) k) _ _ (fair-parts p e .small)))
-    where
-      one : (b : Bool) (v w : ℕ) → v + w ≤ 360 → cond b v 0 + cond b w 0 ≤ 360
-      one true v w h = h
-      one false v w h = omega arith
+  class-bounded k = bounded _ (weigh-bound _ _ (λ p e. where-counted (eqb (p .class) k) _ _ (fair-parts p e .small)))

@@ -2,7 +2,7 @@
 -- Assumes nothing.
 use mathlib.Core.Path.{_≡_, refl, sym, ap, fun-ext, _∙_}
 use mathlib.Core.Bool.{Bool, true, false, _&&_, cond}
-use mathlib.Core.List.{[], _∷_, foldr}
+use mathlib.Core.List.{foldr}
 use Prim.Native.Nat.{ℕ, zero, suc, _+_, _≤_}
 use native.Mathlib.Omega.{arith}
 use lib.Dec.{eqb, leb, ltb}
@@ -12,19 +12,14 @@ use Rattle.lists.specs.Build.{tabulateFrom, tabulate}
 use Rattle.lists.proofs.Tests.{and-right, cond-case}
 use Rattle.lists.proofs.Below.{sum-ext, sum-plus}
 use Rattle.lists.proofs.Clipped.{sum-none}
-use Rattle.model.specs.Tables.{lastClass, classCount, noSums, noPanel, at, message, applied}
-use Rattle.model.specs.Events.{weigh, bothOf, plus, sums, ofClass, classSums, shown, panelOf}
-use Rattle.model.specs.WellFormed.{fairClass, named, wellFormed}
-use Rattle.model.specs.Questions.{ask, firstNo, lentTable}
-use Rattle.model.specs.Calls.{look}
+use Rattle.model.specs.Tables.{lastClass, classCount, noSums, message, applied}
+use Rattle.model.specs.Events.{weigh, bothOf, plus, sums, ofClass, classSums, shown}
+use Rattle.model.specs.WellFormed.{fairClass}
 use Rattle.model.specs.declared.Sums.{Sums}
-use Rattle.model.specs.declared.Panel.{Panel}
 use Rattle.model.specs.declared.Payload.{Payload}
 use Rattle.model.specs.declared.Controller.{Controller}
 use Rattle.model.specs.declared.Table.{Table}
 use Rattle.model.specs.Facts.{WellFormed}
-use Rattle.model.proofs.Tested.{facts}
-use Rattle.model.proofs.Allowed.{no-no}
 
 class-bound : (v : ℕ) (p : Payload) → fairClass v p ≡ true → p .class ≤ lastClass
 unfolding fairClass
@@ -75,11 +70,3 @@ module _ (t : Table) (w : WellFormed t) (x : Controller) where
   pub classes-add-up : foldr plus noSums (shown t x .classes) ≡ shown t x .sums
   unfolding shown sums classSums tabulate
   classes-add-up = by-parts (classSums t x) 0 classCount ∙ ap (λ (f : (Payload → ℕ) → ℕ). bothOf f) (fun-ext weights-add-up)
-
--- so of every look at every table: a refused one shows zeros
-pub look-adds-up : (t : Table) (c : ℕ) → foldr plus noSums (look t c .panel .classes) ≡ look t c .panel .sums
-unfolding look panelOf lentTable
-look-adds-up t c =
-    let k = firstNo (lentTable t ∷ ask 8 (named t c) ∷ []) in
-    cond-case (λ (p : Panel). foldr plus noSums (p .classes) ≡ p .sums) (eqb k 0) (shown t (at t c)) noPanel
-    (λ e. classes-add-up t (facts t (no-no 3 (wellFormed t) _ (eqb-true k 0 e) .0)) (at t c)) (λ _. refl)

@@ -14,3 +14,4 @@ pub mod Bounds
 pub mod Refusals
 pub mod Listing
 pub mod Classes
+pub mod Shown
