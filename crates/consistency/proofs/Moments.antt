@@ -10,7 +10,7 @@ use Rattle.model.specs.Events.{withSent, next, controllerOf, resulting, panelOf
 use Rattle.model.specs.Records.{behind, decode}
 use Rattle.model.specs.WellFormed.{wellFormed}
 use Rattle.model.specs.Questions.{firstNo, commandQuestions, lentTable, stepQuestions}
-use Rattle.model.specs.Calls.{Outcome, answering, accepted, refused, event, look}
+use Rattle.model.specs.Calls.{EventAnswer, Outcome, answering, accepted, refused, event, look}
 use Rattle.model.specs.declared.Table.{Table}
 use Rattle.model.specs.declared.Event.{Event}
 use Rattle.model.specs.declared.Event.the-variants.{Send, Handover, Stop}
@@ -75,6 +75,14 @@ told t (answered s w a) = event t s (length w) .table
 told t (looked c a) = t
 told t (listed s x) = accepted t s .table
 
+-- an event call that is accepted answers likewise
+pub call-accepted : (t : Table) (s w : List ℕ) (a : EventAnswer) → a ≡ event t s (length w) .answer → a .number ≡ 0
+    → (firstNo (commandQuestions t (decode (t .version) s)) ≡ 0) × (a ≡ accepted t s .answer)
+unfolding event refused lentTable
+call-accepted t s w a e z =
+    rw e (settled-case (λ (o : Outcome). o .answer .number ≡ 0 → (firstNo (commandQuestions t (decode (t .version) s)) ≡ 0) × (o .answer ≡ accepted t s .answer)) t s _
+    (λ k _. (step-asked t s (length w) (no-no 3 (wellFormed t) _ k .1) .1, refl)) (λ d z. absurd (d z)) (rw e at z))
+
 -- an accepted record stands for a legal step, or for none, that leads to the table that it leaves
 accepted-taken : (t : Table) (s : List ℕ) → firstNo (commandQuestions t (decode (t .version) s)) ≡ 0
     → Course stepped Takes t (stepsOf (said (t .version) s) (decode (t .version) s) (accepted t s .answer .names)) (accepted t s .table)
@@ -96,7 +104,7 @@ event-taken t s w =
     (λ e. rw (answering-number t (decode (t .version) s) (behind s)) (accepted-taken t s (step-asked t s (length w) (no-no 3 (wellFormed t) _ e .1) .1)))
     (λ d. rw (ne-eqb k 0 d) refl)
 
-entry-taken : (t : Table) (e : Entry) → Gives t e → Course stepped Takes t (steps (t .version) e) (told t e)
+pub entry-taken : (t : Table) (e : Entry) → Gives t e → Course stepped Takes t (steps (t .version) e) (told t e)
 unfolding Gives told steps Course
 entry-taken t (answered s w a) q = rw q (event-taken t s w)
 entry-taken t (looked c a) q = refl

@@ -103,6 +103,11 @@ unfolding written
 written-set z [] = refl
 written-set z (m ∷ ms) = refl
 
+pub written-sums : (z : Sums) (ms : List Name) → ms ≢ [] → written z ms .sums ≡ z
+unfolding written
+written-sums z [] some = absurd (some refl)
+written-sums z (m ∷ ms) some = refl
+
 -- a line is read where it is the one of event n, and otherwise a later one
 line-read : (n e c : ℕ) (z : Sums) (ms : List Name) (s : List ℕ)
     → lineFor n (split 10 (line e c z ms ++ s)) ≡ cond (eqb e n) (record { set = ms; sums = z }) (lineFor n (split 10 s))

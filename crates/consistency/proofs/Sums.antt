@@ -93,8 +93,8 @@ pub record Weight : Type 0 where
   pub agree : (m : Message) → fairAmount (m .payload) ≡ true → of (sentOf m) ≡ stored (m .payload)
 
 -- one that its payload gives
-abbrev pub given : (Payload → ℕ) → Weight
-given v = record { of = λ x. v (x .payload); stored = v; agree = λ m e. refl }
+abbrev pub of-payload : (Payload → ℕ) → Weight
+of-payload v = record { of = λ x. v (x .payload); stored = v; agree = λ m e. refl }
 
 unfoldable added : Weight
 added = record { of = λ x. above (x .amount); stored = λ p. p .added; agree = λ m e. kept (m .payload) e .0 }
