@@ -12,12 +12,11 @@ use borrow.Author.Tests.{eq-eqb, ne-eqb}
 use Rattle.lists.specs.Build.{overlay}
 use Rattle.lists.proofs.Tests.{cond-true, cond-false}
 use Rattle.model.specs.Tables.{fresh}
-use Rattle.model.specs.Events.{controllerOf, panelOf}
+use Rattle.model.specs.Events.{controllerOf}
 use Rattle.model.specs.Records.{byte, behind, decode}
 use Rattle.model.specs.Questions.{firstNo, fileQuestions, stepQuestions}
 use Rattle.model.specs.Calls.{Outcome, accepted, step}
 use Rattle.model.specs.Runs.{Progress, lineAt, verdict, records, begun, progress, ran, fileRun}
-use Rattle.model.specs.declared.Name.{Name}
 use Rattle.model.proofs.Allowed.{step-asked}
 use Rattle.model.proofs.Steps.{step-is-accepted, accepted-asked, file-run-ran}
 use Rattle.model.proofs.Runs.{gone, verdict-passed, advance-case}
@@ -54,6 +53,7 @@ module _ (p : Progress) (s : List ℕ) (room space : ℕ) (v : verdict p s room 
   abbrev c : ℕ
   c = controllerOf (decode (p .table .version) s)
 
+  -- what its line says
   abbrev says : Line
   says = lineAfter c (step (p .table) s room)
 
@@ -69,8 +69,7 @@ module _ (p : Progress) (s : List ℕ) (room space : ℕ) (v : verdict p s room 
   module _ (k : ℕ) (tail : List ℕ) (later : (n : ℕ) → n ≤ e → lineFor n (split 10 tail) ≡ noLine) where
     own-read : (n : ℕ) → lineFor n (split 10 (lineAt p s room ++ tail)) ≡ cond (eqb e n) says (lineFor n (split 10 tail))
     unfolding lineAt
-    own-read n =
-        event-read n e c _ _ tail (λ q. later n (omega arith))
+    own-read n = event-read n e c _ _ tail (λ q. later n (omega arith))
 
     other-read : (n : ℕ) → e ≢ n → lineFor n (split 10 (lineAt p s room ++ tail)) ≡ lineFor n (split 10 tail)
     other-read n d = own-read n ∙ cond-false _ _ (ne-eqb e n d)

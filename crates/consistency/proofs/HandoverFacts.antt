@@ -1,8 +1,8 @@
 -- What an accepted handover answers besides its set, and so its line in a file: whether the set finishes a sync of the receiver's own, and
 -- the sums over all that the receiver has then applied. Assumes nothing.
 use mathlib.Core.Path.{_≡_, refl, sym, ap, ap₂, _∙_}
-use mathlib.Core.Bool.{Bool, true, false, _&&_, _||_, cond, and-assoc, and-comm, and-false, false≢true}
-use mathlib.Core.List.{List, [], _∷_}
+use mathlib.Core.Bool.{Bool, true, false, _&&_, cond, and-assoc, and-comm, and-false}
+use mathlib.Core.List.{List, [], _∷_, cons-ne-nil}
 use mathlib.Core.Logic.{_≢_}
 use Prim.Native.Nat.{ℕ, _<_}
 use native.Mathlib.Omega.{arith}
@@ -25,7 +25,7 @@ use Rattle.model.specs.declared.Command.{Command}
 use Rattle.model.specs.declared.Command.the-variants.{Act, Read}
 use Rattle.model.specs.Facts.{WellFormed}
 use Rattle.model.proofs.Allowed.{handover-allowed}
-use Rattle.consistency.specs.Demand3.{has, Line, Entry, answered, looked, listed, Said, Step, carried, stepsOf, steps, Sent, Ledger, applied, showing, finishing, Finishes}
+use Rattle.consistency.specs.Demand3.{has, Line, Entry, answered, looked, listed, Said, carried, stepsOf, steps, Sent, Ledger, applied, showing, finishing, Finishes}
 use Rattle.consistency.proofs.Names.{any-tabulate}
 use Rattle.consistency.proofs.SlotNames.{nameAt, has-names}
 use Rattle.consistency.proofs.Ledger.{sentAt, Recorded}
@@ -60,7 +60,7 @@ finishing-none (x ∷ xs) c = rw (and-false (eqb (x .name .sender) c), and-false
 carries : (a : Command) (p q : Said) (e : Event) (ms ks : List Name) → stepsOf p a ms ≡ carried q e ks ∷ [] → a ≡ Act e
 unfolding stepsOf
 carries (Act f) p q e ms ks is = cc
-carries (Read c) p q e ms ks is = absurd (false≢true cc)
+carries (Read c) p q e ms ks is = absurd (cons-ne-nil _ [] (sym is))
 
 call-carries : (k v : ℕ) (s : List ℕ) (p q : Said) (e : Event) (ms ks : List Name)
     → cond (eqb k 0) (stepsOf p (decode v s) ms) [] ≡ carried q e ks ∷ [] → (k ≡ 0) × (decode v s ≡ Act e)
@@ -68,7 +68,7 @@ call-carries k v s p q e ms ks = go (eqb k 0) refl
   where
     go : (b : Bool) → eqb k 0 ≡ b → cond b (stepsOf p (decode v s) ms) [] ≡ carried q e ks ∷ [] → (k ≡ 0) × (decode v s ≡ Act e)
     go true z is = (eqb-true k 0 z, carries (decode v s) p q e ms ks is)
-    go false z is = absurd (false≢true cc)
+    go false z is = absurd (cons-ne-nil _ [] (sym is))
 
 -- A HANDOVER, from table t to the one after it
 
@@ -117,5 +117,5 @@ module _ {n : ℕ} {t : Table} (formed : WellFormed t) (r o : ℕ) (q : Said) (m
   entry-finishes (answered s w a) g is k =
       let h = handed (answered s w a) g is k in
       call-answers formed r o q ms (h .0) (h .1) s w a g (call-carries (a .number) (t .version) s _ q (Handover r o) _ ms is)
-  entry-finishes (looked c a) g is k = absurd (false≢true cc)
+  entry-finishes (looked c a) g is k = absurd (cons-ne-nil _ [] (sym is))
   entry-finishes (listed s x) g is k = λ f. line-sums s x g is k (λ none. contradiction f (rw none (finishing-none (l .sent) r)))

@@ -1,8 +1,8 @@
 -- Demand 3: the claim holds of every list, whichever head it has and whatever the calls. Assumes nothing.
 use mathlib.Core.Path.{_≡_, refl, sym, ap, _∙_}
 use mathlib.Core.Logic.{_≢_, _⊎_, inl, inr}
-use mathlib.Core.Bool.{true, false≢true}
-use mathlib.Core.List.{List, [], _∷_, _++_, foldl, foldl-append, append-assoc}
+use mathlib.Core.Bool.{true}
+use mathlib.Core.List.{List, [], _∷_, _++_, foldl, foldl-append, append-assoc, cons-ne-nil}
 use Prim.Native.Nat.{ℕ, suc, _+_, _-_}
 use native.Mathlib.Numerals.{add-one}
 use native.Mathlib.Omega.{arith}
@@ -159,7 +159,7 @@ demand-3 h heads calls = record {
   lines = λ i r o q x ms s z after p is.
       let m = moment-at h heads calls i in
       line-sums (m .related .formed) r o q (x ∷ ms) s z (gives-at h heads calls i (listed s z) after p) (rw (version-at h heads calls i) is)
-      (moment-behind h heads calls i (listed s z) after p .recorded) (λ e. false≢true cc);
+      (moment-behind h heads calls i (listed s z) after p .recorded) (cons-ne-nil x ms);
   in-order = λ i. in-order (moment-at h heads calls i);
   ending = λ i r e on. moment-ending (moment-at h heads calls i) e r on;
   ending-look = λ i r e on.
