@@ -1,7 +1,7 @@
 -- What an accepted handover answers besides its set, and so its line in a file: whether the set finishes a sync of the receiver's own, and
 -- the sums over all that the receiver has then applied. Assumes nothing.
 use mathlib.Core.Path.{_≡_, refl, sym, ap, ap₂, _∙_}
-use mathlib.Core.Bool.{Bool, true, false, _&&_, cond, and-assoc, and-comm, and-false}
+use mathlib.Core.Bool.{Bool, true, false, _&&_, _||_, cond, and-assoc, and-comm, and-false, or-false}
 use mathlib.Core.List.{List, [], _∷_, cons-ne-nil}
 use mathlib.Core.Logic.{_≢_}
 use Prim.Native.Nat.{ℕ, _<_}
@@ -42,12 +42,11 @@ finishing-slots : {n : ℕ} {t : Table} {l : Ledger} → Recorded n t l → (S :
 unfolding finishes finishing
 finishing-slots {t = t} k S ms f c =
     ap (ltb 0) (count-ext (t .count) _ _ (λ j h. rw (f j h) (last (member S j) (eqb (message t j .payload .kind) 2) (eqb (message t j .sender) c))))
-    ∙ sym (any-tabulate (λ xs. finishing xs ms c) (λ (x : Sent). eqb (x .payload .kind) 2 && (eqb (x .name .sender) c && has (x .name) ms))
-    refl (λ _ _. refl) (sentAt t) (t .count))
+    ∙ sym (any-tabulate (λ xs. finishing xs ms c) (λ x. finishing (x ∷ []) ms c) refl (λ _ _. rw or-false) (sentAt t) (t .count))
     ∙ ap (λ (xs : List Sent). finishing xs ms c) (sym (k .sent))
   where
-    last : (a b d : Bool) → (a && (b && d)) ≡ (b && (d && a))
-    last a b d = and-comm a (b && d) ∙ and-assoc b d a
+    last : (a b d : Bool) → (a && (b && d)) ≡ (b && (d && a) || false)
+    last a b d = and-comm a (b && d) ∙ and-assoc b d a ∙ sym (or-false _)
 
 -- the empty set holds none
 finishing-none : (xs : List Sent) (c : ℕ) → finishing xs [] c ≡ false

@@ -138,15 +138,14 @@ module _ {n : ℕ} {t : Table} {l : Ledger} (k : Recorded n t l) where
       ∙ sum-ext (t .count) _ _ (λ j _. ap (λ x. cond x (w (sentAt t j)) 0) (f (nameAt t j)))
       ∙ sym (weights-members w ks e)
 
-  -- the same members, the same panel
-  pub same-members-same-panel : (ms ks : List Name) → Distinct ms → Distinct ks → Exactly ms ks → showing (l .sent) ms ≡ showing (l .sent) ks
-  unfolding showing added withdrawn inClass
-  same-members-same-panel ms ks d e h = ap panel (fun-ext (λ w. same-members-same-weights (w .of) ms ks d e h))
-
-  -- what a panel shows
-  pub panel-applied : (c : ℕ) → Among n c → panelOf t c ≡ showing (l .sent) (applied l c)
+  -- a panel shows the sums of whatever has the members that were applied
+  panel-members : (c : ℕ) → Among n c → (ms : List Name) → Distinct ms → Exactly (applied l c) ms → panelOf t c ≡ showing (l .sent) ms
   unfolding panelOf shown sums classSums showing added withdrawn inClass
-  panel-applied c h = ap panel (fun-ext (λ w. sym (weights-weigh w c h)))
+  panel-members c h ms d f =
+      ap panel (fun-ext (λ w. sym (weights-weigh w c h) ∙ same-members-same-weights (w .of) (applied l c) ms (k .once c) d f))
+
+  pub panel-applied : (c : ℕ) → Among n c → panelOf t c ≡ showing (l .sent) (applied l c)
+  panel-applied c h = panel-members c h (applied l c) (k .once c) (λ _. refl)
 
   -- WHAT REMAINS
 
@@ -163,4 +162,4 @@ module _ {n : ℕ} {t : Table} {l : Ledger} (k : Recorded n t l) where
 
   -- where what was applied is what remains, it shows the panel of that
   pub panel-remaining : (c : ℕ) → Among n c → Exactly (applied l c) (remaining l) → panelOf t c ≡ showing (l .sent) (remaining l)
-  panel-remaining c h f = panel-applied c h ∙ same-members-same-panel (applied l c) (remaining l) (k .once c) distinct-remaining f
+  panel-remaining c h = panel-members c h (remaining l) distinct-remaining
