@@ -36,7 +36,7 @@ use Rattle.consistency.proofs.Moments.{Course, stepped, Takes, Gives, t
 
 -- A SET THAT HOLDS A SYNC OF c
 
--- of the ledger and of the table: names that are those of the slots of S
+-- the ledger and the table say the same of a set, by its names and by its slots
 finishing-slots : {n : ℕ} {t : Table} {l : Ledger} → Recorded n t l → (S : Slots) (ms : List Name)
     → ((j : ℕ) → j < t .count → has (nameAt t j) ms ≡ member S j) → (c : ℕ) → finishes t S c ≡ finishing (l .sent) ms c
 unfolding finishes finishing
@@ -52,9 +52,9 @@ finishing-slots {t = t} k S ms f c =
 finishing-none : (xs : List Sent) (c : ℕ) → finishing xs [] c ≡ false
 unfolding finishing has
 finishing-none [] c = refl
-finishing-none (x ∷ xs) c = rw (and-false (eqb (x .name .sender) c), and-false (eqb (x .payload .kind) 2)) (finishing-none xs c)
+finishing-none (x ∷ xs) c = simp and-false (finishing-none xs c)
 
--- WHAT A RECORD CARRIES OUT
+-- WHAT AN ENTRY STANDS FOR: one step, so an accepted record of that event
 
 carries : (a : Command) (p q : Said) (e : Event) (ms ks : List Name) → stepsOf p a ms ≡ carried q e ks ∷ [] → a ≡ Act e
 unfolding stepsOf

@@ -86,7 +86,7 @@ parts (suc a) (suc w) (inr z) = absurd (omega arith)
 kept : (p : Payload) → fairAmount p ≡ true → (above (balance p) ≡ p .added) × (below (balance p) ≡ p .withdrawn)
 kept p e = parts (p .added) (p .withdrawn) (fair-parts p e .apart)
 
--- a weight of a message in the ledger, and of its payload in the table
+-- a weight of a message in the ledger, and of its payload in the table, the same where the amount is fair
 pub record Weight : Type 0 where
   pub of : Sent → ℕ
   pub stored : Payload → ℕ
@@ -144,6 +144,7 @@ module _ {n : ℕ} {t : Table} {l : Ledger} (k : Recorded n t l) where
   panel-members c h ms d f =
       ap panel (fun-ext (λ w. sym (weights-weigh w c h) ∙ same-members-same-weights (w .of) (applied l c) ms (k .once c) d f))
 
+  -- what a panel shows
   pub panel-applied : (c : ℕ) → Among n c → panelOf t c ≡ showing (l .sent) (applied l c)
   panel-applied c h = panel-members c h (applied l c) (k .once c) (λ _. refl)
 

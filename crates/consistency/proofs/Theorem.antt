@@ -192,8 +192,8 @@ never-4 h heads calls i s w a after q z =
     ∙ (ap (λ (o : Outcome). o .answer .number) (event-number-step t s (length w) (tables-well-formed h heads calls i)) ∙ step-number t s (length w)) in
     elim (step-number-range t s (length w)) [ inl k ↦ absurd (omega arith) | inr k ↦ absurd (omega arith) ]
 
--- FOR ANY WEIGHT of a message, a number that its payload gives: each sum of the demand is one of them. What was applied weighs what the
--- table computes, and at the ending it weighs what remains.
+-- FOR ANY WEIGHT of a message, a number that its payload gives: each sum of the demand is one of them, for a payload keeps both parts of
+-- the amount. What was applied weighs what the table computes, and at the ending it weighs what remains.
 pub any-weight : (h : Head) → Heads h → (calls : List Call) (v : Payload → ℕ) (i c : ℕ) → Among (controllers h) c
     → weights (λ (x : Sent). v (x .payload)) (moment h calls i .sent) (applied (moment h calls i) c) ≡ weigh v (tableAt h calls i) (at (tableAt h calls i) c)
 any-weight h heads calls v i c k = weights-weigh (moment-at h heads calls i .recorded) (of-payload v) c k
