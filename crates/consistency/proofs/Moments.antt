@@ -75,7 +75,7 @@ told t (answered s w a) = event t s (length w) .table
 told t (looked c a) = t
 told t (listed s x) = accepted t s .table
 
--- an event call that is accepted answers likewise
+-- so an accepted event call: no question refuses its record, and it gives the record's answer
 pub call-accepted : (t : Table) (s w : List ℕ) (a : EventAnswer) → a ≡ event t s (length w) .answer → a .number ≡ 0
     → (firstNo (commandQuestions t (decode (t .version) s)) ≡ 0) × (a ≡ accepted t s .answer)
 unfolding event refused lentTable
