@@ -2,7 +2,7 @@
 use mathlib.Core.Path.{_≡_, refl, sym, ap, _∙_}
 use mathlib.Core.Bool.{true}
 use mathlib.Core.Logic.{_⊎_, inl, inr, _↔_}
-use Prim.Native.Nat.{ℕ, suc, _+_, _-_, _*_, min, _≤_, _<_}
+use Prim.Native.Nat.{ℕ, suc, _-_, _*_, min, _≤_, _<_}
 use native.Mathlib.Omega.{arith}
 use Rattle.lists.specs.Below.{count}
 use Rattle.lists.proofs.Tests.{contradiction, refuted, or-cases}

@@ -1,13 +1,12 @@
 -- Decimal numbers read back, and text split at a byte: what the reader of listing lines rests on. Assumes nothing.
-use Prim.Native.Nat.{ℕ, suc, _+_, _-_, _*_, _%_, _≤_, _<_}
+use Prim.Native.Nat.{ℕ, _+_, _-_, _*_, _%_, _≤_, _<_}
 use mathlib.Core.Path.{_≡_, refl}
 use mathlib.Core.List.{List, [], _∷_, _++_}
 use mathlib.Core.Logic.{_≢_}
 use native.Mathlib.Omega.{arith}
-use lib.IntN.{ℤ, pos, negsuc}
 use borrow.Author.Tests.{eq-eqb, ne-eqb}
 use Rattle.lists.proofs.Every.{Every, every-append, every-weaker}
-use Rattle.model.specs.Runs.{decimal, signed}
+use Rattle.model.specs.Runs.{decimal}
 use Rattle.model.proofs.Decimals.{by-decimal}
 use Rattle.consistency.specs.Demand3.{first, split, numberFrom, numberIn}
 
@@ -56,8 +55,3 @@ lacks-joined x b p s d h k = every-append (λ a. a ≢ x) p (b ∷ s) h (d, k)
 -- a byte that is no digit stands in no number
 pub decimal-lacks : (x k : ℕ) → k < 48 → Lacks k (decimal x)
 decimal-lacks x k h = every-weaker Digit (λ b. b ≢ k) (λ b d. omega arith) (decimal x) (decimal-digits x)
-
-pub signed-lacks : (x : ℤ) (k : ℕ) → k < 45 → Lacks k (signed x)
-unfolding signed Every
-signed-lacks (pos x) k h = decimal-lacks x k (omega arith)
-signed-lacks (negsuc x) k h = (omega arith, decimal-lacks (suc x) k (omega arith))

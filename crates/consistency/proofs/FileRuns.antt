@@ -12,28 +12,27 @@ use borrow.Author.Tests.{eq-eqb, ne-eqb}
 use Rattle.lists.specs.Build.{overlay}
 use Rattle.lists.proofs.Tests.{cond-true, cond-false}
 use Rattle.model.specs.Tables.{fresh}
-use Rattle.model.specs.Events.{controllerOf, panelOf}
+use Rattle.model.specs.Events.{controllerOf}
 use Rattle.model.specs.Records.{byte, behind, decode}
 use Rattle.model.specs.Questions.{firstNo, fileQuestions, stepQuestions}
 use Rattle.model.specs.Calls.{Outcome, accepted, step}
 use Rattle.model.specs.Runs.{Progress, lineAt, verdict, records, begun, progress, ran, fileRun}
-use Rattle.model.specs.declared.Name.{Name}
 use Rattle.model.proofs.Allowed.{step-asked}
 use Rattle.model.proofs.Steps.{step-is-accepted, accepted-asked, file-run-ran}
 use Rattle.model.proofs.Runs.{gone, verdict-passed, advance-case}
-use Rattle.consistency.specs.Demand3.{Entry, listed, split, lineSet, recordEntries, fileEntries}
+use Rattle.consistency.specs.Demand3.{Line, Entry, listed, split, noLine, lineFor, recordEntries, fileEntries}
 use Rattle.consistency.proofs.Reader.{event-read, end-read}
-use Rattle.consistency.proofs.Moments.{Course, Gives, told}
+use Rattle.consistency.proofs.Moments.{Course, lineAfter, Gives, told}
 
 -- READING
 
--- what is read of records rests on the sets of their events
-entries-same : (k e : ℕ) (s : List ℕ) (ls ms : List (List ℕ)) → ((n : ℕ) → e ≤ n → lineSet n ls ≡ lineSet n ms)
+-- what is read of records rests on the lines of their events
+entries-same : (k e : ℕ) (s : List ℕ) (ls ms : List (List ℕ)) → ((n : ℕ) → e ≤ n → lineFor n ls ≡ lineFor n ms)
     → recordEntries k e s ls ≡ recordEntries k e s ms
 unfolding recordEntries
 entries-same zero e s ls ms h = refl
 entries-same (suc k) e s ls ms h =
-    ap₂ (λ (x : List Name) (xs : List Entry). listed s x ∷ xs) (h e (omega arith)) (entries-same k (e + 1) (behind s) ls ms (λ n l. h n (omega arith)))
+    ap₂ (λ (x : Line) (xs : List Entry). listed s x ∷ xs) (h e (omega arith)) (entries-same k (e + 1) (behind s) ls ms (λ n l. h n (omega arith)))
 
 -- Behind p the run q has accepted so many of the records of s, and its lines behind those of p are legal steps when read back.
 record Done (p : Progress) (s : List ℕ) (q : Progress) : Type 0 where
@@ -41,7 +40,7 @@ record Done (p : Progress) (s : List ℕ) (q : Progress) : Type 0 where
   tail : List ℕ
   events : q .events ≡ p .events + many
   lines : q .lines ≡ p .lines ++ tail
-  later : (n : ℕ) → n ≤ p .events → lineSet n (split 10 tail) ≡ []
+  later : (n : ℕ) → n ≤ p .events → lineFor n (split 10 tail) ≡ noLine
   course : Course told Gives (p .table) (recordEntries many (p .events + 1) s (split 10 tail)) (q .table)
 
 stopped : (p : Progress) (s : List ℕ) (k : ℕ) → Done p s (record { number = k; events = p .events; lines = p .lines; table = p .table })
@@ -51,8 +50,12 @@ stopped p s k = record { many = 0; tail = []; events = omega arith; lines = sym 
 -- ONE RECORD MORE
 
 module _ (p : Progress) (s : List ℕ) (room space : ℕ) (v : verdict p s room space ≡ 0) where
-  abbrev names : List Name
-  names = step (p .table) s room .answer .names
+  abbrev c : ℕ
+  c = controllerOf (decode (p .table .version) s)
+
+  -- what its line says
+  abbrev says : Line
+  says = lineAfter c (step (p .table) s room)
 
   abbrev e : ℕ
   e = p .events + 1
@@ -63,20 +66,18 @@ module _ (p : Progress) (s : List ℕ) (room space : ℕ) (v : verdict p s room 
   taken : step (p .table) s room ≡ accepted (p .table) s
   taken = step-is-accepted (p .table) s room asked
 
-  module _ (k : ℕ) (tail : List ℕ) (later : (n : ℕ) → n ≤ e → lineSet n (split 10 tail) ≡ []) where
-    set-read : (n : ℕ) → lineSet n (split 10 (lineAt p s room ++ tail)) ≡ cond (eqb e n) names (lineSet n (split 10 tail))
+  module _ (k : ℕ) (tail : List ℕ) (later : (n : ℕ) → n ≤ e → lineFor n (split 10 tail) ≡ noLine) where
+    own-read : (n : ℕ) → lineFor n (split 10 (lineAt p s room ++ tail)) ≡ cond (eqb e n) says (lineFor n (split 10 tail))
     unfolding lineAt
-    set-read n =
-        let c = controllerOf (decode (p .table .version) s) in
-        event-read n e c (panelOf (step (p .table) s room .table) c .total) names tail (λ q. later n (omega arith))
+    own-read n = event-read n e c _ _ tail (λ q. later n (omega arith))
 
-    other-read : (n : ℕ) → e ≢ n → lineSet n (split 10 (lineAt p s room ++ tail)) ≡ lineSet n (split 10 tail)
-    other-read n d = set-read n ∙ cond-false _ _ (ne-eqb e n d)
+    other-read : (n : ℕ) → e ≢ n → lineFor n (split 10 (lineAt p s room ++ tail)) ≡ lineFor n (split 10 tail)
+    other-read n d = own-read n ∙ cond-false _ _ (ne-eqb e n d)
 
-    first-read : recordEntries (suc k) e s (split 10 (lineAt p s room ++ tail)) ≡ listed s names ∷ recordEntries k (e + 1) (behind s) (split 10 tail)
+    first-read : recordEntries (suc k) e s (split 10 (lineAt p s room ++ tail)) ≡ listed s says ∷ recordEntries k (e + 1) (behind s) (split 10 tail)
     unfolding recordEntries
     first-read =
-        ap₂ (λ (x : List Name) (xs : List Entry). listed s x ∷ xs) (set-read e ∙ cond-true _ _ (eq-eqb e e refl))
+        ap₂ (λ (x : Line) (xs : List Entry). listed s x ∷ xs) (own-read e ∙ cond-true _ _ (eq-eqb e e refl))
         (entries-same k (e + 1) (behind s) _ _ (λ n l. other-read n (omega arith)))
 
   went-on : (q : Progress) → Done (gone p s room space) (behind s) q → Done p s q
@@ -88,7 +89,7 @@ module _ (p : Progress) (s : List ℕ) (room space : ℕ) (v : verdict p s room 
     lines = d .lines ∙ append-assoc (p .lines) (lineAt p s room) (d .tail);
     later = λ n l. other-read (d .many) (d .tail) (d .later) n (omega arith) ∙ d .later n (omega arith);
     course = rw (first-read (d .many) (d .tail) (d .later))
-        ((step-asked (p .table) s room asked .1, ap (λ (o : Outcome). o .answer .names) taken), rw taken at (d .course));
+        ((step-asked (p .table) s room asked .1, ap (λ (o : Outcome). lineAfter c o) taken), rw taken at (d .course));
   }
 
 -- THE RUN

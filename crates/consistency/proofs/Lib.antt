@@ -22,6 +22,7 @@ pub mod LedgerNext
 pub mod Sums
 pub mod Moments
 pub mod MomentFacts
+pub mod HandoverFacts
 pub mod FileRuns
 pub mod Heads
 pub mod Theorem

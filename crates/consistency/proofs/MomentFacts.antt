@@ -17,7 +17,7 @@ use Rattle.model.specs.Events.{panelOf}
 use Rattle.model.specs.Records.{byte, sizeOf, decode}
 use Rattle.model.specs.WellFormed.{named, wellFormed, inLog}
 use Rattle.model.specs.Questions.{firstNo, lentTable, kindQuestions, recordQuestions, ownPending, commandQuestions, scratchRoom, stepQuestions}
-use Rattle.model.specs.Calls.{EventAnswer, Outcome, answering, accepted, settled, step, event, look}
+use Rattle.model.specs.Calls.{EventAnswer, answering, accepted, settled, event, look}
 use Rattle.model.specs.declared.Name.{Name}
 use Rattle.model.specs.declared.Panel.{Panel}
 use Rattle.model.specs.declared.Table.{Table}
@@ -25,8 +25,7 @@ use Rattle.model.specs.declared.Command.the-variants.{Read}
 use Rattle.model.specs.declared.LookAnswer.{LookAnswer}
 use Rattle.model.specs.Facts.{WellFormed}
 use Rattle.model.proofs.Tested.{named-at, named-of, tested}
-use Rattle.model.proofs.Allowed.{no-no, step-asked, ReadAllowed, read-allowed}
-use Rattle.model.proofs.Steps.{step-is-accepted, event-number-step, accepted-asked}
+use Rattle.model.proofs.Allowed.{no-no, ReadAllowed, read-allowed}
 use Rattle.invariant.proofs.Stores.{seated}
 use Rattle.broadcast.specs.State.{State}
 use Rattle.broadcast.specs.Delivery.{Subset}
@@ -39,7 +38,7 @@ use Rattle.consistency.proofs.Names.{has-own}
 use Rattle.consistency.proofs.SlotNames.{nameAt, length-log}
 use Rattle.consistency.proofs.Ledger.{slot-case, Recorded, sent-slot}
 use Rattle.consistency.proofs.Sums.{panel-applied, has-remaining, remaining-slot, panel-remaining}
-use Rattle.consistency.proofs.Moments.{Moment}
+use Rattle.consistency.proofs.Moments.{call-accepted, Moment}
 
 -- CONTAINMENT
 
@@ -126,27 +125,19 @@ module _ {n : ℕ} {s₀ : State} {t : Table} {l : Ledger} (m : Moment n s₀ t 
   abbrev c : ℕ
   c = byte s 2
 
-  is-step : a ≡ step t s (length w) .answer
-  is-step = e ∙ ap (λ (o : Outcome). o .answer) (event-number-step t s (length w) (tested t (m .related .formed)))
-
-  asked : firstNo (stepQuestions t s (length w)) ≡ 0
-  asked = accepted-asked t s (length w) (ap (λ (b : EventAnswer). b .number) (sym is-step) ∙ z)
-
   decoded : decode (t .version) s ≡ Read c
   unfolding decode
   decoded = rw reads refl
 
   allowed : ReadAllowed t c
-  allowed = read-allowed t c (rw decoded at (step-asked t s (length w) asked .1))
+  allowed = read-allowed t c (rw decoded at (call-accepted t s w a e z .0))
 
   reader : Among n c
   reader = omega (arith, allowed .controller, m .related .size)
 
-  pub read-gives : a .total ≡ showing (l .sent) (applied l c) .total
+  pub read-gives : a .sums ≡ showing (l .sent) (applied l c) .sums
   unfolding accepted answering
-  read-gives =
-      rw (is-step, step-is-accepted t s (length w) asked, decoded)
-      (ap (λ (b : Panel). b .total) (panel-applied (m .recorded) c reader))
+  read-gives = rw (call-accepted t s w a e z .1, decoded) (ap (λ (b : Panel). b .sums) (panel-applied (m .recorded) c reader))
 
   -- an own message is in the log, and so applied, for it is not pending
   own-applied : (j : ℕ) → j < t .count → message t j .sender ≡ c → appliedAt (at t c) j ≡ true
@@ -212,8 +203,8 @@ module _ {n : ℕ} {s₀ : State} {t : Table} {l : Ledger} (m : Moment n s₀ t 
       (slot-ending j b .1 (rw own (own-logged g r j b own runs-in-table))))))
 
   pub ending-gives : (w : List ℕ) → scratchSize ≤ length w
-      → let a = event t (readRecord r) (length w) .answer in (a .number ≡ 0) × (a .total ≡ showing (l .sent) (remaining l) .total)
+      → let a = event t (readRecord r) (length w) .answer in (a .number ≡ 0) × (a .sums ≡ showing (l .sent) (remaining l) .sums)
   unfolding event settled accepted answering firstNo lentTable stepQuestions recordQuestions kindQuestions sizeOf decode commandQuestions scratchRoom
   ending-gives w k =
       rw (tested t (g .formed), named-of t r (omega (arith, g .size)), runs-in-table, none-own, le-leb scratchSize (length w) k)
-      (refl, ap (λ (b : Panel). b .total) (panel-remaining p r h moment-ending))
+      (refl, ap (λ (b : Panel). b .sums) (panel-remaining p r h moment-ending))

@@ -6,11 +6,11 @@ use Prim.Native.Nat.{ℕ}
 use lib.ListN.{length}
 use borrow.Author.Tests.{ne-eqb}
 use Rattle.model.specs.Tables.{fresh, withController, withMessage}
-use Rattle.model.specs.Events.{withSent, next, resulting}
+use Rattle.model.specs.Events.{withSent, next, controllerOf, resulting, panelOf}
 use Rattle.model.specs.Records.{behind, decode}
 use Rattle.model.specs.WellFormed.{wellFormed}
 use Rattle.model.specs.Questions.{firstNo, commandQuestions, lentTable, stepQuestions}
-use Rattle.model.specs.Calls.{Outcome, answering, accepted, refused, event, look}
+use Rattle.model.specs.Calls.{EventAnswer, Outcome, answering, accepted, refused, event, look}
 use Rattle.model.specs.declared.Table.{Table}
 use Rattle.model.specs.declared.Event.{Event}
 use Rattle.model.specs.declared.Event.the-variants.{Send, Handover, Stop}
@@ -20,9 +20,10 @@ use Rattle.model.proofs.Allowed.{FreshAllowed, no-no, step-asked}
 use Rattle.model.proofs.Steps.{answering-number, settled-case}
 use Rattle.broadcast.specs.State.{State, fresh as freshState}
 use Rattle.broadcast.specs.Events.{Run, start as stays, then}
-use Rattle.consistency.specs.Demand3.{Call, singleEvent, panelLook, Entry, answered, looked, listed, entry, left, transcript, said, Step, carried, stepsOf, steps, did, Ledger, start, moved}
+use Rattle.consistency.specs.Demand3.{Call, singleEvent, panelLook, Line, Entry, answered, looked, listed, entry, left, transcript, said, Step, carried, stepsOf, steps, did, Ledger, start, moved}
 use Rattle.consistency.proofs.Bridge.{top, system, Related}
 use Rattle.consistency.proofs.BridgeNext.{fresh-related, next-related}
+use Rattle.consistency.proofs.Reader.{written, written-set}
 use Rattle.consistency.proofs.Ledger.{Recorded, start-recorded}
 use Rattle.consistency.proofs.LedgerNext.{Legal, record-legal, next-recorded}
 
@@ -58,17 +59,29 @@ Takes t (carried s e ms) = Legal t s e ms
 
 -- ENTRIES
 
--- what the definitions of the calls answer; of a file, a record that no question refuses, and the set of its answer
+-- what the line of an event of controller c says, from what the event answers and leaves
+abbrev pub lineAfter : ℕ → Outcome → Line
+lineAfter c o = written (panelOf (o .table) c .sums) (o .answer .names)
+
+-- what the definitions of the calls answer; of a file, a record that no question refuses, and what its line says
 unfoldable pub Gives : Table → Entry → Type 0
 Gives t (answered s w a) = a ≡ event t s (length w) .answer
 Gives t (looked c a) = a ≡ look t c
-Gives t (listed s ms) = (firstNo (commandQuestions t (decode (t .version) s)) ≡ 0) × (ms ≡ accepted t s .answer .names)
+Gives t (listed s x) = (firstNo (commandQuestions t (decode (t .version) s)) ≡ 0) × (x ≡ lineAfter (controllerOf (decode (t .version) s)) (accepted t s))
 
 -- the table that an entry leaves
 unfoldable pub told : Table → Entry → Table
 told t (answered s w a) = event t s (length w) .table
 told t (looked c a) = t
-told t (listed s ms) = accepted t s .table
+told t (listed s x) = accepted t s .table
+
+-- so an accepted event call: no question refuses its record, and it gives the record's answer
+pub call-accepted : (t : Table) (s w : List ℕ) (a : EventAnswer) → a ≡ event t s (length w) .answer → a .number ≡ 0
+    → (firstNo (commandQuestions t (decode (t .version) s)) ≡ 0) × (a ≡ accepted t s .answer)
+unfolding event refused lentTable
+call-accepted t s w a e z =
+    rw e (settled-case (λ (o : Outcome). o .answer .number ≡ 0 → (firstNo (commandQuestions t (decode (t .version) s)) ≡ 0) × (o .answer ≡ accepted t s .answer)) t s _
+    (λ k _. (step-asked t s (length w) (no-no 3 (wellFormed t) _ k .1) .1, refl)) (λ d z. absurd (d z)) (rw e at z))
 
 -- an accepted record stands for a legal step, or for none, that leads to the table that it leaves
 accepted-taken : (t : Table) (s : List ℕ) → firstNo (commandQuestions t (decode (t .version) s)) ≡ 0
@@ -91,11 +104,11 @@ event-taken t s w =
     (λ e. rw (answering-number t (decode (t .version) s) (behind s)) (accepted-taken t s (step-asked t s (length w) (no-no 3 (wellFormed t) _ e .1) .1)))
     (λ d. rw (ne-eqb k 0 d) refl)
 
-entry-taken : (t : Table) (e : Entry) → Gives t e → Course stepped Takes t (steps (t .version) e) (told t e)
+pub entry-taken : (t : Table) (e : Entry) → Gives t e → Course stepped Takes t (steps (t .version) e) (told t e)
 unfolding Gives told steps Course
 entry-taken t (answered s w a) q = rw q (event-taken t s w)
 entry-taken t (looked c a) q = refl
-entry-taken t (listed s ms) q = rw (q .1) (accepted-taken t s (q .0))
+entry-taken t (listed s x) q = rw (q .1, written-set) (accepted-taken t s (q .0))
 
 -- THE VERSION, which no entry changes
 
@@ -117,7 +130,7 @@ told-version : (t : Table) (e : Entry) → told t e .version ≡ t .version
 unfolding told event refused
 told-version t (answered s w a) = settled-case (λ (o : Outcome). o .table .version ≡ t .version) t s _ (λ _. accepted-version t s) (λ _. refl)
 told-version t (looked c a) = refl
-told-version t (listed s ms) = accepted-version t s
+told-version t (listed s x) = accepted-version t s
 
 pub entries-version : (t : Table) (es : List Entry) → foldl told t es .version ≡ t .version
 entries-version t [] = refl

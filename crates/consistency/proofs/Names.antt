@@ -130,24 +130,24 @@ has-drop m k xs d =
     go false true f = refl
     go false false f = refl
 
--- NAMES BY INDEX
+-- BY INDEX
+
+-- a test of lists that asks whether some element passes
+module _ {A : Type 0} (any : List A → Bool) (p : A → Bool) (none : any [] ≡ false) (more : (x : A) (xs : List A) → any (x ∷ xs) ≡ (p x || any xs)) where
+  any-last : (xs : List A) (y : A) → any (xs ++ (y ∷ [])) ≡ (p y || any xs)
+  any-last [] y = more y []
+  any-last (x ∷ xs) y = more x (xs ++ (y ∷ [])) ∙ rw (any-last xs y, more x xs) (or-swap (p x) (p y) (any xs))
+
+  pub any-tabulate : (f : ℕ → A) (n : ℕ) → any (tabulate n f) ≡ ltb 0 (count n (λ i. p (f i)))
+  unfolding tabulate tabulateFrom count
+  any-tabulate f zero = none
+  any-tabulate f (suc n) =
+      ap any (tabulate-suc f n) ∙ any-last (tabulate n f) (f n) ∙ ap (λ b. p (f n) || b) (any-tabulate f n) ∙ sym (some-last n (λ i. p (f i)))
 
 module _ (f : ℕ → Name) where
   pub has-tabulate : (m : Name) (n : ℕ) → has m (tabulate n f) ≡ ltb 0 (count n (λ i. same m (f i)))
-  unfolding has tabulate tabulateFrom count
-  has-tabulate m zero = refl
-  has-tabulate m (suc n) =
-      ap (has m) (tabulate-suc f n)
-      ∙ has-append m (tabulate n f) (f n ∷ [])
-      ∙ ap (λ b. b || (same m (f n) || false)) (has-tabulate m n)
-      ∙ or-comm (ltb 0 (count n (λ i. same m (f i)))) (same m (f n))
-      ∙ sym (some-last n (λ i. same m (f i)))
-    where
-      or-comm : (a b : Bool) → (a || (b || false)) ≡ (b || a)
-      or-comm true true = refl
-      or-comm true false = refl
-      or-comm false true = refl
-      or-comm false false = refl
+  unfolding has
+  has-tabulate m n = any-tabulate (has m) (same m) refl (λ _ _. refl) f n
 
   pub has-tabulate-at : (m : Name) (n : ℕ) → has m (tabulate n f) ≡ true → Found n (λ i. same m (f i))
   has-tabulate-at m n e = count-found n (λ i. same m (f i)) (ltb-true 0 _ (sym (has-tabulate m n) ∙ e))

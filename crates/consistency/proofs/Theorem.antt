@@ -2,8 +2,9 @@
 use mathlib.Core.Path.{_≡_, refl, sym, ap, _∙_}
 use mathlib.Core.Logic.{_≢_, _⊎_, inl, inr}
 use mathlib.Core.Bool.{true}
-use mathlib.Core.List.{List, [], _∷_, _++_, foldl, foldl-append, append-assoc}
-use Prim.Native.Nat.{ℕ, _+_, _-_}
+use mathlib.Core.List.{List, [], _∷_, _++_, foldl, foldl-append, append-assoc, cons-ne-nil}
+use Prim.Native.Nat.{ℕ, suc, _+_, _-_}
+use native.Mathlib.Numerals.{add-one}
 use native.Mathlib.Omega.{arith}
 use native.Mathlib.Decide.{decLt}
 use lib.ListN.{length, take, drop, take-append-drop}
@@ -21,12 +22,13 @@ use Rattle.model.proofs.Tested.{tested}
 use Rattle.model.proofs.Steps.{step-number, event-number-step}
 use Rattle.invariant.proofs.Refusals.{step-number-range}
 use Rattle.broadcast.specs.State.{fresh as freshState}
-use Rattle.consistency.specs.Demand3.{Call, singleEvent, panelLook, Entry, answered, looked, entry, left, transcript, Said, Step, carried, did, start, moved, ledger, applied, sentNames, remaining, Head, Heads, version, controllers, opening, given, entries, moment, Contains, Runs, ReadOut, readRecord, Consistent}
+use Rattle.consistency.specs.Demand3.{Call, singleEvent, panelLook, Entry, answered, looked, listed, entry, left, transcript, Said, Step, carried, did, Sent, start, moved, ledger, applied, sentNames, remaining, weights, Head, Heads, version, controllers, opening, given, entries, moment, Contains, Runs, ReadOut, readRecord, Consistent}
 use Rattle.consistency.proofs.Bridge.{top}
 use Rattle.consistency.proofs.Ledger.{names-sent}
-use Rattle.consistency.proofs.Sums.{weights, weights-weigh, same-members-same-weights, distinct-remaining}
+use Rattle.consistency.proofs.Sums.{of-payload, weights-weigh, same-members-same-weights, distinct-remaining}
 use Rattle.consistency.proofs.Moments.{Course, course-append, course-first, course-rest, stepped, Takes, Gives, told, entries-version, did-append, entries-taken, transcript-course, Moment, first-moment, moment-after, restarted}
 use Rattle.consistency.proofs.MomentFacts.{comparable, in-order, look-shows, read-gives, read-rests, moment-ending, ending-shows, ending-gives}
+use Rattle.consistency.proofs.HandoverFacts.{line-sums, entry-finishes}
 use Rattle.consistency.proofs.Heads.{Begun, begun}
 
 -- the fresh table that a list starts from, and the table at a moment of it
@@ -71,6 +73,9 @@ module _ (h : Head) (heads : Heads h) (calls : List Call) where
   from : (i : ℕ) → Course told Gives (tableAt h calls i) (drop i es) end
   from i = course-rest told Gives (freshOf h) (take i es) (drop i es) end (rw (take-append-drop i es) whole)
 
+  version-at : (i : ℕ) → tableAt h calls i .version ≡ v
+  version-at i = entries-version (freshOf h) (take i es) ∙ fresh-version h
+
   -- what an entry answers is what the definitions give at its table
   gives-at : (i : ℕ) (e : Entry) (after : List Entry) → drop i es ≡ e ∷ after → Gives (tableAt h calls i) e
   unfolding Course
@@ -91,6 +96,13 @@ module _ (h : Head) (heads : Heads h) (calls : List Call) where
   moment-end : Moment n (freshState top) end (ledger (did v es))
   moment-end = reached (did v es) taken
 
+  -- behind one entry more, at the table that it leaves
+  moment-behind : (i : ℕ) (e : Entry) (after : List Entry) → drop i es ≡ e ∷ after
+      → Moment n (freshState top) (told (tableAt h calls i) e) (moment h calls (suc i))
+  moment-behind i e after q =
+      let p : take (suc i) es ≡ take i es ++ (e ∷ []) = rw (← add-one i, take-add i 1 es, q) in
+      rw (ap (foldl told (freshOf h)) p ∙ foldl-append told (freshOf h) (take i es) (e ∷ [])) at (moment-at (suc i))
+
   -- the later one is k entries on
   ordered : (i k a d : ℕ)
       → Contains (applied (moment h calls i) a) (applied (moment h calls (i + k)) d)
@@ -98,10 +110,9 @@ module _ (h : Head) (heads : Heads h) (calls : List Call) where
   ordered i k a d =
       let m = moment-at i in
       let xs = take k (drop i es) in
-      let q = entries-version (freshOf h) (take i es) ∙ fresh-version h in
       let c = course-first told Gives (tableAt h calls i) xs (drop k (drop i es)) end (rw (take-append-drop k (drop i es)) (from i)) in
       rw (take-add i k es, did-append v (take i es) xs, foldl-append moved start (did v (take i es)) (did v xs))
-      (comparable m (moment-after (restarted m) (did v xs) (entries-taken _ q xs _ c)) a d)
+      (comparable m (moment-after (restarted m) (did v xs) (entries-taken _ (version-at i) xs _ c)) a d)
 
   contains : (i j a d : ℕ)
       → Contains (applied (moment h calls i) a) (applied (moment h calls j) d)
@@ -141,6 +152,14 @@ demand-3 h heads calls = record {
   looks = λ i c a after q. look-shows (moment-at h heads calls i) c a (unfold Gives in (gives-at h heads calls i (looked c a) after q));
   reads = λ i s w a after q. read-gives (moment-at h heads calls i) s w a (event-at h heads calls i s w a after q);
   reads-own = λ i s w a after q. read-rests (moment-at h heads calls i) s w a (event-at h heads calls i s w a after q);
+  syncs = λ i r o q ms e after p is.
+      let m = moment-at h heads calls i in
+      entry-finishes (m .related .formed) r o q ms e (gives-at h heads calls i e after p) (rw (version-at h heads calls i) is)
+      (moment-behind h heads calls i e after p .recorded);
+  lines = λ i r o q x ms s z after p is.
+      let m = moment-at h heads calls i in
+      line-sums (m .related .formed) r o q (x ∷ ms) s z (gives-at h heads calls i (listed s z) after p) (rw (version-at h heads calls i) is)
+      (moment-behind h heads calls i (listed s z) after p .recorded) (cons-ne-nil x ms);
   in-order = λ i. in-order (moment-at h heads calls i);
   ending = λ i r e on. moment-ending (moment-at h heads calls i) e r on;
   ending-look = λ i r e on.
@@ -173,15 +192,15 @@ never-4 h heads calls i s w a after q z =
     ∙ (ap (λ (o : Outcome). o .answer .number) (event-number-step t s (length w) (tables-well-formed h heads calls i)) ∙ step-number t s (length w)) in
     elim (step-number-range t s (length w)) [ inl k ↦ absurd (omega arith) | inr k ↦ absurd (omega arith) ]
 
--- FOR ANY WEIGHT of a message, a number that its payload gives: each figure of the demand is the difference of two of them, of what is
--- added and what is withdrawn. What was applied weighs what the table computes, and at the ending it weighs what remains.
+-- FOR ANY WEIGHT of a message, a number that its payload gives: each sum of the demand is one of them, for a payload keeps both parts of
+-- the amount. What was applied weighs what the table computes, and at the ending it weighs what remains.
 pub any-weight : (h : Head) → Heads h → (calls : List Call) (v : Payload → ℕ) (i c : ℕ) → Among (controllers h) c
-    → weights v (moment h calls i .sent) (applied (moment h calls i) c) ≡ weigh v (tableAt h calls i) (at (tableAt h calls i) c)
-any-weight h heads calls v i c k = weights-weigh (moment-at h heads calls i .recorded) v c k
+    → weights (λ (x : Sent). v (x .payload)) (moment h calls i .sent) (applied (moment h calls i) c) ≡ weigh v (tableAt h calls i) (at (tableAt h calls i) c)
+any-weight h heads calls v i c k = weights-weigh (moment-at h heads calls i .recorded) (of-payload v) c k
 
 pub any-weight-ending : (h : Head) → Heads h → (calls : List Call) (v : Payload → ℕ) (i r : ℕ)
     → ReadOut (controllers h) (moment h calls i) → Runs (controllers h) (moment h calls i) r
-    → weights v (moment h calls i .sent) (applied (moment h calls i) r) ≡ weights v (moment h calls i .sent) (remaining (moment h calls i))
+    → weights (λ (x : Sent). v (x .payload)) (moment h calls i .sent) (applied (moment h calls i) r) ≡ weights (λ (x : Sent). v (x .payload)) (moment h calls i .sent) (remaining (moment h calls i))
 any-weight-ending h heads calls v i r e on =
     let m = moment-at h heads calls i in
-    same-members-same-weights (m .recorded) v _ _ (m .recorded .once r) (distinct-remaining (m .recorded)) (moment-ending m e r on)
+    same-members-same-weights (m .recorded) _ _ _ (m .recorded .once r) (distinct-remaining (m .recorded)) (moment-ending m e r on)
