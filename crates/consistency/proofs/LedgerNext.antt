@@ -1,4 +1,4 @@
--- An accepted record says the amount and the class of the message sent, and every legal step keeps the ledger and the table saying
+-- An accepted record says the kind, the amount and the class of the message sent, and every legal step keeps the ledger and the table saying
 -- the same. Assumes nothing.
 use mathlib.Core.Path.{_≡_, refl, sym, ap, subst, _∙_}
 use mathlib.Core.Bool.{Bool, true, false, cond, false≢true}
@@ -42,17 +42,17 @@ positive k zero e = absurd (false≢true e)
 positive k (suc w) e = omega arith
 
 -- two's complement, whatever the bytes: a number of 65,536 or more is no amount
-reported-says : (k x : ℕ) → fairAmount (reported k x) ≡ true → record { amount = twos x; class = k } ≡ saidOf (reported k x)
+reported-says : (k x : ℕ) → fairAmount (reported k x) ≡ true → record { kind = 1; amount = twos x; class = k } ≡ saidOf (reported k x)
 unfolding twos reported
 reported-says k x = go (ltb x 32768)
   where
     go : (b : Bool) → fairAmount (cond b (report k x 0) (report k 0 (65536 - x))) ≡ true
-        → record { amount = cond b (pos x) (pos x -ℤ pos 65536); class = k } ≡ saidOf (cond b (report k x 0) (report k 0 (65536 - x)))
-    go true e = ap (λ z. record { amount = z; class = k }) (sym (+ℤ-idr (pos x)))
+        → record { kind = 1; amount = cond b (pos x) (pos x -ℤ pos 65536); class = k } ≡ saidOf (cond b (report k x 0) (report k 0 (65536 - x)))
+    go true e = ap (λ z. record { kind = 1; amount = z; class = k }) (sym (+ℤ-idr (pos x)))
     go false e =
         let h = positive k (65536 - x) e in
         let q : x + (65536 - x) ≡ 65536 = omega arith in
-        ap (λ z. record { amount = z; class = k }) (subst (λ y. pos x -ℤ pos y ≡ pos 0 -ℤ pos (65536 - x)) q (minus-sum x (65536 - x)))
+        ap (λ z. record { kind = 1; amount = z; class = k }) (subst (λ y. pos x -ℤ pos y ≡ pos 0 -ℤ pos (65536 - x)) q (minus-sum x (65536 - x)))
 
 pub decoded-said : (v : ℕ) (s : List ℕ) (c : ℕ) (p : Payload) → decode v s ≡ Act (Send c p) → fairAmount p ≡ true → said v s ≡ saidOf p
 unfolding said amountIn classIn reportClass

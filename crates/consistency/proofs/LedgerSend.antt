@@ -64,7 +64,7 @@ module _ {t : Table} {l : Ledger} (k : Recorded (t .n) t l) (c : ℕ) (p : Paylo
       (rw log-length (ap (λ (m : Message). nameOf m) (sym new-message)))
       ∙ sym (log-entered (longer t c p) (at t c) (t .count) sender-sized log-room)
 
-  sent-after : l .sent ++ (record { name = name c (length (l .log c) + 1); payload = p; amount = s .amount; class = s .class } ∷ []) ≡ tabulate (t .count + 1) (sentAt (longer t c p))
+  sent-after : l .sent ++ (record { name = name c (length (l .log c) + 1); payload = p; said = s } ∷ []) ≡ tabulate (t .count + 1) (sentAt (longer t c p))
   unfolding sentMessage
   sent-after =
       ap₂ (λ (xs : List Sent) (x : Sent). xs ++ (x ∷ []))

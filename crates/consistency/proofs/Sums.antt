@@ -97,10 +97,10 @@ abbrev pub of-payload : (Payload → ℕ) → Weight
 of-payload v = record { of = λ x. v (x .payload); stored = v; agree = λ m e. refl }
 
 unfoldable added : Weight
-added = record { of = λ x. above (x .amount); stored = λ p. p .added; agree = λ m e. kept (m .payload) e .0 }
+added = record { of = λ x. above (x .said .amount); stored = λ p. p .added; agree = λ m e. kept (m .payload) e .0 }
 
 unfoldable withdrawn : Weight
-withdrawn = record { of = λ x. below (x .amount); stored = λ p. p .withdrawn; agree = λ m e. kept (m .payload) e .1 }
+withdrawn = record { of = λ x. below (x .said .amount); stored = λ p. p .withdrawn; agree = λ m e. kept (m .payload) e .1 }
 
 unfoldable inClass : ℕ → Weight → Weight
 inClass k w = record {

@@ -86,8 +86,9 @@ unfoldable pub transcript : Table → List Call → List Entry
 transcript t [] = []
 transcript t (c ∷ cs) = entry t c ∷ transcript (left t c) cs
 
--- what a record says of a message: its amount, and its class
+-- what a record says of a message: its kind, 1 for a report and 2 for a sync; its amount; its class
 pub record Said : Type 0 where
+  pub kind : ℕ
   pub amount : ℤ
   pub class : ℕ
 
@@ -103,7 +104,7 @@ unfoldable pub classIn : ℕ → List ℕ → ℕ
 classIn v s = cond (eqb (kind s) 1 && eqb v 2) (byte s 5) 0
 
 unfoldable pub said : ℕ → List ℕ → Said
-said v s = record { amount = amountIn s; class = classIn v s }
+said v s = record { kind = kind s; amount = amountIn s; class = classIn v s }
 
 -- a step of Algorithm 1: an event carried out, with what its record says and the set that was answered
 pub data Step : Type 0 where
@@ -126,12 +127,11 @@ did v es = flatMap (steps v) es
 
 -- THE LEDGER
 
--- a message sent: its name, its payload, its amount and its class
+-- a message sent: its name, its payload, and what its record says of it
 pub record Sent : Type 0 where
   pub name : Name
   pub payload : Payload
-  pub amount : ℤ
-  pub class : ℕ
+  pub said : Said
 
 -- Logs; the place of each receiver in each log; who runs; what was sent and what was cut off; and for each controller the
 -- sets that the accepted handovers to it answered.
@@ -159,7 +159,7 @@ moved l (carried r (Send c p) ms) =
       log = put (l .log) c (l .log c ++ (m ∷ []));
       place = l .place;
       runs = l .runs;
-      sent = l .sent ++ (record { name = m; payload = p; amount = r .amount; class = r .class } ∷ []);
+      sent = l .sent ++ (record { name = m; payload = p; said = r } ∷ []);
       cut = l .cut;
       sets = l .sets;
     }
@@ -220,11 +220,11 @@ below (negsuc x) = suc x
 
 -- "demand 3 is read for each, over its own part of the amounts"
 abbrev pub bothOf : ((Sent → ℕ) → ℕ) → Sums
-bothOf f = record { added = f (λ x. above (x .amount)); withdrawn = f (λ x. below (x .amount)) }
+bothOf f = record { added = f (λ x. above (x .said .amount)); withdrawn = f (λ x. below (x .said .amount)) }
 
 -- a weight of the messages of class k alone
 abbrev pub ofClass : ℕ → (Sent → ℕ) → Sent → ℕ
-ofClass k w x = cond (eqb (x .class) k) (w x) 0
+ofClass k w x = cond (eqb (x .said .class) k) (w x) 0
 
 -- the panel of messages: the sums over them, and for each class over those of that class
 unfoldable pub showing : List Sent → List Name → Panel
@@ -236,7 +236,7 @@ showing xs ms = record {
 -- whether a set holds a sync that c sent
 unfoldable pub finishing : List Sent → List Name → ℕ → Bool
 finishing [] ms c = false
-finishing (x ∷ xs) ms c = (eqb (x .payload .kind) 2 && (eqb (x .name .sender) c && has (x .name) ms)) || finishing xs ms c
+finishing (x ∷ xs) ms c = (eqb (x .said .kind) 2 && (eqb (x .name .sender) c && has (x .name) ms)) || finishing xs ms c
 
 -- THE LINES OF A FILE RUN
 
@@ -389,7 +389,7 @@ pub record Consistent (h : Head) (calls : List Call) : Type 0 where
   -- "and no controller applies it twice": "in two of them, or twice in one"
   pub once : (i c : ℕ) → Distinct (applied (moment h calls i) c)
   -- "Each look that is not refused shows the sum of the amounts that its controller has applied", each sum over its own part of them,
-  -- and for each class of those of that class
+  -- and for each class the sums over the messages of that class
   pub looks : (i c : ℕ) (a : LookAnswer) (after : List Entry) → drop i (entries h calls) ≡ looked c a ∷ after
       → let l = moment h calls i in
       a .number ≡ 0 → a .panel ≡ showing (l .sent) (applied l c)

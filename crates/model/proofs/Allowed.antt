@@ -201,22 +201,22 @@ controller-allowed t (Read c) q = read-allowed t c q .controller
 
 -- a record that sends is a report's, or a sync's
 pub data SendRecord (v : ℕ) (s : List ℕ) (p : Payload) : Type 0 where
-  reports : eqb (kind s) 1 ≡ true → p ≡ reported (reportClass v s) (word s 3) → SendRecord v s p
-  syncs : eqb (kind s) 1 ≡ false → p ≡ sync → SendRecord v s p
+  reports : kind s ≡ 1 → p ≡ reported (reportClass v s) (word s 3) → SendRecord v s p
+  syncs : kind s ≡ 2 → p ≡ sync → SendRecord v s p
 
 pub send-record : (v : ℕ) (s : List ℕ) (c : ℕ) (p : Payload) → decode v s ≡ Act (Send c p) → SendRecord v s p
 unfolding decode
-send-record v s c p = go (eqb (kind s) 1) refl (eqb (kind s) 2) (eqb (kind s) 3) (eqb (kind s) 4)
+send-record v s c p = go (eqb (kind s) 1) refl (eqb (kind s) 2) refl (eqb (kind s) 3) (eqb (kind s) 4)
   where
-    go : (a : Bool) → eqb (kind s) 1 ≡ a → (b d f : Bool)
+    go : (a : Bool) → eqb (kind s) 1 ≡ a → (b : Bool) → eqb (kind s) 2 ≡ b → (d f : Bool)
         → cond a (Act (Send (byte s 2) (reported (reportClass v s) (word s 3))))
         (cond b (Act (Send (byte s 2) sync)) (cond d (Act (Handover (byte s 2) (byte s 3))) (cond f (Act (Stop (byte s 2) (word s 3))) (Read (byte s 2))))) ≡ Act (Send c p)
         → SendRecord v s p
-    go true q b d f e = reports q cc
-    go false q true d f e = syncs q cc
-    go false q false true f e = let r : _≡_ {A = ℕ} 0 1 = cc in absurd (omega arith)
-    go false q false false true e = let r : _≡_ {A = ℕ} 0 1 = cc in absurd (omega arith)
-    go false q false false false e = let r : _≡_ {A = ℕ} 0 1 = cc in absurd (omega arith)
+    go true q b z d f e = reports (eqb-true (kind s) 1 q) cc
+    go false q true z d f e = syncs (eqb-true (kind s) 2 z) cc
+    go false q false z true f e = let r : _≡_ {A = ℕ} 0 1 = cc in absurd (omega arith)
+    go false q false z false true e = let r : _≡_ {A = ℕ} 0 1 = cc in absurd (omega arith)
+    go false q false z false false e = let r : _≡_ {A = ℕ} 0 1 = cc in absurd (omega arith)
 
 -- Question 17 refuses reports of version 2 alone: any other message that a record sends has class 0, as it must.
 pub unclassed-fair : (v : ℕ) (s : List ℕ) (c : ℕ) (p : Payload) → decode v s ≡ Act (Send c p) → (eqb v 2 && eqb (kind s) 1) ≡ false → fairClass v p ≡ true
