@@ -1,7 +1,7 @@
 -- A handover: the set that the delivery rule answers is the definition's, and what the code stores is its answer. Assumes nothing.
 use mathlib.Core.Path.{_≡_, refl, sym, ap, _∙_}
 use mathlib.Core.Bool.{Bool, true, false, _&&_, cond}
-use mathlib.Core.List.{List, []}
+use mathlib.Core.List.{List}
 use Prim.Native.Nat.{ℕ, zero, suc, _≤_, _<_}
 use native.Mathlib.Omega.{arith}
 use native.Mathlib.Decide.{ℕ-discrete}
@@ -12,13 +12,12 @@ use borrow.Author.Tests.{le-leb}
 use Rattle.lists.proofs.Tests.{cond-true, refuted, contradiction}
 use Rattle.lists.proofs.Clipped.{any-none}
 use Rattle.model.specs.Tables.{seats, scratchSize, noSums, message}
-use Rattle.model.specs.Delivery.{Slots, has, applicable}
+use Rattle.model.specs.Delivery.{Slots, has}
 use Rattle.model.specs.Events.{received, handoverSet, deliver, subject, after, withSent, next, appliedBy, sums, nameOf, insert, namesBelow, namesOf, finishes}
 use Rattle.model.specs.Calls.{cleared, answerOf}
 use Rattle.model.specs.Facts.{Among}
 use Rattle.model.specs.Parts.{part}
 use Rattle.model.specs.Sized.{Sized, SizedController}
-use Rattle.model.specs.declared.Name.{Name}
 use Rattle.model.specs.declared.Pending.{Pending}
 use Rattle.model.specs.declared.Sums.{Sums}
 use Rattle.model.specs.declared.Controller.{Controller}

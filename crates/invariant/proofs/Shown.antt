@@ -1,9 +1,9 @@
 -- Of every look and of every event's answer, on every table: each sum is at most 23,040, and both together are; and the sums of the classes
 -- add up to the whole. Assumes nothing.
 use mathlib.Core.Path.{_≡_, refl, sym}
-use mathlib.Core.Bool.{true, false, _&&_}
+use mathlib.Core.Bool.{true, false}
 use mathlib.Core.List.{List, [], _∷_, foldr}
-use Prim.Native.Nat.{ℕ, zero, suc, _+_}
+use Prim.Native.Nat.{ℕ, zero, suc}
 use native.Mathlib.Omega.{arith}
 use lib.Dec.{eqb}
 use borrow.Author.Tests.{eqb-true}
@@ -12,7 +12,6 @@ use Rattle.lists.proofs.Tests.{cond-case, contradiction}
 use Rattle.lists.proofs.Every.{Every}
 use Rattle.lists.proofs.Clipped.{any-none}
 use Rattle.model.specs.Tables.{classCount, noSums, noPanel, at, message, withController}
-use Rattle.model.specs.Delivery.{has}
 use Rattle.model.specs.Events.{subject, next, withSent, appliedBy, weigh, plus, sums, classSums, shown, panelOf, finishes}
 use Rattle.model.specs.Records.{behind, decode}
 use Rattle.model.specs.WellFormed.{named, wellFormed}

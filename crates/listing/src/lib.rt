@@ -2,9 +2,8 @@
 use model::Name;
 use model::Sums;
 use model::refusal;
-ghost use mathlib.Core.Path.{_≡_};
 ghost use mathlib.Core.List.{[], _∷_};
-ghost use Prim.Native.Nat.{_+_, _≤_, _<_, min};
+ghost use Prim.Native.Nat.{_+_, _≤_, _<_};
 ghost use lib.ListN.{length, take};
 ghost use Rattle.model.specs.Runs.{decimal, sumFields, nameFields, line, lineOf, header, footer};
 ghost use Rattle.listing.specs.Writing.{Wrote, Stored};

@@ -1,6 +1,4 @@
 -- `list_line` writes the line of an event, where it has one. Assumes nothing.
-use mathlib.Core.Path.{_≡_}
-use native.Mathlib.Omega.{arith}
 use borrow.Author.Needs.{needs}
 use Rattle.model.specs.Runs.{lineOf}
 use Rattle.events.proofs.Turning.{no-line}
