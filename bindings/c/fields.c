@@ -35,6 +35,10 @@ static void expect(uint8_t got, uint8_t wanted, const char *field, size_t i, siz
     exit(EXIT_FAILURE);
 }
 
+static void expect_sums(furnacejade_sums got, furnacejade_sums wanted, const char *field, size_t i, size_t j) {
+    expect((uint8_t)(got.added == wanted.added && got.withdrawn == wanted.withdrawn), 1, field, i, j);
+}
+
 /* With this field changed, question 4 gives this number. */
 #define CHANGED(field, value, wanted, i, j)              \
     do {                                                 \
@@ -302,46 +306,56 @@ static void zeros(void) {
     expect((uint8_t)(memcmp(&run.table, &zero, sizeof zero) == 0), 1, "refused file's table's bytes", 0, 0);
 }
 
-/* The answers: a sync of the only controller, finished with the total -7, by events and as a file. */
+/* The only controller reports 30 and -7, applies both, and syncs: added and withdrawn. */
+static const furnacejade_sums reported = {30, 7}, zero_sums;
+
+/* The answers: that sync, by events and as a file. No event before the last, which finishes it, answers sums. */
 static void answers(void) {
-    static const uint8_t synced[] = {1, 1, 4, 1, 1, 0xFF, 0xF9, 3, 3, 1, 1, 2, 2, 1, 3, 3, 1, 1};
+    static const uint8_t synced[] = {1, 1, 4, 1, 1, 0, 30, 4, 1, 1, 0xFF, 0xF9, 3, 3, 1, 1, 2, 2, 1, 3, 3, 1, 1};
     static furnacejade_fresh_answer fresh;
     static furnacejade_run_answer run;
     static furnacejade_answer answer;
     static uint8_t listing[64];
     furnacejade_fresh(1, 1, &fresh);
-    for (size_t at = 2; at < sizeof synced; at += 1u + synced[at]) expect(event(&fresh.table, synced + at, sizeof synced - at, &answer), 0, "answer", at, 0);
-    expect(answer.finished, 1, "finished", 0, 0);
-    expect((uint8_t)(answer.total == -7), 1, "total", 0, 0);
+    for (size_t at = 2; at < sizeof synced; at += 1u + synced[at]) {
+        int last = at + 1u + synced[at] == sizeof synced;
+        expect(event(&fresh.table, synced + at, sizeof synced - at, &answer), 0, "answer", at, 0);
+        expect(answer.finished, (uint8_t)last, "finished", at, 0);
+        expect_sums(answer.sums, last ? reported : zero_sums, "sums", at, 0);
+    }
     expect((uint8_t)answer.size, 1, "size", 0, 0);
     expect(answer.names[0].sender, 1, "names.sender", 0, 0);
-    expect(answer.names[0].number.value, 2, "names.number", 0, 0);
+    expect(answer.names[0].number.value, 3, "names.number", 0, 0);
     expect(answer.names[63].sender, 0, "names.sender", 63, 0);
     memset(&run, 0xA5, sizeof run);
     furnacejade_run(synced, sizeof synced, listing, sizeof listing, scratch, sizeof scratch, &run);
     expect(run.number, 0, "run.number", 0, 0);
-    expect((uint8_t)run.events, 4, "run.events", 0, 0);
-    static const char lines[] = "2 1 -7 1.1\n4 1 -7 1.2\n";
+    expect((uint8_t)run.events, 5, "run.events", 0, 0);
+    static const char lines[] = "3 1 30 7 1.1 1.2\n5 1 30 7 1.3\n";
     expect((uint8_t)run.written, sizeof lines - 1, "run.written", 0, 0);
     expect((uint8_t)(memcmp(listing, lines, sizeof lines - 1) == 0), 1, "listing", 0, 0);
-    expect((uint8_t)run.table.count, 2, "run.table", 0, 0);
+    expect((uint8_t)run.table.count, 3, "run.table", 0, 0);
     furnacejade_look_answer shown;
     furnacejade_look(&run.table, 1, &shown);
-    expect((uint8_t)(shown.panel.total == -7), 1, "look.total", 0, 0);
-    expect((uint8_t)(shown.panel.classes[FURNACEJADE_CLASS_NONE] == -7), 1, "look.classes", 0, 0);
+    expect_sums(shown.panel.sums, reported, "look.sums", 0, 0);
+    expect_sums(shown.panel.classes[FURNACEJADE_CLASS_NONE], reported, "look.classes", 0, 0);
 }
 
-/* A local read of the only controller, in a table of this version: refused while its report is pending, and then answered with
- * the total -7 and nothing else. The table stays as it is, byte for byte. */
+/* A local read of the only controller, in a table of this version: refused while its reports are pending, and then answered with
+ * their sums and nothing else. The table stays as it is, byte for byte. */
 static void local_reads(uint8_t version) {
+    static const int16_t amounts[] = {30, -7};
     static const uint8_t handover[] = {3, 3, 1, 1}, read[] = {2, 5, 1, 0xA5};
     static const furnacejade_name none[FURNACEJADE_MESSAGES];
     static furnacejade_fresh_answer fresh;
     static furnacejade_answer answer;
     uint8_t record[6];
     furnacejade_fresh(version, 1, &fresh);
-    size_t length = version == 2 ? furnacejade_put_classed_report(record, sizeof record, 1, -7, FURNACEJADE_CLASS_M) : furnacejade_put_report(record, sizeof record, 1, -7);
-    expect(event(&fresh.table, record, length, &answer), 0, "report before a local read", version, 0);
+    for (size_t i = 0; i < 2; i++) {
+        size_t length = version == 2 ? furnacejade_put_classed_report(record, sizeof record, 1, amounts[i], FURNACEJADE_CLASS_M)
+                                     : furnacejade_put_report(record, sizeof record, 1, amounts[i]);
+        expect(event(&fresh.table, record, length, &answer), 0, "report before a local read", version, i);
+    }
     expect(event(&fresh.table, read, sizeof read, &answer), FURNACEJADE_READ_PENDING, "local read", version, 0);
     expect(event(&fresh.table, handover, sizeof handover, &answer), 0, "handover before a local read", version, 0);
     furnacejade_table before = fresh.table;
@@ -351,7 +365,7 @@ static void local_reads(uint8_t version) {
     expect((uint8_t)left, 1, "local read's rest", version, 0);
     expect(answer.number, 0, "local read", version, 1);
     expect(answer.finished, 0, "local read's finished", version, 0);
-    expect((uint8_t)(answer.total == -7), 1, "local read's total", version, 0);
+    expect_sums(answer.sums, reported, "local read's sums", version, 0);
     expect((uint8_t)answer.size, 0, "local read's size", version, 0);
     expect((uint8_t)(memcmp(answer.names, none, sizeof none) == 0), 1, "local read's names", version, 0);
     expect((uint8_t)(memcmp(&fresh.table, &before, sizeof before) == 0), 1, "local read's table", version, 0);
@@ -360,11 +374,11 @@ static void local_reads(uint8_t version) {
     expect(dirt, 0, "local read's scratch", version, 0);
 }
 
-/* What a look shows of each class: controller 1, alone, reports 1 of XL, -20 of L, 300 of M, -4 of S and 1 of XL once more.
- * A refused look shows nothing of any. */
-static void class_totals(void) {
-    static const int16_t amounts[] = {1, -20, 300, -4, 1};
-    static const int32_t totals[FURNACEJADE_CLASSES] = {0, 2, -20, 300, -4};
+/* What a look shows of each class: controller 1, alone, reports 1 of XL, -20 of L, 300 of M, -4 of S and -5 of XL. A refused
+ * look shows nothing of any. */
+static void class_sums(void) {
+    static const int16_t amounts[] = {1, -20, 300, -4, -5};
+    static const furnacejade_sums whole = {301, 29}, classes[FURNACEJADE_CLASSES] = {{0, 0}, {1, 5}, {0, 20}, {300, 0}, {0, 4}};
     static const uint8_t handover[] = {3, 3, 1, 1};
     static furnacejade_fresh_answer fresh;
     static furnacejade_answer answer;
@@ -380,8 +394,8 @@ static void class_totals(void) {
         memset(&shown, 0xA5, sizeof shown);
         furnacejade_look(&fresh.table, c, &shown);
         expect(shown.number, c == 1 ? FURNACEJADE_ACCEPTED : FURNACEJADE_CONTROLLER, "look", c, 0);
-        expect((uint8_t)(shown.panel.total == (c == 1 ? 278 : 0)), 1, "look.total", c, 0);
-        for (size_t k = 0; k < FURNACEJADE_CLASSES; k++) expect((uint8_t)(shown.panel.classes[k] == (c == 1 ? totals[k] : 0)), 1, "look.classes", c, k);
+        expect_sums(shown.panel.sums, c == 1 ? whole : zero_sums, "look.sums", c, 0);
+        for (size_t k = 0; k < FURNACEJADE_CLASSES; k++) expect_sums(shown.panel.classes[k], c == 1 ? classes[k] : zero_sums, "look.classes", c, k);
     }
 }
 
@@ -422,7 +436,7 @@ int main(void) {
     bytes(classed, sizeof classed);
     zeros();
     answers();
-    class_totals();
+    class_sums();
     random_tables();
     printf("%u fields and tables as expected\n", tests);
     return EXIT_SUCCESS;

@@ -19,8 +19,8 @@
  * two tables have the same fields exactly if memcmp finds them equal, equal calls make equal tables byte for byte, and a
  * table may be copied, saved, sent and hashed as sizeof(furnacejade_table) bytes, between x86-64 programs that were built
  * with the same version of this header. Answers have padding, which a call may leave as anything, old bytes of the stack
- * among them: furnacejade_answer at bytes 2 and 3, furnacejade_look_answer at 1 to 3, furnacejade_fresh_answer and
- * furnacejade_run_answer at 1 to 7. Compare, save and send answers field by field. */
+ * among them: furnacejade_answer at bytes 2, 3 and 12 to 15, furnacejade_look_answer at 1 to 3, furnacejade_fresh_answer
+ * and furnacejade_run_answer at 1 to 7. Compare, save and send answers field by field. */
 #ifndef FURNACEJADE_H
 #define FURNACEJADE_H
 
@@ -37,7 +37,7 @@ extern "C" {
 enum {
     FURNACEJADE_CONTROLLERS = 7, /* at most so many controllers */
     FURNACEJADE_MESSAGES = 64,   /* at most so many messages in a run */
-    FURNACEJADE_CLASSES = 5,     /* a panel shows so many class totals, that of no class among them */
+    FURNACEJADE_CLASSES = 5,     /* a panel shows the sums of so many classes, of none among them */
     FURNACEJADE_SCRATCH = 4096,  /* an event asks for so many bytes of scratch */
     FURNACEJADE_LISTING = 16384, /* no run file fills so many bytes of listing */
     FURNACEJADE_ABSENT = 255     /* the mark of a controller that is not known to have forwarded a message */
@@ -149,18 +149,24 @@ typedef struct {
     furnacejade_controller controllers[FURNACEJADE_CONTROLLERS]; /* controller c at c - 1 */
 } furnacejade_table;
 
+/* Two sums of amounts, each from 0 to 23,040 and at most that together. */
+typedef struct {
+    uint32_t added;     /* of those above 0 */
+    uint32_t withdrawn; /* of those below 0, with the sign dropped */
+} furnacejade_sums;
+
 /* What a panel shows. */
 typedef struct {
-    int32_t total;                        /* the sum of the amounts that its controller has applied */
-    int32_t classes[FURNACEJADE_CLASSES]; /* of each class, from FURNACEJADE_CLASS_NONE on; they add up to the total */
+    furnacejade_sums sums;                         /* over what its controller has applied */
+    furnacejade_sums classes[FURNACEJADE_CLASSES]; /* of each class, from FURNACEJADE_CLASS_NONE on; they add up to these */
 } furnacejade_panel;
 
 /* What furnacejade_event answers. */
 typedef struct {
     uint8_t number;                               /* the refusal number, 0 if accepted */
     uint8_t finished;                             /* 1 if a sync of the receiver's own is in the set applied, else 0 */
-    int32_t total;                                /* then that sync's answer, the total after the set; what an accepted local
-                                                     read gives, with finished 0; else 0 */
+    furnacejade_sums sums;                        /* then that sync's answer, the sums after the set; what an accepted local
+                                                     read gives, with finished 0; else zeros */
     size_t size;                                  /* how many messages the set has */
     furnacejade_name names[FURNACEJADE_MESSAGES]; /* their names, by sender and then number; zeros behind them */
 } furnacejade_answer;
@@ -221,19 +227,22 @@ FURNACEJADE_AT(furnacejade_table, n, 8);
 FURNACEJADE_AT(furnacejade_table, count, 16);
 FURNACEJADE_AT(furnacejade_table, messages, 24);
 FURNACEJADE_AT(furnacejade_table, controllers, 536);
-FURNACEJADE_BYTES(furnacejade_panel, 24);
-FURNACEJADE_AT(furnacejade_panel, total, 0);
-FURNACEJADE_AT(furnacejade_panel, classes, 4);
-FURNACEJADE_BYTES(furnacejade_answer, 144);
+FURNACEJADE_BYTES(furnacejade_sums, 8);
+FURNACEJADE_AT(furnacejade_sums, added, 0);
+FURNACEJADE_AT(furnacejade_sums, withdrawn, 4);
+FURNACEJADE_BYTES(furnacejade_panel, 48);
+FURNACEJADE_AT(furnacejade_panel, sums, 0);
+FURNACEJADE_AT(furnacejade_panel, classes, 8);
+FURNACEJADE_BYTES(furnacejade_answer, 152);
 FURNACEJADE_AT(furnacejade_answer, number, 0);
 FURNACEJADE_AT(furnacejade_answer, finished, 1);
-FURNACEJADE_AT(furnacejade_answer, total, 4);
-FURNACEJADE_AT(furnacejade_answer, size, 8);
-FURNACEJADE_AT(furnacejade_answer, names, 16);
+FURNACEJADE_AT(furnacejade_answer, sums, 4);
+FURNACEJADE_AT(furnacejade_answer, size, 16);
+FURNACEJADE_AT(furnacejade_answer, names, 24);
 FURNACEJADE_BYTES(furnacejade_fresh_answer, 5528);
 FURNACEJADE_AT(furnacejade_fresh_answer, number, 0);
 FURNACEJADE_AT(furnacejade_fresh_answer, table, 8);
-FURNACEJADE_BYTES(furnacejade_look_answer, 28);
+FURNACEJADE_BYTES(furnacejade_look_answer, 52);
 FURNACEJADE_AT(furnacejade_look_answer, number, 0);
 FURNACEJADE_AT(furnacejade_look_answer, panel, 4);
 FURNACEJADE_BYTES(furnacejade_run_answer, 5544);
@@ -335,8 +344,8 @@ static inline size_t furnacejade_put_stop(uint8_t *out, size_t room, uint8_t con
     return 5;
 }
 
-/* Kind 5: a local read of a controller's total, 3 bytes. It sends no message and leaves the table as it is; the total stands
- * in the answer. It is refused (18) while a message of the controller's own is pending. */
+/* Kind 5: a local read of a controller's sums, 3 bytes. It sends no message and leaves the table as it is; the sums stand in
+ * the answer. It is refused (18) while a message of the controller's own is pending. */
 static inline size_t furnacejade_put_local_read(uint8_t *out, size_t room, uint8_t controller) {
     if (room < 3) return 0;
     out[0] = 2;
@@ -366,7 +375,7 @@ void furnacejade_fresh(size_t version, size_t n, furnacejade_fresh_answer *answe
  *     size_t left = furnacejade_event(table, record, length, scratch, sizeof scratch, &answer);
  *     length = furnacejade_put_local_read(record, sizeof record, 2);
  *     furnacejade_event(table, record, length, scratch, sizeof scratch, &answer);
- *     if (answer.number == FURNACEJADE_ACCEPTED) printf("2 reads %d\n", (int)answer.total);
+ *     if (answer.number == FURNACEJADE_ACCEPTED) printf("2 reads %u %u\n", answer.sums.added, answer.sums.withdrawn);
  */
 size_t furnacejade_event(furnacejade_table *t, const uint8_t *bytes, size_t bytes_length, uint8_t *scratch, size_t scratch_length, furnacejade_answer *answer);
 
@@ -375,8 +384,9 @@ size_t furnacejade_event(furnacejade_table *t, const uint8_t *bytes, size_t byte
  *
  *     furnacejade_look_answer look;
  *     furnacejade_look(table, 2, &look);
+ *     const furnacejade_sums *whole = &look.panel.sums, *xl = &look.panel.classes[FURNACEJADE_CLASS_XL];
  *     if (look.number == FURNACEJADE_ACCEPTED)
- *         printf("panel 2 shows %d, of XL %d\n", (int)look.panel.total, (int)look.panel.classes[FURNACEJADE_CLASS_XL]);
+ *         printf("panel 2 shows %u %u, of XL %u %u\n", whole->added, whole->withdrawn, xl->added, xl->withdrawn);
  */
 void furnacejade_look(const furnacejade_table *t, size_t c, furnacejade_look_answer *answer);
 

@@ -1,6 +1,6 @@
-/* Five lanes of one machine: trays, two of one lane under way at once, local reads, a sync, a lane that stops, and what is left
- * when no majority runs. Records are written with the header's writers, everything that waits is handed over, and refusals are
- * printed in words. */
+/* Five lanes of one machine: trays, two of one lane under way at once, eggs taken back, local reads, a sync, a lane that stops,
+ * and what is left when no majority runs. Records are written with the header's writers, everything that waits is handed over,
+ * and refusals are printed in words. */
 #include <stdio.h>
 #include <stdlib.h>
 
@@ -23,11 +23,14 @@ static void print_refusal(void) {
     printf("refused, %d: %s\n", answer.number, furnacejade_question(answer.number));
 }
 
-static int shown(size_t lane) {
+static furnacejade_sums shown(size_t lane) {
     furnacejade_look_answer look;
     furnacejade_look(table, lane, &look);
-    return (int)look.panel.total;
+    return look.panel.sums;
 }
+
+/* What was added, and what was withdrawn. */
+static void print_sums(furnacejade_sums sums, const char *end) { printf("%u %u%s", sums.added, sums.withdrawn, end); }
 
 /* An accepted report or sync is the table's last message; its number is its place in its sender's log. */
 static void print_sent(void) {
@@ -55,8 +58,8 @@ static void sync(uint8_t lane) {
 
 static void local_read(uint8_t lane) {
     uint8_t record[LONGEST];
-    printf("lane %d reads its own total: ", lane);
-    if (play(record, furnacejade_put_local_read(record, sizeof record, lane)) == FURNACEJADE_ACCEPTED) printf("%d\n", (int)answer.total);
+    printf("lane %d reads its own sums: ", lane);
+    if (play(record, furnacejade_put_local_read(record, sizeof record, lane)) == FURNACEJADE_ACCEPTED) print_sums(answer.sums, "\n");
     else print_refusal();
 }
 
@@ -71,8 +74,11 @@ static void print_set(uint8_t receiver) {
     if (answer.size == 0) return;
     printf("  panel %d applies", receiver);
     for (size_t i = 0; i < answer.size; i++) printf(" %d.%d", answer.names[i].sender, answer.names[i].number.value);
-    printf(" and shows %d\n", shown(receiver));
-    if (answer.finished) printf("  lane %d's sync is answered: %d\n", receiver, (int)answer.total);
+    printf(" and shows ");
+    print_sums(shown(receiver), "\n");
+    if (!answer.finished) return;
+    printf("  lane %d's sync is answered: ", receiver);
+    print_sums(answer.sums, "\n");
 }
 
 /* Hands over the next entry of one log for as long as there is one. Refusal 13 says that there is none, and 10 that the
@@ -98,9 +104,8 @@ static void hand_over_all(void) {
         for (uint8_t receiver = 1; receiver <= LANES; receiver++)
             for (uint8_t owner = 1; owner <= LANES; owner++) all += drain(receiver, owner);
     } while (all != before);
-    printf("handed over %u entries; panels show", all);
-    for (size_t lane = 1; lane <= LANES; lane++) printf(" %d", shown(lane));
-    printf("\n");
+    printf("handed over %u entries; panels show ", all);
+    for (size_t lane = 1; lane <= LANES; lane++) print_sums(shown(lane), lane < LANES ? ", " : "\n");
 }
 
 int main(void) {
@@ -112,12 +117,12 @@ int main(void) {
     sync(1);       /* 11: likewise */
     hand_over_all();
     local_read(1);
-    report(1, 12);
-    report(5, 24); /* 5.3: lane 5 has forwarded 1.1 and 1.2 before it */
-    stop(5, 1);    /* 14: lanes have read its second entry */
-    stop(5, 2);    /* 5.3, which nobody has read, vanishes */
-    sync(5);       /* 10: a stop is final */
-    local_read(5); /* 10: its panel can still be looked at */
+    report(1, -12); /* the second tray is taken back */
+    report(5, 24);  /* 5.3: lane 5 has forwarded 1.1 and 1.2 before it */
+    stop(5, 1);     /* 14: lanes have read its second entry */
+    stop(5, 2);     /* 5.3, which nobody has read, vanishes */
+    sync(5);        /* 10: a stop is final */
+    local_read(5);  /* 10: its panel can still be looked at */
     report(2, 400);
     hand_over_all();
     sync(3);

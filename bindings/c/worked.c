@@ -14,12 +14,19 @@ static furnacejade_panel shown(const furnacejade_table *table, size_t controller
     return look.panel;
 }
 
+/* What was added, and what was withdrawn. */
+static void print_sums(furnacejade_sums sums) { printf(" %u %u", sums.added, sums.withdrawn); }
+
 static void print_classes(const furnacejade_table *table) {
     static const char *const names[FURNACEJADE_CLASSES] = {"none", "XL", "L", "M", "S"};
     for (size_t c = 1; c <= table->n; c++) {
         furnacejade_panel panel = shown(table, c);
-        printf("panel %zu: %d", c, (int)panel.total);
-        for (size_t k = FURNACEJADE_CLASS_XL; k <= FURNACEJADE_CLASS_S; k++) printf(", %s %d", names[k], (int)panel.classes[k]);
+        printf("panel %zu:", c);
+        print_sums(panel.sums);
+        for (size_t k = FURNACEJADE_CLASS_XL; k <= FURNACEJADE_CLASS_S; k++) {
+            printf(", %s", names[k]);
+            print_sums(panel.classes[k]);
+        }
         printf("\n");
     }
 }
@@ -41,9 +48,14 @@ int main(void) {
         at = length - left;
         printf("%u:", number);
         for (size_t i = 0; i < answer.size; i++) printf(" %d.%d", answer.names[i].sender, answer.names[i].number.value);
-        if (record[1] == LOCAL_READ) printf(" %d reads %d", record[2], (int)answer.total);
-        printf(" |");
-        for (size_t c = 1; c <= table->n; c++) printf(" %d", (int)shown(table, c).total);
+        if (record[1] == LOCAL_READ) {
+            printf(" %d reads", record[2]);
+            print_sums(answer.sums);
+        }
+        for (size_t c = 1; c <= table->n; c++) {
+            printf(" |");
+            print_sums(shown(table, c).sums);
+        }
         printf("\n");
     }
     if (table->version == 2) print_classes(table);

@@ -3,7 +3,7 @@
 //! `bindings/worked.run`, `bindings/classes.run` and `bindings/underway.run` are the runs of docs/RULES.md, sections
 //! 19, 25 and 26.
 
-use furnacejade::{event, fresh, look, Class, Table, SCRATCH};
+use furnacejade::{event, fresh, look, Class, Sums, Table, SCRATCH};
 use std::error::Error;
 use std::io::Read;
 
@@ -13,9 +13,10 @@ const LOCAL_READ: u8 = 5;
 fn print_classes(table: &Table) -> Result<(), Box<dyn Error>> {
     for c in 1..=table.n {
         let panel = look(table, c)?;
-        print!("panel {c}: {}", panel.total);
+        print!("panel {c}: {}", panel.sums);
         for class in Class::ALL {
-            print!(", {class} {}", panel.of(class).unwrap_or_default());
+            let sums = panel.of(class).unwrap_or(Sums::BLANK);
+            print!(", {class} {sums}");
         }
         println!();
     }
@@ -38,12 +39,11 @@ fn main() -> Result<(), Box<dyn Error>> {
             print!(" {name}");
         }
         if rest[1] == LOCAL_READ {
-            print!(" {} reads {}", rest[2], answer.total);
+            print!(" {} reads {}", rest[2], answer.sums);
         }
         rest = left;
-        print!(" |");
         for c in 1..=table.n {
-            print!(" {}", look(&table, c)?.total);
+            print!(" | {}", look(&table, c)?.sums);
         }
         println!();
     }

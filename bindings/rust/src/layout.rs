@@ -10,7 +10,7 @@ pub const CONTROLLERS: usize = 7;
 /// A run has at most so many messages.
 pub const MESSAGES: usize = 64;
 
-/// A panel shows so many class totals, that of [`Class::NONE`] among them.
+/// A panel shows the sums of so many classes, [`Class::NONE`] among them.
 pub const CLASSES: usize = 5;
 
 /// An event asks for so many bytes of scratch.
@@ -114,14 +114,29 @@ pub struct Table {
     pub controllers: [Controller; CONTROLLERS],
 }
 
+/// Two sums of amounts, each from 0 to 23,040 and at most that together. Their text is both, as a listing has them.
+///
+/// ```
+/// use furnacejade::Sums;
+/// assert_eq!(Sums { added: 30, withdrawn: 2 }.to_string(), "30 2");
+/// ```
+#[repr(C)]
+#[derive(Clone, Copy, Debug, PartialEq, Eq, Hash)]
+pub struct Sums {
+    /// That of the amounts above 0.
+    pub added: u32,
+    /// That of the amounts below 0, with the sign dropped.
+    pub withdrawn: u32,
+}
+
 /// What a panel shows.
 #[repr(C)]
 #[derive(Clone, Debug, PartialEq, Eq, Hash)]
 pub struct Panel {
-    /// The sum of the amounts applied.
-    pub total: i32,
-    /// That of each class, from [`Class::NONE`] on; they add up to the total.
-    pub classes: [i32; CLASSES],
+    /// The sums over what was applied.
+    pub sums: Sums,
+    /// Those of each class, from [`Class::NONE`] on; they add up to the others.
+    pub classes: [Sums; CLASSES],
 }
 
 /// What an event answers.
@@ -132,8 +147,8 @@ pub struct Answer {
     pub number: Refusal,
     /// Whether a sync of the receiver's own is in the set applied: 1 if so, else 0.
     pub finished: u8,
-    /// Then that sync's answer, the total after the set; or the total that an accepted local read gives; else 0.
-    pub total: i32,
+    /// Then that sync's answer, the sums after the set; or the sums that an accepted local read gives; else zeros.
+    pub sums: Sums,
     /// How many messages the set has.
     pub size: usize,
     /// Their names, by sender and then number; blank behind them.
@@ -291,18 +306,30 @@ impl Table {
     }
 }
 
+impl Sums {
+    /// Every field zero.
+    pub const BLANK: Sums = Sums { added: 0, withdrawn: 0 };
+}
+
+impl Display for Sums {
+    fn fmt(&self, f: &mut Formatter<'_>) -> std::fmt::Result {
+        write!(f, "{} {}", self.added, self.withdrawn)
+    }
+}
+
 impl Panel {
     /// Every field zero.
-    pub const BLANK: Panel = Panel { total: 0, classes: [0; CLASSES] };
+    pub const BLANK: Panel = Panel { sums: Sums::BLANK, classes: [Sums::BLANK; CLASSES] };
 
-    /// The total of a class, unless there is no such class.
+    /// The sums of a class, unless there is no such class.
     ///
     /// ```
-    /// use furnacejade::{Class, Panel};
-    /// let panel = Panel { total: 28, classes: [0, 30, -2, 0, 0] };
-    /// assert_eq!((panel.of(Class::XL), panel.of(Class::L), panel.of(Class(5))), (Some(30), Some(-2), None));
+    /// use furnacejade::{Class, Panel, Sums};
+    /// let sums = Sums { added: 30, withdrawn: 2 };
+    /// let panel = Panel { sums, classes: [Sums::BLANK, sums, Sums::BLANK, Sums::BLANK, Sums::BLANK] };
+    /// assert_eq!((panel.of(Class::XL), panel.of(Class::L), panel.of(Class(5))), (Some(sums), Some(Sums::BLANK), None));
     /// ```
-    pub fn of(&self, class: Class) -> Option<i32> {
+    pub fn of(&self, class: Class) -> Option<Sums> {
         self.classes.get(class.0 as usize).copied()
     }
 }
@@ -310,16 +337,16 @@ impl Panel {
 impl Answer {
     /// Every field zero: a place for an answer.
     pub const BLANK: Answer =
-        Answer { number: Refusal::ACCEPTED, finished: 0, total: 0, size: 0, names: [Name::BLANK; MESSAGES] };
+        Answer { number: Refusal::ACCEPTED, finished: 0, sums: Sums::BLANK, size: 0, names: [Name::BLANK; MESSAGES] };
 
     /// The set applied, by sender and then number.
     pub fn applied(&self) -> &[Name] {
         &self.names[..self.size]
     }
 
-    /// The answer of a sync that the event finished at its sender: the total after the set.
-    pub fn sync_answer(&self) -> Option<i32> {
-        (self.finished != 0).then_some(self.total)
+    /// The answer of a sync that the event finished at its sender: the sums after the set.
+    pub fn sync_answer(&self) -> Option<Sums> {
+        (self.finished != 0).then_some(self.sums)
     }
 }
 
@@ -364,8 +391,9 @@ layout!(Pending, 8 bytes, 0 of padding: held at 0, marks at 1);
 layout!(Controller, 712 bytes, 0 of padding: length at 0, log at 8, read at 72, pending at 128, applied at 640,
     highest at 704, running at 711);
 layout!(Table, 5520 bytes, 0 of padding: version at 0, n at 8, count at 16, messages at 24, controllers at 536);
-layout!(Panel, 24 bytes, 0 of padding: total at 0, classes at 4);
-layout!(Answer, 144 bytes, 2 of padding: number at 0, finished at 1, total at 4, size at 8, names at 16);
+layout!(Sums, 8 bytes, 0 of padding: added at 0, withdrawn at 4);
+layout!(Panel, 48 bytes, 0 of padding: sums at 0, classes at 8);
+layout!(Answer, 152 bytes, 6 of padding: number at 0, finished at 1, sums at 4, size at 16, names at 24);
 layout!(FreshAnswer, 5528 bytes, 7 of padding: number at 0, table at 8);
-layout!(LookAnswer, 28 bytes, 3 of padding: number at 0, panel at 4);
+layout!(LookAnswer, 52 bytes, 3 of padding: number at 0, panel at 4);
 layout!(RunAnswer, 5544 bytes, 7 of padding: number at 0, events at 8, written at 16, table at 24);

@@ -5,7 +5,7 @@
 //! A refused call changes nothing that was lent to it.
 //!
 //! ```
-//! use furnacejade::{event, fresh, look, Record, Refusal, SCRATCH};
+//! use furnacejade::{event, fresh, look, Record, Refusal, Sums, SCRATCH};
 //!
 //! # fn main() -> Result<(), Refusal> {
 //! let mut table = fresh(1, 2)?;
@@ -19,10 +19,10 @@
 //! play(Record::Handover { receiver: 2, owner: 1 })?;
 //! let answer = play(Record::Handover { receiver: 1, owner: 2 })?;
 //! assert_eq!(answer.applied().len(), 1);
-//! assert_eq!(look(&table, 1)?.total, 5);
-//! assert_eq!(look(&table, 2)?.total, 0);
+//! assert_eq!(look(&table, 1)?.sums, Sums { added: 5, withdrawn: 0 });
+//! assert_eq!(look(&table, 2)?.sums, Sums::BLANK);
 //!
-//! // There is no panel 3, and that is no total of 0.
+//! // There is no panel 3, and that is no sum of 0.
 //! let refusal = look(&table, 3).unwrap_err();
 //! assert_eq!(refusal, Refusal::CONTROLLER);
 //! assert_eq!(refusal.to_string(), "Is every controller named from 1 to n?");
@@ -30,11 +30,11 @@
 //! # }
 //! ```
 //!
-//! A sender reports on while reports of its own are under way. A local read gives a controller's total without a
-//! message, once the controller has applied all that it sent:
+//! A sender reports on while reports of its own are under way. A local read gives what a controller's panel shows
+//! without a message, once the controller has applied all that it sent: what was added, and what was withdrawn.
 //!
 //! ```
-//! use furnacejade::{event, fresh, Record, Refusal, SCRATCH};
+//! use furnacejade::{event, fresh, Record, Refusal, Sums, SCRATCH};
 //!
 //! # fn main() -> Result<(), Refusal> {
 //! let mut table = fresh(1, 1)?;
@@ -42,20 +42,20 @@
 //! let mut play = |record: Record| event(&mut table, &record.bytes(), &mut scratch).map(|(answer, _)| answer);
 //!
 //! play(Record::Report { sender: 1, amount: 30 })?;
-//! play(Record::Report { sender: 1, amount: 12 })?;
+//! play(Record::Report { sender: 1, amount: -12 })?;
 //! assert_eq!(play(Record::Sync { sender: 1 }), Err(Refusal::OWN_PENDING));
 //! assert_eq!(play(Record::LocalRead { controller: 1 }), Err(Refusal::READ_PENDING));
 //! play(Record::Handover { receiver: 1, owner: 1 })?;
-//! assert_eq!(play(Record::LocalRead { controller: 1 })?.total, 42);
+//! assert_eq!(play(Record::LocalRead { controller: 1 })?.sums, Sums { added: 30, withdrawn: 12 });
 //! # Ok(())
 //! # }
 //! ```
 //!
-//! In tables and files of version 2 each report names a weight class, and a panel shows a total of each. A whole file goes
-//! through [`run`]:
+//! In tables and files of version 2 each report names a weight class, and a panel shows the sums of each. A whole file
+//! goes through [`run`]:
 //!
 //! ```
-//! use furnacejade::{file_of, look, run, Class, Record, Refusal, SCRATCH};
+//! use furnacejade::{file_of, look, run, Class, Record, Refusal, Sums, SCRATCH};
 //!
 //! # fn main() -> Result<(), Refusal> {
 //! let handover = Record::Handover { receiver: 1, owner: 1 };
@@ -64,10 +64,11 @@
 //! let (mut listing, mut scratch) = ([0; 64], [0; SCRATCH]);
 //! let answer = run(&file_of(2, 1, &records), &mut listing, &mut scratch);
 //! assert_eq!((answer.number, answer.events), (Refusal::ACCEPTED, 4));
-//! assert_eq!(&listing[..answer.written], b"2 1 12 1.1\n4 1 5 1.2\n");
+//! assert_eq!(&listing[..answer.written], b"2 1 12 0 1.1\n4 1 12 7 1.2\n");
 //!
 //! let panel = look(&answer.table, 1)?;
-//! assert_eq!(Class::ALL.map(|class| panel.of(class)), [Some(0), Some(12), Some(0), Some(-7)]);
+//! assert_eq!(panel.of(Class::L), Some(Sums { added: 12, withdrawn: 0 }));
+//! assert_eq!(panel.of(Class::S), Some(Sums { added: 0, withdrawn: 7 }));
 //! # Ok(())
 //! # }
 //! ```
@@ -79,7 +80,7 @@ mod refusal;
 
 pub use layout::{
     Answer, Class, Controller, ForwardNumber, FreshAnswer, LookAnswer, Message, MessageNumber, Name, Panel, Payload,
-    Pending, RunAnswer, Table, CLASSES, CONTROLLERS, MESSAGES, SCRATCH,
+    Pending, RunAnswer, Sums, Table, CLASSES, CONTROLLERS, MESSAGES, SCRATCH,
 };
 pub use record::{file_of, Record};
 pub use refusal::Refusal;
@@ -92,7 +93,7 @@ pub fn fresh(version: usize, n: usize) -> Result<Table, Refusal> {
     Ok(answer.table)
 }
 
-/// Carries out the record with which the bytes begin: the set applied and the total of a finished sync or of a local
+/// Carries out the record with which the bytes begin: the set applied and the sums of a finished sync or of a local
 /// read, and the part of the bytes that is unread. The table's version says whether a report has a class byte. It needs
 /// [`SCRATCH`] bytes of scratch, and leaves them zero. A refused event leaves table and scratch as they were.
 pub fn event<'a>(table: &mut Table, bytes: &'a [u8], scratch: &mut [u8]) -> Result<(Answer, &'a [u8]), Refusal> {
@@ -102,7 +103,7 @@ pub fn event<'a>(table: &mut Table, bytes: &'a [u8], scratch: &mut [u8]) -> Resu
     Ok((answer, &bytes[bytes.len() - left..]))
 }
 
-/// What the panel of a controller shows, 1 to n, running or stopped: the total, and that of each class.
+/// What the panel of a controller shows, 1 to n, running or stopped: the sums, and those of each class.
 pub fn look(table: &Table, controller: usize) -> Result<Panel, Refusal> {
     let mut answer = LookAnswer::BLANK;
     calls::look(table, controller, &mut answer);

@@ -22,7 +22,7 @@ pub enum Record {
         /// What the eggs weigh, [`Class::XL`] to [`Class::S`].
         class: Class,
     },
-    /// A sender asks for the total after everything that is under way before this message. It has no message of its own
+    /// A sender asks for the sums after everything that is under way before this message. It has no message of its own
     /// pending.
     Sync {
         /// The controller that sends it.
@@ -42,7 +42,7 @@ pub enum Record {
         /// How many entries of its log are kept.
         kept: u16,
     },
-    /// A controller asks for the total that its panel shows, without a message; the table stays as it is. It has no
+    /// A controller asks for the sums that its panel shows, without a message; the table stays as it is. It has no
     /// message of its own pending.
     LocalRead {
         /// The controller that reads.

@@ -3,7 +3,8 @@
 
 use furnacejade::{calls, event, file_of, fresh, look, run};
 use furnacejade::{
-    Answer, Class, FreshAnswer, LookAnswer, MessageNumber, Name, Panel, Record, Refusal, RunAnswer, Table, SCRATCH,
+    Answer, Class, FreshAnswer, LookAnswer, MessageNumber, Name, Panel, Record, Refusal, RunAnswer, Sums, Table,
+    SCRATCH,
 };
 use std::mem::size_of;
 
@@ -14,6 +15,26 @@ const UNDERWAY: &[u8] = include_bytes!("../../underway.run");
 fn name(sender: u8, number: u8) -> Name {
     Name { sender, number: MessageNumber(number) }
 }
+
+fn sums(added: u32, withdrawn: u32) -> Sums {
+    Sums { added, withdrawn }
+}
+
+/// A panel by what was added and withdrawn, of the whole and of each class.
+fn panel(whole: (u32, u32), classes: [(u32, u32); 5]) -> Panel {
+    Panel { sums: sums(whole.0, whole.1), classes: classes.map(|(added, withdrawn)| sums(added, withdrawn)) }
+}
+
+/// A report of controller 1 as a table of this version takes it.
+fn report_in(version: u8, amount: i16, class: Class) -> Record {
+    match version {
+        1 => Record::Report { sender: 1, amount },
+        _ => Record::ClassedReport { sender: 1, amount, class },
+    }
+}
+
+/// Controller 1 reads the next entry of its own log.
+const OWN_ENTRY: Record = Record::Handover { receiver: 1, owner: 1 };
 
 /// The table and the answers of a file's records, carried out one by one.
 fn events_of(file: &[u8]) -> (Table, Vec<Answer>) {
@@ -36,8 +57,8 @@ fn a_file_and_its_events_end_in_the_same_table() {
     let sets: Vec<Name> = answers.iter().flat_map(|answer| answer.applied().to_vec()).collect();
     assert_eq!(sets, [name(1, 1), name(1, 1), name(3, 1), name(1, 1), name(3, 1)]);
     assert_eq!(table, answer.table);
-    assert_eq!(look(&table, 2), Ok(Panel { total: 28, classes: [28, 0, 0, 0, 0] }));
-    assert_eq!(&listing[..answer.written], b"4 1 30 1.1\n7 2 30 1.1\n8 2 28 3.1\n11 3 28 1.1 3.1\n");
+    assert_eq!(look(&table, 2), Ok(panel((30, 2), [(30, 2), (0, 0), (0, 0), (0, 0), (0, 0)])));
+    assert_eq!(&listing[..answer.written], b"4 1 30 0 1.1\n7 2 30 0 1.1\n8 2 30 2 3.1\n11 3 30 2 1.1 3.1\n");
 }
 
 #[test]
@@ -51,11 +72,23 @@ fn a_panel_shows_each_class() {
     let classes: Vec<Class> = table.messages[..3].iter().map(|message| message.payload.class).collect();
     assert_eq!(classes, [Class::XL, Class::M, Class::S]);
     for c in 1..=2 {
-        let panel = look(&table, c).unwrap();
-        assert_eq!(panel, Panel { total: 40, classes: [0, 30, 0, 12, -2] });
-        assert_eq!(panel.of(Class::M), Some(12));
+        let shown = look(&table, c).unwrap();
+        assert_eq!(shown, panel((42, 2), [(0, 0), (30, 0), (0, 0), (12, 0), (0, 2)]));
+        assert_eq!((shown.of(Class::M), shown.of(Class::S)), (Some(sums(12, 0)), Some(sums(0, 2))));
     }
-    assert_eq!(&listing[..answer.written], b"7 1 42 1.1 2.1\n10 2 42 1.1 2.1\n13 2 40 2.3\n14 1 40 2.3\n");
+    assert_eq!(&listing[..answer.written], b"7 1 42 0 1.1 2.1\n10 2 42 0 1.1 2.1\n13 2 42 2 2.3\n14 1 42 2 2.3\n");
+}
+
+#[test]
+fn a_class_shows_what_was_added_and_what_was_withdrawn() {
+    for (version, classes) in
+        [(1, [(30, 19), (0, 0), (0, 0), (0, 0), (0, 0)]), (2, [(0, 0), (0, 0), (0, 0), (30, 12), (0, 7)])]
+    {
+        let reports = [(30, Class::M), (-12, Class::M), (-7, Class::S)];
+        let records = [&reports.map(|(amount, class)| report_in(version, amount, class))[..], &[OWN_ENTRY]].concat();
+        let (table, _) = events_of(&file_of(version, 1, &records));
+        assert_eq!(look(&table, 1), Ok(panel((30, 19), classes)));
+    }
 }
 
 #[test]
@@ -63,44 +96,44 @@ fn two_reports_of_one_sender_are_under_way_at_once() {
     let (mut listing, mut scratch) = ([0; 256], [7; SCRATCH]);
     let answer = run(UNDERWAY, &mut listing, &mut scratch);
     assert_eq!((answer.number, answer.events), (Refusal::ACCEPTED, 13));
-    assert_eq!(&listing[..answer.written], b"4 2 30 1.1\n7 1 30 1.1\n8 1 50 1.2\n12 3 30 1.1\n13 3 50 1.2\n");
+    assert_eq!(&listing[..answer.written], b"4 2 30 0 1.1\n7 1 30 0 1.1\n8 1 50 0 1.2\n12 3 30 0 1.1\n13 3 50 0 1.2\n");
     let (table, answers) = events_of(UNDERWAY);
     assert_eq!(table, answer.table);
-    // Events 5 and 9 are local reads, of 2 and of 1; no other event of this run gives a total.
-    let totals: Vec<i32> = answers.iter().map(|answer| answer.total).collect();
-    assert_eq!(totals, [0, 0, 0, 0, 30, 0, 0, 0, 50, 0, 0, 0, 0]);
-    assert_eq!(answers[4], Answer { total: 30, ..Answer::BLANK });
+    // Events 5 and 9 are local reads, of 2 and of 1; no other event of this run gives sums.
+    let given: Vec<Sums> = answers.iter().map(|answer| answer.sums).collect();
+    assert_eq!(given, [0, 0, 0, 0, 30, 0, 0, 0, 50, 0, 0, 0, 0].map(|added| sums(added, 0)));
+    assert_eq!(answers[4], Answer { sums: sums(30, 0), ..Answer::BLANK });
 }
 
 #[test]
 fn a_local_read_leaves_the_table_as_it_is() {
-    let handover = Record::Handover { receiver: 1, owner: 1 }.bytes();
     let local_read = [Record::LocalRead { controller: 1 }.bytes(), vec![9]].concat();
-    let (plain, classed) =
-        (Record::Report { sender: 1, amount: 9 }, Record::ClassedReport { sender: 1, amount: 9, class: Class::L });
-    for (version, report) in [(1, plain), (2, classed)] {
-        let (mut table, mut scratch) = (fresh(version, 1).unwrap(), [7; SCRATCH]);
-        for _ in 1..=3 {
-            event(&mut table, &report.bytes(), &mut scratch).unwrap();
+    for version in [1, 2] {
+        let (mut table, mut scratch) = (fresh(version as usize, 1).unwrap(), [7; SCRATCH]);
+        for amount in [9, -4, 9] {
+            event(&mut table, &report_in(version, amount, Class::L).bytes(), &mut scratch).unwrap();
         }
         assert_eq!(event(&mut table, &local_read, &mut scratch), Err(Refusal::READ_PENDING));
-        assert_eq!(event(&mut table, &handover, &mut scratch).unwrap().0.applied().len(), 3);
+        assert_eq!(event(&mut table, &OWN_ENTRY.bytes(), &mut scratch).unwrap().0.applied().len(), 3);
         let before = *table.as_bytes();
         scratch.fill(7);
-        assert_eq!(event(&mut table, &local_read, &mut scratch), Ok((Answer { total: 27, ..Answer::BLANK }, &[9][..])));
+        let given = Answer { sums: sums(18, 4), ..Answer::BLANK };
+        assert_eq!(event(&mut table, &local_read, &mut scratch), Ok((given, &[9][..])));
         assert_eq!((*table.as_bytes(), scratch), (before, [0; SCRATCH]));
     }
 }
 
 #[test]
-fn a_sync_answers_the_total_when_it_is_finished() {
-    let handover = Record::Handover { receiver: 1, owner: 1 };
-    let (plain, classed) =
-        (Record::Report { sender: 1, amount: -7 }, Record::ClassedReport { sender: 1, amount: -7, class: Class::S });
-    for (version, report) in [(1, plain), (2, classed)] {
-        let (_, answers) = events_of(&file_of(version, 1, &[report, handover, Record::Sync { sender: 1 }, handover]));
-        let answers: Vec<_> = answers.iter().map(Answer::sync_answer).collect();
-        assert_eq!(answers, [None, None, None, Some(-7)]);
+fn a_sync_answers_the_sums_when_it_is_finished() {
+    for version in [1, 2] {
+        let reports = [30, -7].map(|amount| report_in(version, amount, Class::S));
+        let records = [&reports[..], &[OWN_ENTRY, Record::Sync { sender: 1 }, OWN_ENTRY]].concat();
+        let (_, answers) = events_of(&file_of(version, 1, &records));
+        let last = sums(30, 7);
+        let synced: Vec<_> = answers.iter().map(Answer::sync_answer).collect();
+        assert_eq!(synced, [None, None, None, None, Some(last)]);
+        let given: Vec<_> = answers.iter().map(|answer| answer.sums).collect();
+        assert_eq!(given, [Sums::BLANK, Sums::BLANK, Sums::BLANK, Sums::BLANK, last]);
     }
 }
 
@@ -152,10 +185,10 @@ fn a_refused_call_changes_nothing() {
 
 #[test]
 fn a_refused_answer_is_blank_but_for_its_number() {
-    let (mut table, mut answer) = (Table::BLANK, Answer { size: 9, finished: 1, ..Answer::BLANK });
+    let (mut table, mut answer) = (Table::BLANK, Answer { size: 9, finished: 1, sums: sums(9, 9), ..Answer::BLANK });
     assert_eq!(calls::event(&mut table, &[1, 2, 3], &mut [], &mut answer), 3);
     assert_eq!(answer, Answer { number: Refusal::TABLE, ..Answer::BLANK });
-    let mut answer = LookAnswer { number: Refusal::ACCEPTED, panel: Panel { total: 9, classes: [9; 5] } };
+    let mut answer = LookAnswer { number: Refusal::ACCEPTED, panel: panel((9, 9), [(9, 9); 5]) };
     calls::look(&table, 1, &mut answer);
     assert_eq!(answer, LookAnswer { number: Refusal::TABLE, panel: Panel::BLANK });
     for (file, number) in [(&[1][..], Refusal::FILE_LENGTH), (&[3, 3], Refusal::VERSION), (&[2, 8], Refusal::COUNT)] {
