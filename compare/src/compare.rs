@@ -1,12 +1,12 @@
 //! Runs one case through two engines, and finds the first difference; checks demand 3 over one engine's answers.
 
 use crate::case::{Call, Case, Head};
-use crate::demand3::{self, Ledger};
-use crate::engine::Engine;
+use crate::demand3::{self, Figures, Ledger};
+use crate::engine::{Engine, DIRTY_SUMS};
 use crate::records::local_read;
 use crate::reference::SCRATCH;
 use crate::tables::{meaning, well_formed, LOCAL_READ};
-use furnacejade::{Answer, LookAnswer, MessageNumber, Name, Refusal, RunAnswer, Table};
+use furnacejade::{Answer, LookAnswer, MessageNumber, Name, Refusal, RunAnswer, Sums, Table};
 
 const GUARD: usize = 64;
 
@@ -28,7 +28,7 @@ impl Lent {
 
 fn dirty_answer() -> Answer {
     let name = Name { sender: 0xA5, number: MessageNumber(0xA5) };
-    Answer { number: Refusal::from(0xA5), finished: 0xA5, total: -1, size: 77, names: [name; 64] }
+    Answer { number: Refusal::from(0xA5), finished: 0xA5, sums: DIRTY_SUMS, size: 77, names: [name; 64] }
 }
 
 /// An engine, and the table that it goes on with.
@@ -98,6 +98,10 @@ fn set(answer: &Answer) -> Vec<demand3::Name> {
     answer.names[..answer.size.min(64)].iter().map(|x| (x.sender as usize, x.number.0 as usize)).collect()
 }
 
+fn sums(sums: Sums) -> demand3::Sums {
+    (sums.added as usize, sums.withdrawn as usize)
+}
+
 /// One event on both sides.
 fn event(a: &mut Side, b: &mut Side, bytes: &[u8], scratch: usize) -> Result<(), String> {
     let before = b.table.clone();
@@ -105,7 +109,7 @@ fn event(a: &mut Side, b: &mut Side, bytes: &[u8], scratch: usize) -> Result<(),
     differ("event: number", right.answer.number, found.answer.number)?;
     differ("event: set", set(&right.answer), set(&found.answer))?;
     differ("event: finished", right.answer.finished, found.answer.finished)?;
-    differ("event: total", right.answer.total, found.answer.total)?;
+    differ("event: sums", right.answer.sums, found.answer.sums)?;
     differ_plain("event: answer", right.answer == found.answer)?;
     differ("event: bytes left", right.bytes, found.bytes)?;
     differ_plain("event: scratch", right.scratch == found.scratch)?;
@@ -186,13 +190,13 @@ pub fn demand3(case: &Case, engine: &dyn Engine) -> Result<(), String> {
     let mut side = Side { engine, table };
     let look = |ledger: &mut Ledger, t: &Table, c: usize| {
         let LookAnswer { number, panel } = engine.look(t, c);
-        ledger.look(c, number.number(), panel.total as i64, panel.classes.map(i64::from));
+        ledger.look(c, number.number(), sums(panel.sums), panel.classes.map(sums));
     };
     for step in 0..=case.calls.len() {
         for c in ledger.ended() {
             look(&mut ledger, &side.table, c);
             let answer = side.event(&local_read(c), SCRATCH).answer;
-            ledger.ending_read(c, answer.number.number(), answer.total.into());
+            ledger.ending_read(c, answer.number.number(), sums(answer.sums));
         }
         if let Some(text) = ledger.broken() {
             return Err(format!("demand 3: {text}"));
@@ -200,7 +204,8 @@ pub fn demand3(case: &Case, engine: &dyn Engine) -> Result<(), String> {
         match case.calls.get(step) {
             Some(Call::Event { bytes, scratch }) => {
                 let answer = side.event(bytes, *scratch).answer;
-                ledger.event(bytes, answer.number.number(), &set(&answer), Some(answer.total.into()));
+                let figures = Figures { finished: answer.finished, sums: sums(answer.sums) };
+                ledger.event(bytes, answer.number.number(), &set(&answer), Some(figures));
             }
             Some(Call::Look(c)) => look(&mut ledger, &side.table, *c),
             None => {}

@@ -6,11 +6,37 @@ use std::collections::{BTreeMap, BTreeSet};
 /// A message: sender, number.
 pub type Name = (usize, usize);
 
-/// The amount of a message, 0 if it is no report, and its class, 0 if it has none.
-#[derive(Clone, Copy)]
+/// Two sums: of the amounts above 0, and of those below 0 with the sign dropped.
+pub type Sums = (usize, usize);
+
+/// What an event answers besides its number and its set.
+pub struct Figures {
+    pub finished: u8,
+    pub sums: Sums,
+}
+
+/// The amount of a message, 0 if it is no report, and its class, 0 if it has none; and whether it is a sync.
 struct Content {
     amount: i64,
     class: usize,
+    sync: bool,
+}
+
+/// A line of a listing behind its event's number.
+struct Line {
+    controller: usize,
+    sums: Sums,
+    set: Vec<Name>,
+}
+
+/// The event's number and the line, unless it has another form.
+fn line_of(text: &str) -> Option<(usize, Line)> {
+    let mut fields = text.split(' ');
+    let mut number = || fields.next()?.parse::<usize>().ok();
+    let (event, controller, sums) = (number()?, number()?, (number()?, number()?));
+    let name = |field: &str| field.split_once('.').and_then(|(s, k)| Some((s.parse().ok()?, k.parse().ok()?)));
+    let set = fields.map(name).collect::<Option<Vec<Name>>>()?;
+    (!set.is_empty()).then_some((event, Line { controller, sums, set }))
 }
 
 pub struct Ledger {
@@ -56,8 +82,8 @@ impl Ledger {
         }
     }
 
-    /// An event call with its bytes and its answer. The records of a file have no total to read.
-    pub fn event(&mut self, bytes: &[u8], number: u8, set: &[Name], total: Option<i64>) {
+    /// An event call with its bytes and its answer. A record of a file has no figures but those of its line.
+    pub fn event(&mut self, bytes: &[u8], number: u8, set: &[Name], figures: Option<Figures>) {
         if number != 0 {
             self.expect(set.is_empty(), || "a refused event answers a set".into());
             return;
@@ -75,12 +101,12 @@ impl Ledger {
             1 => {
                 let amount = i16::from_be_bytes([bytes[3], bytes[4]]) as i64;
                 let class = if self.version == 2 { bytes[5] as usize } else { 0 };
-                self.send(c, Content { amount, class });
+                self.send(c, Content { amount, class, sync: false });
             }
-            2 => self.send(c, Content { amount: 0, class: 0 }),
-            3 => self.handover(c, bytes[3] as usize, set),
+            2 => self.send(c, Content { amount: 0, class: 0, sync: true }),
+            3 => self.handover(c, bytes[3] as usize, set, figures),
             4 => self.stop(c, u16::from_be_bytes([bytes[3], bytes[4]]) as usize),
-            5 => self.local_read(c, total),
+            5 => self.local_read(c, figures.map(|figures| figures.sums)),
             _ => return self.expect(false, || "accepted bytes have no kind".into()),
         }
         self.expect(bytes[1] == 3 || set.is_empty(), || "a set without a handover".into());
@@ -95,7 +121,7 @@ impl Ledger {
         (1..=self.n).for_each(|r| self.in_order(r));
     }
 
-    fn handover(&mut self, r: usize, o: usize, set: &[Name]) {
+    fn handover(&mut self, r: usize, o: usize, set: &[Name], figures: Option<Figures>) {
         let place = self.places[r - 1][o - 1];
         let Some(name) = self.logs[o - 1].get(place).copied() else {
             return self.expect(false, || format!("an accepted handover to {r} reads past the end of log {o}"));
@@ -114,6 +140,21 @@ impl Ledger {
             self.contained(r);
             self.in_order(r);
         }
+        if let Some(figures) = figures {
+            self.finishing(r, set, figures);
+        }
+    }
+
+    /// A handover to r whose set holds a sync of r's own says that it is finished, and gives the sums over all that r has
+    /// then applied. Any other gives zeros.
+    fn finishing(&mut self, r: usize, set: &[Name], Figures { finished, sums }: Figures) {
+        let own_sync = |name: &Name| name.0 == r && self.sent.get(name).is_some_and(|x| x.sync);
+        let right = set.iter().any(own_sync);
+        self.expect(finished == right as u8, || format!("a handover to {r} of {set:?} answers finished {finished}"));
+        match right {
+            true => self.shows(r, sums),
+            false => self.expect(sums == (0, 0), || format!("a handover to {r} finishes no sync and gives {sums:?}")),
+        }
     }
 
     /// Of each sender, r has applied every message that was sent before the last one that it has applied.
@@ -129,13 +170,13 @@ impl Ledger {
         }
     }
 
-    /// An accepted local read: it gives the sum of what its controller has applied, which is all that it has sent.
-    fn local_read(&mut self, c: usize, total: Option<i64>) {
+    /// An accepted local read: it gives the sums over what its controller has applied, in which is all that it has sent.
+    fn local_read(&mut self, c: usize, sums: Option<Sums>) {
         let own = self.sent.range((c, 0)..(c + 1, 0)).map(|(name, _)| *name);
         let missing: Vec<Name> = own.filter(|name| !self.applied[c - 1].contains(name)).collect();
         self.expect(missing.is_empty(), || format!("a local read of {c}, which has sent and not applied {missing:?}"));
-        if let Some(total) = total {
-            self.total(c, total);
+        if let Some(sums) = sums {
+            self.shows(c, sums);
         }
     }
 
@@ -179,71 +220,72 @@ impl Ledger {
         }
     }
 
-    /// What a controller has applied, as it was sent.
-    fn applied_at(&self, c: usize) -> Vec<Content> {
-        self.applied[c - 1].iter().filter_map(|name| self.sent.get(name)).copied().collect()
+    /// Each sum over its own part of the amounts that a controller has applied, of the messages that count.
+    fn sums(&self, c: usize, counts: impl Fn(&&Content) -> bool) -> Sums {
+        let applied = self.applied[c - 1].iter().filter_map(|name| self.sent.get(name));
+        let amounts: Vec<i64> = applied.filter(counts).map(|x| x.amount).collect();
+        let part = |sign: i64| amounts.iter().map(|amount| (sign * amount).max(0) as usize).sum();
+        (part(1), part(-1))
     }
 
-    /// The total that a look at a controller shows, a local read gives or a line of a listing has.
-    fn total(&mut self, c: usize, total: i64) {
-        let sum: i64 = self.applied_at(c).iter().map(|x| x.amount).sum();
-        self.expect(total == sum, || format!("{c} shows {total}, not {sum}"));
+    /// The sums that a look at a controller shows, a local read or a finished sync gives, or a line of a listing has.
+    fn shows(&mut self, c: usize, sums: Sums) {
+        let right = self.sums(c, |_| true);
+        self.expect(sums == right, || format!("{c} shows {sums:?}, not {right:?}"));
     }
 
-    /// A local read of a controller at which the ending speaks, lent enough scratch. What it gives is the ending's sum,
-    /// since it is the sum over what was applied.
-    pub fn ending_read(&mut self, c: usize, number: u8, total: i64) {
+    /// A local read of a controller at which the ending speaks, lent enough scratch. What it gives are the ending's
+    /// sums, since they are those over what was applied.
+    pub fn ending_read(&mut self, c: usize, number: u8, sums: Sums) {
         self.expect(number == 0, || format!("the ending: a local read of {c} is refused"));
-        self.local_read(c, Some(total));
+        self.local_read(c, Some(sums));
     }
 
     /// A panel look with its answer. Where the ending speaks, the sums over what was applied are the ending's sums.
-    pub fn look(&mut self, c: usize, number: u8, total: i64, classes: [i64; 5]) {
+    pub fn look(&mut self, c: usize, number: u8, sums: Sums, classes: [Sums; 5]) {
         if number != 0 {
             return self.expect(!self.ended().contains(&c), || format!("the ending: a look at {c} is refused"));
         }
         if c < 1 || c > self.n {
             return self.expect(false, || format!("an accepted look at {c}"));
         }
-        self.total(c, total);
-        let applied = self.applied_at(c);
+        self.shows(c, sums);
         for (class, shown) in classes.into_iter().enumerate() {
-            let sum: i64 = applied.iter().filter(|x| x.class == class).map(|x| x.amount).sum();
-            self.expect(shown == sum, || format!("{c} shows {shown} of class {class}, not {sum}"));
+            let right = self.sums(c, |x| x.class == class);
+            self.expect(shown == right, || format!("{c} shows {shown:?} of class {class}, not {right:?}"));
         }
-        self.expect(classes.iter().sum::<i64>() == total, || format!("the classes at {c} do not add up to its total"));
+        let all = classes.iter().fold((0, 0), |all, x| (all.0 + x.0, all.1 + x.1));
+        self.expect(all == sums, || format!("the classes at {c} do not add up to its sums"));
     }
 
     /// The head of a list by a file run: its accepted records as calls, with the sets of its listing.
     pub fn file(file: &[u8], events: usize, listing: &[u8]) -> Ledger {
         let mut ledger = Ledger::new(file[0] as usize, file[1] as usize);
-        let mut sets = BTreeMap::new();
-        for line in String::from_utf8_lossy(listing).lines() {
-            let mut fields = line.split(' ');
-            let mut number = || fields.next().and_then(|f| f.parse::<i64>().ok()).unwrap_or(-1);
-            let (event, controller, total) = (number() as usize, number() as usize, number());
-            let name = |f: &str| f.split_once('.').and_then(|(s, k)| Some((s.parse().ok()?, k.parse().ok()?)));
-            let set: Option<Vec<Name>> = fields.map(name).collect();
-            let whole = set.as_ref().is_some_and(|set| !set.is_empty());
-            ledger.expect(whole, || format!("a line of no known form: {line}"));
-            let new = sets.insert(event, (controller, total, set.unwrap_or_default())).is_none();
-            ledger.expect(new, || format!("two lines for event {event}"));
+        let mut lines = BTreeMap::new();
+        for text in String::from_utf8_lossy(listing).lines() {
+            match line_of(text) {
+                None => ledger.expect(false, || format!("a line of no known form: {text}")),
+                Some((event, line)) => {
+                    let new = lines.insert(event, line).is_none();
+                    ledger.expect(new, || format!("two lines for event {event}"));
+                }
+            }
         }
         let mut rest = &file[2..];
         for event in 1..=events {
-            let (controller, total, set) = sets.remove(&event).unwrap_or((0, 0, vec![]));
-            ledger.event(rest, 0, &set, None);
+            let line = lines.remove(&event);
+            ledger.event(rest, 0, line.as_ref().map_or(&[], |line| &line.set), None);
             if ledger.broken.is_some() {
                 return ledger;
             }
-            if controller != 0 {
-                ledger
-                    .expect(rest[2] as usize == controller, || format!("the line of event {event} names {controller}"));
-                ledger.total(rest[2] as usize, total);
+            if let Some(Line { controller, sums, .. }) = line {
+                let named = rest[2] as usize == controller;
+                ledger.expect(named, || format!("the line of event {event} names {controller}"));
+                ledger.shows(rest[2] as usize, sums);
             }
             rest = &rest[1 + rest[0] as usize..];
         }
-        ledger.expect(sets.is_empty(), || "a line for an event that was not accepted".into());
+        ledger.expect(lines.is_empty(), || "a line for an event that was not accepted".into());
         ledger
     }
 }

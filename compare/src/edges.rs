@@ -6,11 +6,11 @@ use crate::records::{classed_report, file_of, handover, local_read, report, repo
 use crate::reference::{State, LISTING, MAX_MESSAGES, SCRATCH};
 use crate::runs::follow;
 use crate::tables::meaning;
-use furnacejade::{Answer, Class, Controller, ForwardNumber, Panel, Payload, Table};
+use furnacejade::{Answer, Class, Controller, ForwardNumber, Panel, Payload, Sums, Table};
 
 const WHOLE_RUN: &str =
     "0103040101001E030301010303020103030102040103FFFE030302030303020203030202030303020303030203030301";
-const WHOLE_LISTING: &str = "4 1 30 1.1\n7 2 30 1.1\n8 2 28 3.1\n11 3 28 1.1 3.1\n";
+const WHOLE_LISTING: &str = "4 1 30 0 1.1\n7 2 30 0 1.1\n8 2 30 2 3.1\n11 3 30 2 1.1 3.1\n";
 
 /// `bindings/classes.run`.
 const WITH_CLASSES: &str = "0202050101001E01050102000C03\
@@ -20,19 +20,19 @@ const WITH_CLASSES: &str = "0202050101001E01050102000C03\
 /// `bindings/underway.run`.
 const UNDER_WAY: &str =
     "0103040101001E0401010014030302010303020202050203030201030301020303010202050103030301030303010303030203030302";
-const UNDER_WAY_LISTING: &str = "4 2 30 1.1\n7 1 30 1.1\n8 1 50 1.2\n12 3 30 1.1\n13 3 50 1.2\n";
+const UNDER_WAY_LISTING: &str = "4 2 30 0 1.1\n7 1 30 0 1.1\n8 1 50 0 1.2\n12 3 30 0 1.1\n13 3 50 0 1.2\n";
 
 /// What the program prints for each file.
 pub const PRINTED: [(&str, &str); 12] = [
-    (WHOLE_RUN, "controllers 3\n4 1 30 1.1\n7 2 30 1.1\n8 2 28 3.1\n11 3 28 1.1 3.1\nend 11 0\n"),
+    (WHOLE_RUN, "controllers 3\n4 1 30 0 1.1\n7 2 30 0 1.1\n8 2 30 2 3.1\n11 3 30 2 1.1 3.1\nend 11 0\n"),
     ("01", "end 0 1\n"),
     ("0103", "controllers 3\nend 0 0\n"),
     ("0108", "end 0 3\n"),
-    (WITH_CLASSES, "controllers 2\n7 1 42 1.1 2.1\n10 2 42 1.1 2.1\n13 2 40 2.3\n14 1 40 2.3\nend 15 0\n"),
+    (WITH_CLASSES, "controllers 2\n7 1 42 0 1.1 2.1\n10 2 42 0 1.1 2.1\n13 2 42 2 2.3\n14 1 42 2 2.3\nend 15 0\n"),
     ("0203", "controllers 3\nend 0 0\n"),
     ("0303", "end 0 2\n"),
     ("0203050101000100", "controllers 3\nend 0 17\n"),
-    (UNDER_WAY, "controllers 3\n4 2 30 1.1\n7 1 30 1.1\n8 1 50 1.2\n12 3 30 1.1\n13 3 50 1.2\nend 13 0\n"),
+    (UNDER_WAY, "controllers 3\n4 2 30 0 1.1\n7 1 30 0 1.1\n8 1 50 0 1.2\n12 3 30 0 1.1\n13 3 50 0 1.2\nend 13 0\n"),
     ("0103020503020501", "controllers 3\nend 2 0\n"),
     ("0203020503020601", "controllers 3\nend 1 6\n"),
     ("0102020201020501", "controllers 2\nend 1 18\n"),
@@ -71,6 +71,23 @@ impl Script<'_> {
     }
 }
 
+/// What was added and what was withdrawn.
+type Both = (u32, u32);
+
+fn sums((added, withdrawn): Both) -> Sums {
+    Sums { added, withdrawn }
+}
+
+/// A panel by its sums and those of each class.
+fn panel(whole: Both, classes: [Both; 5]) -> Panel {
+    Panel { sums: sums(whole), classes: classes.map(sums) }
+}
+
+/// A panel that shows something of one class alone.
+fn panel_of(class: usize, whole: Both) -> Panel {
+    panel(whole, std::array::from_fn(|k| if k == class { whole } else { (0, 0) }))
+}
+
 fn expect(holds: bool, edge: &str) -> Result<(), String> {
     if holds {
         Ok(())
@@ -93,9 +110,8 @@ fn whole_run(engine: &dyn Engine) -> Result<(), String> {
         expect(found == (0, set.to_vec()), &format!("the set of event {}", event + 1))?;
         rest = &rest[1 + rest[0] as usize..];
     }
-    for (c, total) in [(1, 30), (2, 28), (3, 28)] {
-        let shown = Panel { total, classes: [total, 0, 0, 0, 0] };
-        expect(engine.look(&script.table, c).panel == shown, "the looks after the whole run")?;
+    for (c, whole) in [(1, (30, 0)), (2, (30, 2)), (3, (30, 2))] {
+        expect(engine.look(&script.table, c).panel == panel_of(0, whole), "the looks after the whole run")?;
     }
     Ok(())
 }
@@ -113,7 +129,7 @@ fn with_classes(engine: &dyn Engine) -> Result<(), String> {
     }
     expect(meaning(&script.table) == meaning(&run.table), "the run with classes: its last table")?;
     for c in 1..=2 {
-        let shown = Panel { total: 40, classes: [0, 30, 0, 12, -2] };
+        let shown = panel((42, 2), [(0, 0), (30, 0), (0, 0), (12, 0), (0, 2)]);
         expect(engine.look(&run.table, c).panel == shown, "the looks after the run with classes")?;
         let own = &run.table.controllers[c - 1];
         expect(own.read[..2] == [3, 3] && own.length == 3, "the run with classes reads every log to its end")?;
@@ -133,11 +149,11 @@ fn with_reports_under_way(engine: &dyn Engine) -> Result<(), String> {
     for event in 1..=13 {
         let answer = script.answer(rest, SCRATCH);
         let given = match event {
-            5 => 30,
-            9 => 50,
-            _ => 0,
+            5 => (30, 0),
+            9 => (50, 0),
+            _ => (0, 0),
         };
-        let as_said = (answer.number.number(), answer.finished, answer.total) == (0, 0, given);
+        let as_said = (answer.number.number(), answer.finished, answer.sums) == (0, 0, sums(given));
         expect(as_said, &format!("the run under way: event {event}"))?;
         rest = &rest[1 + rest[0] as usize..];
     }
@@ -279,17 +295,18 @@ fn majorities(engine: &dyn Engine) -> Result<(), String> {
 
 fn sixty_four_messages(engine: &dyn Engine) -> Result<(), String> {
     for (version, class) in [(1, 0), (2, 2)] {
-        for sign in [1, -1] {
+        for (amounts, whole) in
+            [([360, 360], (23_040, 0)), ([-360, -360], (0, 23_040)), ([360, -360], (11_520, 11_520))]
+        {
             let mut s = Script::fresh(engine, version, 1);
             for message in 1..=64 {
-                expect(s.number(report_in(version, 1, 360 * sign)) == 0, "a report up to the 64th")?;
+                let amount = amounts[message as usize % 2];
+                expect(s.number(report_in(version, 1, amount)) == 0, "a report up to the 64th")?;
                 expect(s.number(sync(1)) == 11, "a sync while a report is pending")?;
                 expect(s.event(handover(1, 1)) == (0, vec![(1, message)]), "n = 1: report and handover")?;
             }
             expect(s.number(report_in(version, 1, 1)) == 12, "the 65th message")?;
-            let total = 23_040 * i32::from(sign);
-            let classes = std::array::from_fn(|k| if k == class { total } else { 0 });
-            expect(engine.look(&s.table, 1).panel == Panel { total, classes }, "the greatest and the least total")?;
+            expect(engine.look(&s.table, 1).panel == panel_of(class, whole), "the greatest sums")?;
         }
     }
     Ok(())
@@ -327,17 +344,18 @@ fn classes(engine: &dyn Engine) -> Result<(), String> {
 }
 
 /// A class counts what was reported of it, and in version 1 no byte is a class, the one behind a report neither.
-fn class_totals(engine: &dyn Engine) -> Result<(), String> {
+fn class_sums(engine: &dyn Engine) -> Result<(), String> {
     let mut s = Script::fresh(engine, 2, 1);
-    for record in [classed_report(1, 30, 2), classed_report(1, 5, 2), classed_report(1, -7, 4)] {
-        expect(s.number(record) == 0 && s.number(handover(1, 1)) == 0, "reports of two classes")?;
+    for (amount, class) in [(30, 2), (5, 2), (-9, 2), (-7, 4)] {
+        let accepted = s.number(classed_report(1, amount, class)) == 0 && s.number(handover(1, 1)) == 0;
+        expect(accepted, "reports of two classes")?;
     }
-    let shown = Panel { total: 28, classes: [0, 0, 35, 0, -7] };
+    let shown = panel((35, 16), [(0, 0), (0, 0), (35, 9), (0, 0), (0, 7)]);
     expect(engine.look(&s.table, 1).panel == shown, "a look at two classes")?;
     for behind in 0..=255 {
         let mut s = Script::fresh(engine, 1, 1);
         let accepted = s.number([report(1, 5), vec![behind]].concat()) == 0 && s.number(handover(1, 1)) == 0;
-        let shown = Panel { total: 5, classes: [5, 0, 0, 0, 0] };
+        let shown = panel_of(0, (5, 0));
         expect(accepted && engine.look(&s.table, 1).panel == shown, "any byte behind a report of version 1")?;
     }
     Ok(())
@@ -407,25 +425,25 @@ fn reports_under_way(engine: &dyn Engine) -> Result<(), String> {
     }
     // A sync with a report behind it, applied as one: the answer has both.
     let mut s = Script::fresh(engine, 1, 1);
-    let sent = [report(1, 30), handover(1, 1), sync(1), report(1, 20)].map(|record| s.number(record));
+    let sent = [report(1, 30), handover(1, 1), sync(1), report(1, -20)].map(|record| s.number(record));
     let answer = s.answer(&handover(1, 1), SCRATCH);
-    let given = (answer.size, answer.finished, answer.total);
-    expect((sent, given) == ([0; 4], (2, 1, 50)), "a sync's answer is the total after its whole set")
+    let given = (answer.size, answer.finished, answer.sums);
+    expect((sent, given) == ([0; 4], (2, 1, sums((30, 20)))), "a sync's answer is the sums after its whole set")
 }
 
 /// Questions 6, 7, 8, 10, 18 and 15 of a local read, in this order, and what an accepted one gives.
 fn local_reads(engine: &dyn Engine) -> Result<(), String> {
     for version in [1, 2] {
         let mut s = Script::fresh(engine, version, 2);
-        let gives = |s: &mut Script, c: usize, total: i32| {
+        let gives = |s: &mut Script, c: usize, both: Both| {
             let (before, answer) = (s.table.clone(), s.answer(&local_read(c), SCRATCH));
-            answer == Answer { total, ..Answer::BLANK } && before == s.table
+            answer == Answer { sums: sums(both), ..Answer::BLANK } && before == s.table
         };
         for (record, number) in [([2, 6, 1], 6), ([1, 5, 1], 7), ([0, 5, 1], 6), ([3, 5, 1], 5), ([2, 5, 0], 8)] {
             expect(s.number(record.to_vec()) == number, "a local read that 5 to 8 refuse")?;
         }
         expect(s.number(vec![3, 5, 1, 0]) == 7 && s.number(local_read(3)) == 8, "a local read that 7 and 8 refuse")?;
-        expect(gives(&mut s, 1, 0) && gives(&mut s, 2, 0), "a local read of a fresh table")?;
+        expect(gives(&mut s, 1, (0, 0)) && gives(&mut s, 2, (0, 0)), "a local read of a fresh table")?;
         expect(s.answer(&local_read(1), SCRATCH - 1).number.number() == 15, "15 is put to a local read")?;
         expect(s.number(report_in(version, 1, -30)) == 0 && s.number(local_read(1)) == 18, "a pending report")?;
         expect(s.answer(&local_read(1), 0).number.number() == 18, "18 before 15")?;
@@ -436,7 +454,7 @@ fn local_reads(engine: &dyn Engine) -> Result<(), String> {
             expect(s.number(handover(r, o)) == 0, "handovers before a local read")?;
         }
         // 1 has applied its report and 2's sync; 2 has both pending.
-        expect(gives(&mut s, 1, -30) && s.number(local_read(2)) == 18, "a local read of what was applied")?;
+        expect(gives(&mut s, 1, (0, 30)) && s.number(local_read(2)) == 18, "a local read of what was applied")?;
         expect(s.number(stop(2, 2)) == 0 && s.number(local_read(2)) == 10, "a local read of a stopped controller")?;
     }
     let mut s = Script::fresh(engine, 1, 2);
@@ -492,7 +510,7 @@ fn sixty_four_under_way(engine: &dyn Engine) -> Result<(), String> {
             listing[..run.written].split(|byte| *byte == b'\n').map(|line| line.split(|b| *b == b'.').count() - 1);
         expect(!as_one || sizes.max() == Some(MAX_MESSAGES), "64 messages under way: applied as one")?;
         let mut last = Script { engine, table: run.table };
-        let reads = (1..=n).all(|c| last.answer(&local_read(c), SCRATCH).total == 64);
+        let reads = (1..=n).all(|c| last.answer(&local_read(c), SCRATCH).sums == sums((64, 0)));
         expect(reads, "64 messages under way: local reads at the end")?;
     }
     Ok(())
@@ -506,11 +524,11 @@ fn many_local_reads(engine: &dyn Engine) -> Result<(), String> {
         expect(same_run(engine, &file, LISTING, SCRATCH, "a file of local reads")? == end, "a file of local reads")?;
     }
     for count in [9_996, 9_997, 9_998, 9_999] {
-        let lines = [report(1, 5), handover(1, 1), report(1, 5), handover(1, 1)];
+        let lines = [report(1, 5), handover(1, 1), report(1, -7), handover(1, 1)];
         let file = file_of(1, 1, &[reads(count), lines.to_vec()].concat());
         let mut listing = vec![7; LISTING];
         let run = engine.run(&file, &mut listing, &mut [7; SCRATCH]);
-        let expected = format!("{} 1 5 1.1\n{} 1 10 1.2\n", count + 2, count + 4);
+        let expected = format!("{} 1 5 0 1.1\n{} 1 5 7 1.2\n", count + 2, count + 4);
         let found = (run.number.number(), run.events, &listing[..run.written]);
         expect(found == (0, count + 4, expected.as_bytes()), "a line behind many local reads")?;
     }
@@ -551,7 +569,7 @@ pub fn check(engine: &dyn Engine) -> Result<(), String> {
     sixty_four_messages(engine)?;
     amounts(engine)?;
     classes(engine)?;
-    class_totals(engine)?;
+    class_sums(engine)?;
     lengths_of_reports(engine)?;
     stored_classes(engine)?;
     reports_under_way(engine)?;

@@ -3,7 +3,7 @@
 
 use crate::stack::on_painted;
 use crate::{faults, tables};
-use furnacejade::{calls, Answer, FreshAnswer, LookAnswer, Panel, Refusal, RunAnswer, Table, CLASSES};
+use furnacejade::{calls, Answer, FreshAnswer, LookAnswer, Panel, Refusal, RunAnswer, Sums, Table, CLASSES};
 use std::mem::size_of;
 
 pub trait Engine {
@@ -53,6 +53,9 @@ impl Engine for Faulty {
     }
 }
 
+/// Sums that no table gives.
+pub const DIRTY_SUMS: Sums = Sums { added: 0xA5A5_A5A5, withdrawn: 0xA5A5_A5A5 };
+
 /// A table in which every byte is dirt.
 fn dirty_table() -> Table {
     Table::from_bytes(&[0xA5; size_of::<Table>()])
@@ -99,7 +102,8 @@ impl Engine for Library {
         }
     }
     fn look(&self, t: &Table, c: usize) -> LookAnswer {
-        let mut answer = LookAnswer { number: Refusal::from(0xA5), panel: Panel { total: -1, classes: [-1; CLASSES] } };
+        let panel = Panel { sums: DIRTY_SUMS, classes: [DIRTY_SUMS; CLASSES] };
+        let mut answer = LookAnswer { number: Refusal::from(0xA5), panel };
         calls::look(t, c, &mut answer);
         if self.twice {
             let mut again = Err(Refusal::ACCEPTED);

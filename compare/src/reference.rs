@@ -64,20 +64,35 @@ pub enum Event {
     Read { controller: usize },
 }
 
-/// What a panel shows: the total, and the total of each class.
-#[derive(Clone, PartialEq, Eq, Debug)]
-pub struct Shown {
-    pub total: i32,
-    pub classes: [i32; CLASSES],
+/// Two sums of amounts: of those above 0, and of those below 0 with the sign dropped.
+#[derive(Clone, Copy, PartialEq, Eq, Debug, Default)]
+pub struct Sums {
+    pub added: u32,
+    pub withdrawn: u32,
 }
 
-/// The answer to an event. The total is what a finished sync answers, or what a local read gives, and otherwise 0.
+impl Sums {
+    /// The sums with one amount more.
+    fn plus(self, amount: i32) -> Sums {
+        let part = |part: i32| part.max(0) as u32;
+        Sums { added: self.added + part(amount), withdrawn: self.withdrawn + part(-amount) }
+    }
+}
+
+/// What a panel shows: the sums, and those of each class.
+#[derive(Clone, PartialEq, Eq, Debug)]
+pub struct Shown {
+    pub sums: Sums,
+    pub classes: [Sums; CLASSES],
+}
+
+/// The answer to an event. The sums are what a finished sync answers, or what a local read gives, and otherwise zeros.
 #[derive(Clone, PartialEq, Eq, Debug, Default)]
 pub struct Answer {
     pub number: u8,
     pub set: Vec<Name>,
     pub finished: bool,
-    pub total: i32,
+    pub sums: Sums,
 }
 
 // ---------- records ----------
@@ -246,21 +261,26 @@ impl State {
         }
     }
 
-    /// The sum of the amounts that controller c has applied, over the messages that count.
-    fn sum(&self, c: usize, counts: impl Fn(&Name) -> bool) -> i32 {
-        self.controllers[c - 1].applied.iter().filter(|x| counts(x)).map(|x| self.amount(x)).sum()
+    /// The sums of the amounts of messages.
+    fn sums_of<'a>(&self, names: impl IntoIterator<Item = &'a Name>) -> Sums {
+        names.into_iter().fold(Sums::default(), |sums, x| sums.plus(self.amount(x)))
     }
 
-    /// The total of controller c: the sum of the amounts applied.
-    pub fn total(&self, c: usize) -> i32 {
-        self.sum(c, |_| true)
+    /// The sums of controller c: over what it has applied.
+    pub fn sums(&self, c: usize) -> Sums {
+        self.sums_of(&self.controllers[c - 1].applied)
     }
 
-    /// A panel look: question 8, then the total, and that of each class.
+    /// Its sums of one class.
+    fn class_sums(&self, c: usize, class: usize) -> Sums {
+        self.sums_of(self.controllers[c - 1].applied.iter().filter(|x| self.class(x) == class))
+    }
+
+    /// A panel look: question 8, then the sums, and those of each class.
     pub fn look(&self, c: usize) -> Result<Shown, u8> {
         first_no(&[(8, (1..=self.n).contains(&c))])?;
-        let classes = std::array::from_fn(|class| self.sum(c, |x| self.class(x) == class));
-        Ok(Shown { total: self.total(c), classes })
+        let classes = std::array::from_fn(|class| self.class_sums(c, class));
+        Ok(Shown { sums: self.sums(c), classes })
     }
 
     /// Has controller c a message of its own pending?
@@ -347,13 +367,12 @@ impl State {
         BTreeSet::new()
     }
 
-    /// A local read (Algorithm 5, line 5): the total, without a message. Nothing changes.
+    /// A local read (Algorithm 5, line 5): the sums, without a message. Nothing changes.
     fn read(&mut self, controller: usize) -> Answer {
-        Answer { total: self.total(controller), ..Answer::default() }
+        Answer { sums: self.sums(controller), ..Answer::default() }
     }
 
-    /// Carries out an event that passed its questions. Answers the set and the total of a finished sync or a local
-    /// read.
+    /// Carries out an event that passed its questions. Answers the set and the sums of a finished sync or a local read.
     fn carry_out(&mut self, event: Event) -> Answer {
         let (set, subject) = match event {
             Event::Send { sender, payload } => (self.send(sender, payload), sender),
@@ -363,8 +382,8 @@ impl State {
         };
         let own_sync = |x: &Name| x.sender == subject && self.payload(x) == Payload::Sync;
         let finished = set.iter().any(own_sync);
-        let total = if finished { self.total(subject) } else { 0 };
-        Answer { number: 0, set: set.into_iter().collect(), finished, total }
+        let sums = if finished { self.sums(subject) } else { Sums::default() };
+        Answer { number: 0, set: set.into_iter().collect(), finished, sums }
     }
 
     /// The single-event call, its table known to be well formed. The rest is handed back.
@@ -408,12 +427,13 @@ pub fn questions_2_and_3(version: usize, n: usize) -> Result<(), u8> {
     first_no(&[(2, (1..=2).contains(&version)), (3, (1..=MAX_CONTROLLERS).contains(&n))])
 }
 
-/// What an event adds to the listing: a line if it applied a set, with the event's number, the controller, its total
+/// What an event adds to the listing: a line if it applied a set, with the event's number, the controller, its two sums
 /// and the messages.
 fn line(number: usize, event: &Event, answer: &Answer, after: &State) -> Vec<u8> {
     let (Event::Handover { receiver, .. }, false) = (event, answer.set.is_empty()) else { return vec![] };
     let names: String = answer.set.iter().map(|x| format!(" {}.{}", x.sender, x.number)).collect();
-    format!("{number} {receiver} {}{names}\n", after.total(*receiver)).into_bytes()
+    let Sums { added, withdrawn } = after.sums(*receiver);
+    format!("{number} {receiver} {added} {withdrawn}{names}\n").into_bytes()
 }
 
 /// A file run: records up to the end or the first refusal, lines into the listing.

@@ -2,7 +2,7 @@
 //! Like `reference.rs`, plain text that the faults edit a copy of.
 
 use super::reference::{self, Payload as Kind, Shown, State, MAX_CONTROLLERS, MAX_MESSAGES};
-use furnacejade::{Answer, FreshAnswer, LookAnswer, Panel, Refusal, RunAnswer, Table};
+use furnacejade::{Answer, FreshAnswer, LookAnswer, Panel, Refusal, RunAnswer, Sums, Table};
 use furnacejade::{Class, Controller, ForwardNumber, Message, MessageNumber, Name, Payload, Pending};
 use std::collections::BTreeMap;
 
@@ -208,6 +208,10 @@ pub fn meaning(t: &Table) -> Table {
 
 // ---------- the reference's calls on a table ----------
 
+fn sums_of(sums: reference::Sums) -> Sums {
+    Sums { added: sums.added, withdrawn: sums.withdrawn }
+}
+
 /// The single-event call: question 4 first. Answers how many bytes are left.
 pub fn event(t: &mut Table, bytes: &[u8], scratch: &mut [u8], answer: &mut Answer) -> usize {
     *answer = Answer::BLANK;
@@ -224,7 +228,7 @@ pub fn event(t: &mut Table, bytes: &[u8], scratch: &mut [u8], answer: &mut Answe
             store(&state, t);
         }
         answer.finished = given.finished as u8;
-        answer.total = given.total;
+        answer.sums = sums_of(given.sums);
         answer.size = given.set.len();
         for (to, x) in answer.names.iter_mut().zip(&given.set) {
             *to = Name { sender: x.sender as u8, number: MessageNumber(x.number as u8) };
@@ -236,7 +240,10 @@ pub fn event(t: &mut Table, bytes: &[u8], scratch: &mut [u8], answer: &mut Answe
 pub fn look(t: &Table, c: usize) -> LookAnswer {
     let shown = if well_formed(t) { to_state(t).look(c) } else { Err(4) };
     match shown {
-        Ok(Shown { total, classes }) => LookAnswer { number: Refusal::from(0), panel: Panel { total, classes } },
+        Ok(Shown { sums, classes }) => {
+            let panel = Panel { sums: sums_of(sums), classes: classes.map(sums_of) };
+            LookAnswer { number: Refusal::from(0), panel }
+        }
         Err(number) => LookAnswer { number: Refusal::from(number), panel: Panel::BLANK },
     }
 }
