@@ -125,7 +125,11 @@ fn event(a: &mut Side, b: &mut Side, bytes: &[u8], scratch: usize) -> Result<(),
 
 fn look(a: &Side, b: &Side, c: usize) -> Result<(), String> {
     let before = b.table.clone();
-    differ("look", a.engine.look(&a.table, c), b.engine.look(&b.table, c))?;
+    let (right, found) = (a.engine.look(&a.table, c), b.engine.look(&b.table, c));
+    differ("look: number", right.number, found.number)?;
+    differ("look: sums", right.panel.sums, found.panel.sums)?;
+    differ("look: classes", &right.panel.classes, &found.panel.classes)?;
+    differ_plain("look: answer", right == found)?;
     differ_plain("look: table", before == b.table)
 }
 

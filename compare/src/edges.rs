@@ -293,21 +293,30 @@ fn majorities(engine: &dyn Engine) -> Result<(), String> {
     Ok(())
 }
 
+/// 64 reports of one controller, of two amounts in turn, by events and as a file, up to the sums that they make.
+fn sixty_four(engine: &dyn Engine, version: usize, amounts: [i16; 2], whole: Both) -> Result<(), String> {
+    let (mut s, mut records) = (Script::fresh(engine, version, 1), vec![]);
+    for message in 1..=64 {
+        let report = report_in(version, 1, amounts[message as usize % 2]);
+        records.extend([report.clone(), handover(1, 1)]);
+        expect(s.number(report) == 0, "a report up to the 64th")?;
+        expect(s.number(sync(1)) == 11, "a sync while a report is pending")?;
+        expect(s.event(handover(1, 1)) == (0, vec![(1, message)]), "n = 1: report and handover")?;
+    }
+    expect(s.number(report_in(version, 1, 1)) == 12, "the 65th message")?;
+    let shown = panel_of(if version == 2 { 2 } else { 0 }, whole);
+    expect(engine.look(&s.table, 1).panel == shown, "the greatest sums")?;
+    let mut listing = vec![7; LISTING];
+    let run = engine.run(&file_of(version, 1, &records), &mut listing, &mut [7; SCRATCH]);
+    let last = format!("\n128 1 {} {} 1.64\n", whole.0, whole.1);
+    expect(listing[..run.written].ends_with(last.as_bytes()), "the line of the greatest sums")
+}
+
 fn sixty_four_messages(engine: &dyn Engine) -> Result<(), String> {
-    for (version, class) in [(1, 0), (2, 2)] {
-        for (amounts, whole) in
-            [([360, 360], (23_040, 0)), ([-360, -360], (0, 23_040)), ([360, -360], (11_520, 11_520))]
-        {
-            let mut s = Script::fresh(engine, version, 1);
-            for message in 1..=64 {
-                let amount = amounts[message as usize % 2];
-                expect(s.number(report_in(version, 1, amount)) == 0, "a report up to the 64th")?;
-                expect(s.number(sync(1)) == 11, "a sync while a report is pending")?;
-                expect(s.event(handover(1, 1)) == (0, vec![(1, message)]), "n = 1: report and handover")?;
-            }
-            expect(s.number(report_in(version, 1, 1)) == 12, "the 65th message")?;
-            expect(engine.look(&s.table, 1).panel == panel_of(class, whole), "the greatest sums")?;
-        }
+    for version in [1, 2] {
+        sixty_four(engine, version, [360, 360], (23_040, 0))?;
+        sixty_four(engine, version, [-360, -360], (0, 23_040))?;
+        sixty_four(engine, version, [360, -360], (11_520, 11_520))?;
     }
     Ok(())
 }

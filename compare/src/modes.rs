@@ -5,7 +5,7 @@ use crate::check::{demand3_failure, failure, kept_cases, report_and_exit, smalle
 use crate::engine::{Engine, Faulty, Library, Reference};
 use crate::reference::{self, State, LISTING, SCRATCH};
 use crate::{edges, faults, generate, minimise, subsets, tables};
-use furnacejade::{Answer, Controller, Refusal, Table};
+use furnacejade::{Answer, Controller, Refusal, Sums, Table};
 use std::io::Write;
 use std::process::{exit, Command, Stdio};
 use std::time::Duration;
@@ -167,6 +167,21 @@ struct Counts {
     kept_pending: usize,
     most_own: usize,
     local_reads: usize,
+    both: Both,
+}
+
+/// How often both sums were above 0.
+#[derive(Default)]
+struct Both {
+    syncs: usize,
+    local_reads: usize,
+    looks: usize,
+    classes: usize,
+}
+
+/// 1 if both sums are above 0, and else 0.
+fn both(sums: Sums) -> usize {
+    (sums.added > 0 && sums.withdrawn > 0) as usize
 }
 
 impl Counts {
@@ -188,18 +203,29 @@ impl Counts {
         self.events[answer.number.number() as usize] += 1;
         self.sizes[answer.size] += 1;
         let pending = |c: &Controller| c.pending.iter().filter(|p| p.held != 0).count();
+        self.both.syncs += answer.sync_answer().map_or(0, both);
         if answer.number == Refusal::ACCEPTED {
             let own = |c: usize, slot: usize| table.messages[slot].sender as usize == c + 1;
             let waits = |c: usize, slot: usize| own(c, slot) && table.controllers[c].pending[slot].held != 0;
             let own_at = |c: usize| (0..table.count).filter(|slot| waits(c, *slot)).count();
             self.most_own = (0..table.n).map(own_at).fold(self.most_own, usize::max);
-            self.local_reads += (bytes[1] == tables::LOCAL_READ) as usize;
+            if bytes[1] == tables::LOCAL_READ {
+                self.local_reads += 1;
+                self.both.local_reads += both(answer.sums);
+            }
         }
         if answer.size > 0 {
             let left = pending(&table.controllers[bytes[2] as usize - 1]);
             self.most_pending = self.most_pending.max(left + answer.size);
             self.kept_pending += (left > 0) as usize;
         }
+    }
+
+    fn look(&mut self, table: &Table, c: usize) {
+        let answer = tables::look(table, c);
+        self.looks[answer.number.number() as usize] += 1;
+        self.both.looks += both(answer.panel.sums);
+        self.both.classes += answer.panel.classes[1..].iter().map(|sums| both(*sums)).sum::<usize>();
     }
 }
 
@@ -215,21 +241,26 @@ pub fn count(cases: usize, seed: u64) {
         kept_pending: 0,
         most_own: 0,
         local_reads: 0,
+        both: Both::default(),
     };
     for (_, case) in (0..cases).map(|index| generate::case(seed, index)) {
         let mut table = counts.head(&case.head);
         for call in &case.calls {
             match call {
-                Call::Look(c) => counts.looks[tables::look(&table, *c).number.number() as usize] += 1,
+                Call::Look(c) => counts.look(&table, *c),
                 Call::Event { bytes, scratch } => counts.event(&mut table, bytes, *scratch),
             }
         }
     }
-    let Counts { events, looks, files, sizes, most_pending, kept_pending, most_own, local_reads } = counts;
+    let Counts { events, looks, files, sizes, most_pending, kept_pending, most_own, local_reads, both } = counts;
     println!("events by number {events:?}\nlooks by number {looks:?}\nfiles by number {files:?}");
     println!("sets by size {sizes:?}");
     println!("most pending at a set {most_pending}; sets that left others pending {kept_pending}");
     println!("most of a sender's own pending {most_own}; local reads accepted {local_reads}");
+    let Both { syncs, local_reads, looks, classes } = both;
+    println!(
+        "both sums above 0: finished syncs {syncs}, local reads {local_reads}, looks {looks}, weight classes {classes}"
+    );
 }
 
 /// Runs the executable on one input.
