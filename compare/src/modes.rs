@@ -167,12 +167,12 @@ struct Counts {
     kept_pending: usize,
     most_own: usize,
     local_reads: usize,
-    both: Both,
+    both: BothSums,
 }
 
 /// How often both sums were above 0.
 #[derive(Default)]
-struct Both {
+struct BothSums {
     syncs: usize,
     local_reads: usize,
     looks: usize,
@@ -180,7 +180,7 @@ struct Both {
 }
 
 /// 1 if both sums are above 0, and else 0.
-fn both(sums: Sums) -> usize {
+fn has_both(sums: Sums) -> usize {
     (sums.added > 0 && sums.withdrawn > 0) as usize
 }
 
@@ -203,7 +203,7 @@ impl Counts {
         self.events[answer.number.number() as usize] += 1;
         self.sizes[answer.size] += 1;
         let pending = |c: &Controller| c.pending.iter().filter(|p| p.held != 0).count();
-        self.both.syncs += answer.sync_answer().map_or(0, both);
+        self.both.syncs += answer.sync_answer().map_or(0, has_both);
         if answer.number == Refusal::ACCEPTED {
             let own = |c: usize, slot: usize| table.messages[slot].sender as usize == c + 1;
             let waits = |c: usize, slot: usize| own(c, slot) && table.controllers[c].pending[slot].held != 0;
@@ -211,7 +211,7 @@ impl Counts {
             self.most_own = (0..table.n).map(own_at).fold(self.most_own, usize::max);
             if bytes[1] == tables::LOCAL_READ {
                 self.local_reads += 1;
-                self.both.local_reads += both(answer.sums);
+                self.both.local_reads += has_both(answer.sums);
             }
         }
         if answer.size > 0 {
@@ -224,8 +224,8 @@ impl Counts {
     fn look(&mut self, table: &Table, c: usize) {
         let answer = tables::look(table, c);
         self.looks[answer.number.number() as usize] += 1;
-        self.both.looks += both(answer.panel.sums);
-        self.both.classes += answer.panel.classes[1..].iter().map(|sums| both(*sums)).sum::<usize>();
+        self.both.looks += has_both(answer.panel.sums);
+        self.both.classes += answer.panel.classes[1..].iter().map(|sums| has_both(*sums)).sum::<usize>();
     }
 }
 
@@ -241,7 +241,7 @@ pub fn count(cases: usize, seed: u64) {
         kept_pending: 0,
         most_own: 0,
         local_reads: 0,
-        both: Both::default(),
+        both: BothSums::default(),
     };
     for (_, case) in (0..cases).map(|index| generate::case(seed, index)) {
         let mut table = counts.head(&case.head);
@@ -257,7 +257,7 @@ pub fn count(cases: usize, seed: u64) {
     println!("sets by size {sizes:?}");
     println!("most pending at a set {most_pending}; sets that left others pending {kept_pending}");
     println!("most of a sender's own pending {most_own}; local reads accepted {local_reads}");
-    let Both { syncs, local_reads, looks, classes } = both;
+    let BothSums { syncs, local_reads, looks, classes } = both;
     println!(
         "both sums above 0: finished syncs {syncs}, local reads {local_reads}, looks {looks}, weight classes {classes}"
     );
