@@ -306,10 +306,10 @@ static void zeros(void) {
     expect((uint8_t)(memcmp(&run.table, &zero, sizeof zero) == 0), 1, "refused file's table's bytes", 0, 0);
 }
 
-/* The only controller reports 30 and -7, applies both, and syncs: added and withdrawn. */
+/* The sums where the only controller has applied its reports of 30 and -7; and zeros. */
 static const furnacejade_sums reported = {30, 7}, zero_sums;
 
-/* The answers: that sync, by events and as a file. No event before the last, which finishes it, answers sums. */
+/* The answers: a sync of that controller, by events and as a file. No event before the last, which finishes it, gives sums. */
 static void answers(void) {
     static const uint8_t synced[] = {1, 1, 4, 1, 1, 0, 30, 4, 1, 1, 0xFF, 0xF9, 3, 3, 1, 1, 2, 2, 1, 3, 3, 1, 1};
     static furnacejade_fresh_answer fresh;

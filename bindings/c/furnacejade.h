@@ -158,7 +158,7 @@ typedef struct {
 /* What a panel shows. */
 typedef struct {
     furnacejade_sums sums;                         /* over what its controller has applied */
-    furnacejade_sums classes[FURNACEJADE_CLASSES]; /* of each class, from FURNACEJADE_CLASS_NONE on; they add up to these */
+    furnacejade_sums classes[FURNACEJADE_CLASSES]; /* those of each class, from FURNACEJADE_CLASS_NONE on; they add up to sums */
 } furnacejade_panel;
 
 /* What furnacejade_event answers. */

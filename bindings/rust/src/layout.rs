@@ -135,7 +135,7 @@ pub struct Sums {
 pub struct Panel {
     /// The sums over what was applied.
     pub sums: Sums,
-    /// Those of each class, from [`Class::NONE`] on; they add up to the others.
+    /// Those of each class, from [`Class::NONE`] on; they add up to `sums`.
     pub classes: [Sums; CLASSES],
 }
 

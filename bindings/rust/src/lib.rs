@@ -30,8 +30,8 @@
 //! # }
 //! ```
 //!
-//! A sender reports on while reports of its own are under way. A local read gives what a controller's panel shows
-//! without a message, once the controller has applied all that it sent: what was added, and what was withdrawn.
+//! A sender reports on while reports of its own are under way. A local read gives a controller's two sums, what was
+//! added and what was withdrawn, without a message, once the controller has applied all that it sent:
 //!
 //! ```
 //! use furnacejade::{event, fresh, Record, Refusal, Sums, SCRATCH};
