@@ -190,6 +190,23 @@ fn rows_under_way() {
     row("a hundred random files with reports under way, each", |e| runs(e, &files));
 }
 
+/// The last handover to controller 1 of seven that finishes its sync, the 64th message, and the table before it.
+fn finishing_sync() -> (Table, Vec<u8>) {
+    let mut state = State::fresh(1, 7);
+    for i in 1..MAX_MESSAGES {
+        follow(&mut state, &report(1, if i % 2 == 0 { 5 } else { -2 }), SCRATCH);
+    }
+    drain(&mut Random(4), &mut state);
+    follow(&mut state, &sync(1), SCRATCH);
+    for record in [handover(2, 1), handover(3, 1), handover(4, 1), handover(1, 2), handover(1, 3)] {
+        follow(&mut state, &record, SCRATCH);
+    }
+    let table = to_table(&state);
+    let (answer, _) = state.event(&handover(1, 4), &mut [0; SCRATCH]);
+    assert!(answer.finished, "the handover finishes the sync");
+    (table, handover(1, 4))
+}
+
 /// As many local reads as a file can have.
 fn file_of_reads(n: usize) -> Vec<u8> {
     file_of(1, n, &vec![local_read(1); 21_844])
@@ -218,6 +235,8 @@ and a file run gets scratch and listing as the run before left them"
     let full = last_table(&running);
     row("n = 7: look at a full table of 64 messages", |e| mean(|| timed(|| e.look(&full, 1))));
     row("n = 7: local read of a full table of 64 messages", |e| event(e, &full, &local_read(1)));
+    let (syncing, last) = finishing_sync();
+    row("n = 7: handover that finishes a sync, 64 messages", |e| event(e, &syncing, &last));
     row("n = 7: full table, a report refused by question 12", |e| event(e, &full, &report(1, 5)));
     row("n = 7: full table, a handover refused by question 13", |e| event(e, &full, &handover(1, 2)));
     row("n = 7: densest run of 3,207 events, for each", |e| runs(e, std::slice::from_ref(&dense)));

@@ -284,7 +284,7 @@ unfoldable pub recordEntries : ℕ → ℕ → List ℕ → List (List ℕ) → 
 recordEntries zero e s ls = []
 recordEntries (suc k) e s ls = listed s (lineFor e ls) ∷ recordEntries k (e + 1) (behind s) ls
 
--- "the records it accepted stand first as calls, its listing lines give their sets"
+-- "the records it accepted stand first as calls, its listing lines give their sets", and their sums
 unfoldable pub fileEntries : List ℕ → RunOutcome → List Entry
 fileEntries s o = recordEntries (o .answer .events) 1 (drop 2 s) (split 10 (take (o .answer .written) (o .listing)))
 
@@ -401,8 +401,8 @@ pub record Consistent (h : Head) (calls : List Call) : Type 0 where
   pub reads-own : (i : ℕ) (s w : List ℕ) (a : EventAnswer) (after : List Entry) → drop i (entries h calls) ≡ answered s w a ∷ after
       → let l = moment h calls i in
       IsRead s → a .number ≡ 0 → Contains (applied l (byte s 2)) (ownOf (byte s 2) (sentNames l))
-  -- each accepted handover to r whose set holds a sync of r's own, and no other, answers that it is finished, and then the two sums
-  -- over all that r has then applied
+  -- an accepted handover to r answers "finished" exactly if its set holds a sync of r's own, and then the two sums over all that r has
+  -- then applied
   pub syncs : (i r o : ℕ) (q : Said) (ms : List Name) (e : Entry) (after : List Entry) → drop i (entries h calls) ≡ e ∷ after
       → steps (version h) e ≡ carried q (Handover r o) ms ∷ []
       → let l = moment h calls (suc i) in
