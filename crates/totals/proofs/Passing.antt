@@ -9,23 +9,28 @@ use native.Mathlib.Omega.{arith}
 use lib.ListN.{length, getD, set, replicate, length-replicate, getD-replicate}
 use lib.Dec.{eqb}
 use borrow.Author.Tests.{eq-eqb, ne-eqb}
+use Rattle.lists.specs.Build.{tabulate}
 use Rattle.lists.proofs.Build.{length-tabulate, tabulate-self, tabulate-ext, getD-tabulate}
 use Rattle.lists.proofs.Clipped.{sum-start, sum-more}
 use Rattle.lists.proofs.Stores.{set-tabulate}
 use Rattle.lists.proofs.Tests.{cond-case}
-use Rattle.model.specs.Tables.{capacity, classCount, noSums, noMessage, message}
+use Rattle.model.specs.Tables.{capacity, classCount, yes?, noSums, noMessage, message}
 use Rattle.model.specs.Events.{weigh, bothOf, plus, sums, ofClass, classSums}
 use Rattle.model.specs.Parts.{part}
 use Rattle.model.specs.declared.Payload.{Payload}
 use Rattle.model.specs.declared.Message.{Message}
 use Rattle.model.specs.declared.Sums.{Sums}
-use Rattle.totals.specs.Shown.{appliedAlone, sumsOf, classesOf, countedOf, withAmount, largestSum, AtMost, EachAtMost}
+use Rattle.totals.specs.Shown.{appliedAlone, sumsOf, classesOf, countedOf, largestSum, AtMost}
 use Rattle.totals.proofs.Weights.{term, weigh-summed}
 
 -- AN AMOUNT MORE
 
 plus-none : (z : Sums) → plus z noSums ≡ z
 plus-none z = rw (add-zero (z .added), add-zero (z .withdrawn)) refl
+
+-- the sums of each class, with an amount more in those of one class
+unfoldable pub withAmount : List Sums → ℕ → Sums → List Sums
+withAmount S class more = tabulate classCount (λ c. plus (getD S c noSums) (cond (eqb class c) more noSums))
 
 module _ (S : List Sums) (class : ℕ) (more : Sums) (l : length S ≡ classCount) where
   pub amount-stored : class < classCount → set S class (plus (getD S class noSums) more) ≡ withAmount S class more
@@ -46,7 +51,18 @@ at-most-more s z more h k = record { added = omega (arith, h .added, k .added); 
 pub at-most-none : (most : ℕ) → AtMost most noSums
 at-most-none most = record { added = omega arith; withdrawn = omega arith }
 
+-- there is room for one amount more
+room-for : (s : ℕ) (z : Sums) → s ≤ capacity → AtMost (65535 * s) z → AtMost largestSum z
+room-for s z h k = record { added = omega (arith, k .added); withdrawn = omega (arith, k .withdrawn) }
+
+-- so of the sums of each class
+abbrev pub EachAtMost : ℕ → List Sums → Type 0
+EachAtMost most S = (c : ℕ) → c < classCount → AtMost most (getD S c noSums)
+
 -- OF ANY WEIGHTS: `of` makes them of the two parts of an amount
+
+both-ext : (f g : (Payload → ℕ) → ℕ) → ((w : Payload → ℕ) → f w ≡ g w) → bothOf f ≡ bothOf g
+both-ext f g h = ap (λ (x : (Payload → ℕ) → ℕ). bothOf x) (fun-ext h)
 
 module _ (M : List Message) (A : List ℕ) where
   module _ (of : (Payload → ℕ) → Payload → ℕ) where
@@ -59,16 +75,15 @@ module _ (M : List Message) (A : List ℕ) where
 
     none-yet : noSums ≡ below 0
     unfolding weigh message
-    none-yet = ap (λ (f : (Payload → ℕ) → ℕ). bothOf f) (fun-ext (λ w. sum-start (term (of w) M A)))
+    none-yet = both-ext (λ _. 0) _ (λ w. sum-start (term (of w) M A))
 
     one-more : (s : ℕ) (z more : Sums) → z ≡ below s → more ≡ adds s → plus z more ≡ below (s + 1)
     unfolding weigh message
-    one-more s z more e f =
-        rw (e, f) (ap (λ (f : (Payload → ℕ) → ℕ). bothOf f) (fun-ext (λ w. sum-more (term (of w) M A) s _ _ refl refl)))
+    one-more s z more e f = rw (e, f) (both-ext (λ w. weigh (of w) (part 0 0 s M) (appliedAlone A) + term (of w) M A s) _ (λ w. sum-more (term (of w) M A) s _ _ refl refl))
 
     all-passed : (k end : ℕ) → length A ≡ capacity → end ≡ min k capacity → below end ≡ below k
     unfolding weigh message
-    all-passed k end l e = ap (λ (f : (Payload → ℕ) → ℕ). bothOf f) (fun-ext (λ w. weigh-summed (of w) k M A l end _ e refl))
+    all-passed k end l e = both-ext _ _ (λ w. weigh-summed (of w) k M A l end _ e refl)
 
   -- OF ALL MESSAGES
 
@@ -86,9 +101,8 @@ module _ (M : List Message) (A : List ℕ) where
   unfolding sumsOf sums countedOf
   passed-more s z more r p e b q = rw q (record { sums = one-more (λ w. w) s z more (p .sums) e; small = at-most-more s z more (p .small) b })
 
-  -- there is room for one amount more
   pub passed-room : (s : ℕ) (z : Sums) → s ≤ capacity → Passed s z → AtMost largestSum z
-  passed-room s z h p = record { added = omega (arith, p .small .added); withdrawn = omega (arith, p .small .withdrawn) }
+  passed-room s z h p = room-for s z h (p .small)
 
   pub passed-all : (k end : ℕ) (z : Sums) → length A ≡ capacity → end ≡ min k capacity → Passed end z → z ≡ sumsOf k M A
   unfolding sumsOf sums
@@ -116,7 +130,7 @@ module _ (M : List Message) (A : List ℕ) where
   adds-to : (s c : ℕ) (more : Sums) → more ≡ countedOf (getD A s 0) (getD M s noMessage .payload)
       → cond (eqb (getD M s noMessage .payload .class) c) more noSums ≡ adds (ofClass c) s
   unfolding countedOf
-  adds-to s c more e = rw e (go (eqb (getD M s noMessage .payload .class) c) (Rattle.model.specs.Tables.yes? (getD A s 0)) (getD M s noMessage .payload .added) (getD M s noMessage .payload .withdrawn))
+  adds-to s c more e = rw e (go (eqb (getD M s noMessage .payload .class) c) (yes? (getD A s 0)) (getD M s noMessage .payload .added) (getD M s noMessage .payload .withdrawn))
     where
       go : (a b : Bool) (x y : ℕ) → cond a (record { added = cond b x 0; withdrawn = cond b y 0 }) noSums
           ≡ record { added = cond b (cond a x 0) 0; withdrawn = cond b (cond a y 0) 0 }
@@ -140,7 +154,7 @@ module _ (M : List Message) (A : List ℕ) where
   unfolding classesOf
   each-room s S h p = (
     rw (p .sums) (length-tabulate classCount (classSums (part 0 0 s M) (appliedAlone A))),
-    λ c b. record { added = omega (arith, p .small c b .added); withdrawn = omega (arith, p .small c b .withdrawn) },
+    λ c b. room-for s _ h (p .small c b),
   )
 
   pub each-all : (k end : ℕ) (S : List Sums) → length A ≡ capacity → end ≡ min k capacity → EachPassed end S → S ≡ classesOf k M A

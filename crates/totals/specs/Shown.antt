@@ -1,12 +1,10 @@
 -- What a panel shows, by what it is made of, and what the private functions that add up answer.
 use mathlib.Core.List.{List, []}
 use mathlib.Core.Bool.{cond}
-use Prim.Native.Nat.{ℕ, _*_, _≤_, _<_}
-use lib.ListN.{getD}
-use lib.Dec.{eqb}
+use Prim.Native.Nat.{ℕ, _*_, _≤_}
 use Rattle.lists.specs.Build.{tabulate}
-use Rattle.model.specs.Tables.{classCount, yes?, noSums}
-use Rattle.model.specs.Events.{bothOf, plus, sums, classSums, shown}
+use Rattle.model.specs.Tables.{classCount, yes?}
+use Rattle.model.specs.Events.{bothOf, sums, classSums, shown}
 use Rattle.model.specs.Parts.{part}
 use Rattle.model.specs.declared.Payload.{Payload}
 use Rattle.model.specs.declared.Message.{Message}
@@ -34,18 +32,11 @@ shownOf k M A = shown (part 0 0 k M) (appliedAlone A)
 unfoldable pub countedOf : ℕ → Payload → Sums
 countedOf flag p = bothOf (λ w. cond (yes? flag) (w p) 0)
 
--- the sums of each class, with an amount more in those of one class
-unfoldable pub withAmount : List Sums → ℕ → Sums → List Sums
-withAmount S class more = tabulate classCount (λ c. plus (getD S c noSums) (cond (eqb class c) more noSums))
-
 -- 64 amounts of 16 bits
 abbrev pub largestSum : ℕ
 largestSum = 64 * 65535
 
--- each sum is at most so much, and so of each class
+-- each sum is at most so much
 pub record AtMost (most : ℕ) (z : Sums) : Type 0 where
   pub added : z .added ≤ most
   pub withdrawn : z .withdrawn ≤ most
-
-abbrev pub EachAtMost : ℕ → List Sums → Type 0
-EachAtMost most S = (c : ℕ) → c < classCount → AtMost most (getD S c noSums)

@@ -6,8 +6,8 @@ use native.Mathlib.Omega.{arith}
 use lib.ListN.{length}
 use borrow.Author.Needs.{needs}
 use Rattle.model.specs.Tables.{capacity, classCount}
-use Rattle.totals.specs.Shown.{largestSum, EachAtMost}
-use Rattle.totals.proofs.Passing.{EachPassed, amount-stored, amount-left, each-none, each-more, each-room, each-all}
+use Rattle.totals.specs.Shown.{largestSum}
+use Rattle.totals.proofs.Passing.{EachAtMost, EachPassed, amount-stored, amount-left, each-none, each-more, each-room, each-all}
 use Rattle.totals.proofs.classes.Statement.{statement}
 use Rattle.totals.proofs.classes.Tie as tie
 
