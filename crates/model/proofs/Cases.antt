@@ -190,8 +190,13 @@ each : ℕ → ℕ → List (List ℕ)
 each zero x = []
 each (suc k) x = [] ∷ (x ∷ []) ∷ each k (suc x)
 
+-- k names, of which x is the first
+numbered : ℕ → ℕ → List ℕ
+numbered zero x = []
+numbered (suc k) x = x ∷ numbered k (suc x)
+
 table : List Row
-unfolding report classed sync handover stop local minus times worked graded gradedSets underway further underwaySets three backed full each
+unfolding report classed sync handover stop local minus times worked graded gradedSets underway further underwaySets three backed full each numbered
 table =
     -- P: the sets of the worked run; event 10 applies nothing
     case 3 worked (handover 3 1) 4096 0 ([] ∷ [] ∷ [] ∷ (101 ∷ []) ∷ [] ∷ [] ∷ (101 ∷ []) ∷ (301 ∷ []) ∷ [] ∷ [] ∷ (101 ∷ 301 ∷ []) ∷ [])
@@ -361,6 +366,9 @@ table =
     ∷ shows 1 1 (report 1 (minus 7) ∷ handover 1 1 ∷ stop 1 1 ∷ []) 1 ([] ∷ (101 ∷ []) ∷ [] ∷ []) (both 0 7) (both 0 7 ∷ noSums ∷ noSums ∷ noSums ∷ noSums ∷ [])
     ∷ shows 2 1 (classed 1 30 2 ∷ handover 1 1 ∷ classed 1 (minus 7) 4 ∷ handover 1 1 ∷ classed 1 (minus 5) 2 ∷ handover 1 1 ∷ []) 1 (each 3 101) (both 30 12)
     (noSums ∷ noSums ∷ both 30 5 ∷ noSums ∷ both 0 7 ∷ [])
+    -- P: the greatest sum: 64 reports, all taken back and applied at once
+    ∷ shows 1 1 (times 64 (report 1 (minus 360) ∷ []) ++ (handover 1 1 ∷ [])) 1 (times 64 ([] ∷ []) ++ (numbered 64 101 ∷ [])) (both 0 23040)
+    (both 0 23040 ∷ noSums ∷ noSums ∷ noSums ∷ noSums ∷ [])
     -- P: the run with classes, its sets and what both panels show of each class
     ∷ shows 2 2 graded 1 gradedSets (both 42 2) (noSums ∷ both 30 0 ∷ noSums ∷ both 12 0 ∷ both 0 2 ∷ [])
     ∷ shows 2 2 graded 2 gradedSets (both 42 2) (noSums ∷ both 30 0 ∷ noSums ∷ both 12 0 ∷ both 0 2 ∷ [])
@@ -378,5 +386,5 @@ pub record AllCases : Type 0 where
   hold : results table ≡ expected table
 
 pub all-cases : AllCases
-unfolding computed flatten results expected table called played given report classed sync handover stop local minus times worked graded gradedSets underway further underwaySets three backed full each
+unfolding computed flatten results expected table called played given report classed sync handover stop local minus times worked graded gradedSets underway further underwaySets three backed full each numbered
 all-cases = record { hold = refl }
