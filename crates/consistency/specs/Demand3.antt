@@ -10,14 +10,16 @@ use lib.IntN.{ℤ, pos, negsuc, _-ℤ_}
 use lib.Dec.{eqb, ltb}
 use Rattle.lists.specs.Below.{count}
 use Rattle.lists.specs.Build.{tabulate}
-use Rattle.model.specs.Tables.{classCount, scratchSize, messageNumber, noName, noSums, Among}
-use Rattle.model.specs.Records.{byte, kind, word, behind, decode}
+use Rattle.model.specs.Tables.{classCount, registerCount, scratchSize, messageNumber, noName, noSums, noRegister, Among}
+use Rattle.model.specs.Records.{byte, kind, word, long, behind, decode}
+use Rattle.model.specs.Registers.{exceeds, wins}
 use Rattle.model.specs.Questions.{firstNo, fileQuestions}
 use Rattle.model.specs.Calls.{EventAnswer, event, freshTable, look}
 use Rattle.model.specs.Runs.{RunOutcome, fileRun}
 use Rattle.model.specs.declared.Name.{Name}
 use Rattle.model.specs.declared.Payload.{Payload}
 use Rattle.model.specs.declared.Sums.{Sums}
+use Rattle.model.specs.declared.Register.{Register}
 use Rattle.model.specs.declared.Panel.{Panel}
 use Rattle.model.specs.declared.Table.{Table}
 use Rattle.model.specs.declared.Event.{Event}
@@ -86,11 +88,13 @@ unfoldable pub transcript : Table → List Call → List Entry
 transcript t [] = []
 transcript t (c ∷ cs) = entry t c ∷ transcript (left t c) cs
 
--- what a record says of a message: its kind, 1 for a report and 2 for a sync; its amount; its class
+-- what a record says of a message: its kind, 1 for a report, 2 for a sync and 6 for a write; its amount; its class; its register and value
 pub record Said : Type 0 where
   pub kind : ℕ
   pub amount : ℤ
   pub class : ℕ
+  pub reg : ℕ
+  pub value : ℕ
 
 -- "its amount is the one in the record of a report, and 0 for every message that is no report": two's complement
 unfoldable pub twos : ℕ → ℤ
@@ -103,8 +107,15 @@ amountIn s = cond (eqb (kind s) 1) (twos (word s 3)) (pos 0)
 unfoldable pub classIn : ℕ → List ℕ → ℕ
 classIn v s = cond (eqb (kind s) 1 && eqb v 2) (byte s 5) 0
 
+-- "write (controller, register, value of 4 bytes unsigned)"; a message that is no write has neither
+unfoldable pub registerIn : List ℕ → ℕ
+registerIn s = cond (eqb (kind s) 6) (byte s 3) 0
+
+unfoldable pub valueIn : List ℕ → ℕ
+valueIn s = cond (eqb (kind s) 6) (long s 4) 0
+
 unfoldable pub said : ℕ → List ℕ → Said
-said v s = record { kind = kind s; amount = amountIn s; class = classIn v s }
+said v s = record { kind = kind s; amount = amountIn s; class = classIn v s; reg = registerIn s; value = valueIn s }
 
 -- a step of Algorithm 1: an event carried out, with what its record says and the set that was answered
 pub data Step : Type 0 where
@@ -127,9 +138,10 @@ did v es = flatMap (steps v) es
 
 -- THE LEDGER
 
--- a message sent: its name, its payload, and what its record says of it
+-- a message sent: its name; the date of a write, and 0 for any other; its payload, and what its record says of it
 pub record Sent : Type 0 where
   pub name : Name
+  pub date : ℕ
   pub payload : Payload
   pub said : Said
 
@@ -143,6 +155,30 @@ pub record Ledger : Type 0 where
   pub cut : List Name
   pub sets : ℕ → List (List Name)
 
+-- "A controller has applied the messages in the sets that accepted handovers to it answered."
+abbrev pub applied : Ledger → ℕ → List Name
+applied l c = flatten (l .sets c)
+
+-- a write of register r, and what it gives that register: its value, and its stamp, a date and the writer
+unfoldable pub writes : ℕ → Sent → Bool
+writes r x = eqb (x .said .kind) 6 && eqb (x .said .reg) r
+
+abbrev pub written : Sent → Register
+written x = record { value = x .said .value; stamp = record { date = x .date; writer = x .name .sender } }
+
+-- register r by those of the messages sent that are in ms: the write with the greatest stamp, dates before writers; 0 and 0, 0 if there is
+-- none
+unfoldable pub newest : ℕ → List Sent → List Name → Register
+newest r xs ms = foldl (λ y x. cond (has (x .name) ms && writes r x) (wins (written x) y) y) noRegister xs
+
+-- register r as controller c holds it
+abbrev pub registerAt : Ledger → ℕ → ℕ → Register
+registerAt l c r = newest r (l .sent) (applied l c)
+
+-- "the date known to the writer plus one": one more than the greatest date of its register among the writes that c has applied
+unfoldable pub dateFor : Ledger → ℕ → Said → ℕ
+dateFor l c r = cond (eqb (r .kind) 6) (registerAt l c (r .reg) .stamp .date + 1) 0
+
 -- "Logs are empty at first."
 unfoldable pub start : Ledger
 start = record { log = λ c. []; place = λ r o. 0; runs = λ c. true; sent = []; cut = []; sets = λ c. [] }
@@ -152,14 +188,15 @@ unfoldable pub put : {A : Type 0} → (ℕ → A) → ℕ → A → ℕ → A
 put f x v y = cond (eqb y x) v (f y)
 
 unfoldable pub moved : Ledger → Step → Ledger
--- "An accepted report or sync of c puts c.k at the end of c's log, k being the length before plus one. That message is then sent"
+-- "An accepted report or sync of c", or write, "puts c.k at the end of c's log, k being the length before plus one. That message is then
+-- sent"
 moved l (carried r (Send c p) ms) =
     let m = name c (length (l .log c) + 1) in
     record {
       log = put (l .log) c (l .log c ++ (m ∷ []));
       place = l .place;
       runs = l .runs;
-      sent = l .sent ++ (record { name = m; payload = p; said = r } ∷ []);
+      sent = l .sent ++ (record { name = m; date = dateFor l c r; payload = p; said = r } ∷ []);
       cut = l .cut;
       sets = l .sets;
     }
@@ -188,10 +225,6 @@ moved l (carried _ (Stop c k) ms) = record {
 
 abbrev pub ledger : List Step → Ledger
 ledger xs = foldl moved start xs
-
--- "A controller has applied the messages in the sets that accepted handovers to it answered."
-abbrev pub applied : Ledger → ℕ → List Name
-applied l c = flatten (l .sets c)
 
 abbrev pub sentNames : Ledger → List Name
 sentNames l = map (λ m. m .name) (l .sent)
@@ -226,11 +259,12 @@ bothOf f = record { added = f (λ x. above (x .said .amount)); withdrawn = f (λ
 abbrev pub ofClass : ℕ → (Sent → ℕ) → Sent → ℕ
 ofClass k w x = cond (eqb (x .said .class) k) (w x) 0
 
--- the panel of messages: the sums over them, and for each class over those of that class
+-- the panel of messages: the sums over them, for each class over those of that class, and the registers
 unfoldable pub showing : List Sent → List Name → Panel
 showing xs ms = record {
   sums = bothOf (λ w. weights w xs ms);
   classes = tabulate classCount (λ k. bothOf (λ w. weights (ofClass k w) xs ms));
+  registers = tabulate registerCount (λ i. newest (suc i) xs ms);
 }
 
 -- whether a set holds a sync that c sent
@@ -336,6 +370,10 @@ Contains xs ys = (m : Name) → has m ys ≡ true → has m xs ≡ true
 abbrev pub Exactly : List Name → List Name → Type 0
 Exactly xs ys = (m : Name) → has m xs ≡ has m ys
 
+-- no register has a later stamp in the first than in the second
+abbrev pub NoLater : (ℕ → Register) → (ℕ → Register) → Type 0
+NoLater f g = (r : ℕ) → exceeds (f r .stamp) (g r .stamp) ≡ false
+
 -- r is one of n controllers, and has not stopped
 pub record Runs (n : ℕ) (l : Ledger) (r : ℕ) : Type 0 where
   pub named : Among n r
@@ -389,7 +427,7 @@ pub record Consistent (h : Head) (calls : List Call) : Type 0 where
   -- "and no controller applies it twice": "in two of them, or twice in one"
   pub once : (i c : ℕ) → Distinct (applied (moment h calls i) c)
   -- "Each look that is not refused shows the sum of the amounts that its controller has applied", each sum over its own part of them,
-  -- and for each class the sums over the messages of that class
+  -- for each class the sums over the messages of that class, and for each register the write with the greatest stamp among them
   pub looks : (i c : ℕ) (a : LookAnswer) (after : List Entry) → drop i (entries h calls) ≡ looked c a ∷ after
       → let l = moment h calls i in
       a .number ≡ 0 → a .panel ≡ showing (l .sent) (applied l c)
@@ -417,6 +455,21 @@ pub record Consistent (h : Head) (calls : List Call) : Type 0 where
   pub in-order : (i r c j k : ℕ)
       → let l = moment h calls i in
       j < k → has (name c k) (applied l r) ≡ true → has (name c j) (sentNames l) ≡ true → has (name c j) (applied l r) ≡ true
+  -- no two writes of one register that were sent have the same stamp
+  pub stamps : (i r : ℕ) (x y : Sent) (before between after : List Sent)
+      → moment h calls i .sent ≡ before ++ (x ∷ between ++ (y ∷ after))
+      → writes r x ≡ true → writes r y ≡ true → written x .stamp ≡ written y .stamp → ⊥
+  -- "Any two snapshots, wherever taken, must be in order: one has each register's stamp no later than the other's": at any two moments, and
+  -- whether anybody looked or not
+  pub snapshots : (i j c d : ℕ)
+      → let l = moment h calls i in
+      let k = moment h calls j in
+      NoLater (registerAt l c) (registerAt k d) ⊎ NoLater (registerAt k d) (registerAt l c)
+  -- and where two of them have the same stamp for a register, they have the same value
+  pub values : (i j c d r : ℕ)
+      → let l = moment h calls i in
+      let k = moment h calls j in
+      registerAt l c r .stamp ≡ registerAt k d r .stamp → registerAt l c r .value ≡ registerAt k d r .value
   -- "Whenever more than half of all controllers run and each of these has read every log to its end, each of these has applied
   -- exactly the messages sent, less those cut off with a stopped sender's log"
   pub ending : (i r : ℕ)

@@ -4,10 +4,11 @@ ghost use mathlib.Core.Bool.{true, cond};
 ghost use Prim.Native.Nat.{_+_, _≤_, _<_};
 ghost use lib.ListN.{length};
 ghost use Rattle.model.specs.Tables.{scratchSize, noSums, unheld, withEntry, withMark, withStop};
+ghost use Rattle.model.specs.Registers.{dateOf};
 ghost use Rattle.model.specs.Events.{forward, deliver, subject, next, sums};
-ghost use Rattle.model.specs.WellFormed.{wellFormed};
+ghost use Rattle.model.specs.WellFormed.{fairRegister, wellFormed};
 ghost use Rattle.model.specs.declared.Event.the-variants.{Handover};
-ghost use Rattle.events.specs.Conditions.{Accepted, Receivable, OfRun};
+ghost use Rattle.events.specs.Conditions.{Accepted, Receivable, OfRun, Dated};
 ghost use Rattle.events.specs.Reading.{ownerOf, seatOf, partiesOf, Allowed, taken, Reading};
 ghost use Rattle.events.specs.Applying.{withApplied};
 ghost use Rattle.events.specs.Effects.{Leaves, Effected, noSet, readAnswer};
@@ -18,6 +19,7 @@ use model::ForwardNumber;
 use model::Message;
 use model::MessageNumber;
 use model::Name;
+use model::Payload;
 use model::Pending;
 use model::Sums;
 use model::Table;
@@ -335,6 +337,22 @@ pub(crate) fn carry_out(
 
 // THE TABLE
 
+// The date of a message that a controller sends which has applied so: that of a write is one more than its register has there.
+pub(crate) fn date_of(t: Table, c: Controller, p: Payload) -> u16
+    requires { ⌜ Dated t × (fairRegister p ≡ true) ⌝ }
+    ensures { λ r. ⌜ r ≡ dateOf t c p ⌝ }
+{
+    if p.kind != Payload::WRITE {
+        return 0;
+    }
+    let messages = t.messages;
+    let applied = c.applied;
+    let registers = totals::registers(t.count, messages, applied);
+    let place = p.reg as usize - 1;
+    let register = registers[place];
+    register.stamp.date + 1
+}
+
 // The table after an event that leaves its subject so: a send adds its message.
 pub(crate) fn stored(t: Table, e: Event, c: Controller) -> Table
     requires { ⌜ Leaves t e c ⌝ }
@@ -348,7 +366,8 @@ pub(crate) fn stored(t: Table, e: Event, c: Controller) -> Table
     };
     let slot = next.count;
     let number = MessageNumber::of(c.length as u8);
-    next.messages[slot] = Message::of(sender, number, payload);
+    let date = date_of(t, c, payload);
+    next.messages[slot] = Message::of(sender, number, date, payload);
     next.count = slot + 1;
     next
 }

@@ -1,6 +1,6 @@
 -- What a file, an event or a line that no question refuses may rely on: a record of facts for each kind of event. Assumes nothing.
 use mathlib.Core.Path.{_≡_, refl}
-use mathlib.Core.Bool.{Bool, true, false, _&&_, cond, true≢false}
+use mathlib.Core.Bool.{Bool, true, false, not, _&&_, _||_, cond, true≢false}
 use mathlib.Core.List.{List, [], _∷_, _++_}
 use Prim.Native.Nat.{ℕ, suc, _≤_, _<_}
 use native.Mathlib.Omega.{arith}
@@ -10,11 +10,11 @@ use borrow.Author.Tests.{ltb-true, ltb-false, leb-true, eqb-true, eqb-false, eq-
 use Rattle.lists.specs.Below.{count}
 use Rattle.lists.proofs.Tests.{cond-case, and-left, and-right, both}
 use Rattle.lists.proofs.Below.{count-pos}
-use Rattle.model.specs.Tables.{seats, capacity, sync, yes?, at, message, place, held}
+use Rattle.model.specs.Tables.{seats, capacity, sync, write, yes?, at, message, place, held}
 use Rattle.model.specs.Events.{subject, controllerOf}
-use Rattle.model.specs.Records.{byte, kind, word, reportClass, reported, decode}
-use Rattle.model.specs.WellFormed.{named, fairAmount, fairClass, known}
-use Rattle.model.specs.Questions.{Question, ask, firstNo, freshQuestions, fileQuestions, kindQuestions, recordQuestions, ownPending, unread, keepable, eventQuestions, commandQuestions, scratchRoom, stepQuestions, lineFits}
+use Rattle.model.specs.Records.{byte, kind, word, long, reportClass, reported, decode}
+use Rattle.model.specs.WellFormed.{named, fairAmount, fairClass, fairRegister, known}
+use Rattle.model.specs.Questions.{Question, ask, firstNo, freshQuestions, fileQuestions, kindQuestions, recordQuestions, ownPending, synced, unread, keepable, eventQuestions, commandQuestions, scratchRoom, stepQuestions, lineFits}
 use Rattle.model.specs.declared.Payload.{Payload}
 use Rattle.model.specs.declared.Table.{Table}
 use Rattle.model.specs.declared.Event.{Event}
@@ -45,7 +45,7 @@ no-no-append (more {k = k} {b = b} {qs = qs} n) rs e =
 
 pub event-numbered : (t : Table) (e : Event) → Numbered (eventQuestions t e)
 unfolding eventQuestions
-event-numbered t (Send c p) = more (more (more (more (more (more none)))))
+event-numbered t (Send c p) = more (more (more (more (more (more (more (more none)))))))
 event-numbered t (Handover r o) = more (more (more none))
 event-numbered t (Stop c k) = more (more (more none))
 
@@ -107,7 +107,10 @@ pub record SendAllowed (t : Table) (c : ℕ) (p : Payload) : Type 0 where
   pub sender : Among (t .n) c
   pub amount : fairAmount p ≡ true
   pub class : fairClass (t .version) p ≡ true
+  pub register : fairRegister p ≡ true
   pub running : yes? (at t c .running) ≡ true
+  -- a write waits for whatever its sender has pending
+  pub write-waits : p .kind ≡ 6 → (s : ℕ) → s < t .count → held (at t c) s ≡ true → message t s .sender ≡ c → ⊥
   pub room : t .count < capacity
 
 pub record HandoverAllowed (t : Table) (r o : ℕ) : Type 0 where
@@ -122,20 +125,32 @@ pub record StopAllowed (t : Table) (c k : ℕ) : Type 0 where
   pub within : k ≤ at t c .length
   pub read-kept : (r : ℕ) → Among (t .n) r → place (at t r) c ≤ k
 
+-- nobody's own message is pending where none is counted
+none-own : (t : Table) (c : ℕ) → not (ownPending t c) ≡ true → (s : ℕ) → s < t .count → held (at t c) s ≡ true → message t s .sender ≡ c → ⊥
+unfolding ownPending
+none-own t c e s h p q = omega (
+  arith,
+  count-pos (t .count) (λ s. held (at t c) s && eqb (message t s .sender) c) s h (both p (eq-eqb (message t s .sender) c q)),
+  ltb-false 0 (count (t .count) (λ s. held (at t c) s && eqb (message t s .sender) c)) (not-true (ownPending t c) e),
+)
+
 pub send-allowed : (t : Table) (c : ℕ) (p : Payload) → firstNo (eventQuestions t (Send c p)) ≡ 0 → SendAllowed t c p
 unfolding eventQuestions
 send-allowed t c p e =
     let q8 = no-no _ _ _ e in
     let q9 = no-no _ _ _ (q8 .1) in
     let q17 = no-no _ _ _ (q9 .1) in
-    let q10 = no-no _ _ _ (q17 .1) in
+    let q19 = no-no _ _ _ (q17 .1) in
+    let q10 = no-no _ _ _ (q19 .1) in
     let q11 = no-no _ _ _ (q10 .1) in
     let q12 = no-no _ _ _ (q11 .1) in
     record {
       sender = named-at t c (q8 .0);
       amount = q9 .0;
       class = q17 .0;
+      register = q19 .0;
       running = q10 .0;
+      write-waits = λ k. none-own t c (rw k at (q11 .0));
       room = ltb-true (t .count) capacity (q12 .0);
     }
 
@@ -172,7 +187,7 @@ pub record ReadAllowed (t : Table) (c : ℕ) : Type 0 where
   pub none-pending : (s : ℕ) → s < t .count → held (at t c) s ≡ true → message t s .sender ≡ c → ⊥
 
 pub read-allowed : (t : Table) (c : ℕ) → firstNo (commandQuestions t (Read c)) ≡ 0 → ReadAllowed t c
-unfolding commandQuestions ownPending
+unfolding commandQuestions
 read-allowed t c e =
     let q8 = no-no _ _ _ e in
     let q10 = no-no _ _ _ (q8 .1) in
@@ -180,11 +195,7 @@ read-allowed t c e =
     record {
       controller = named-at t c (q8 .0);
       running = q10 .0;
-      none-pending = λ s h p q. omega (
-        arith,
-        count-pos (t .count) (λ s. held (at t c) s && eqb (message t s .sender) c) s h (both p (eq-eqb (message t s .sender) c q)),
-        ltb-false 0 (count (t .count) (λ s. held (at t c) s && eqb (message t s .sender) c)) (not-true (ownPending t c) (q18 .0)),
-      );
+      none-pending = none-own t c (q18 .0);
     }
 
 -- an event that is allowed changes a controller of the table
@@ -199,24 +210,27 @@ unfolding controllerOf commandQuestions
 controller-allowed t (Act e) q = subject-allowed t e q
 controller-allowed t (Read c) q = read-allowed t c q .controller
 
--- a record that sends is a report's, or a sync's
+-- a record that sends is a report's, a sync's, or a write's
 pub data SendRecord (v : ℕ) (s : List ℕ) (p : Payload) : Type 0 where
   reports : kind s ≡ 1 → p ≡ reported (reportClass v s) (word s 3) → SendRecord v s p
   syncs : kind s ≡ 2 → p ≡ sync → SendRecord v s p
+  writes : kind s ≡ 6 → p ≡ write (byte s 3) (long s 4) → SendRecord v s p
 
 pub send-record : (v : ℕ) (s : List ℕ) (c : ℕ) (p : Payload) → decode v s ≡ Act (Send c p) → SendRecord v s p
 unfolding decode
-send-record v s c p = go (eqb (kind s) 1) refl (eqb (kind s) 2) refl (eqb (kind s) 3) (eqb (kind s) 4)
+send-record v s c p = go (eqb (kind s) 1) refl (eqb (kind s) 2) refl (eqb (kind s) 3) (eqb (kind s) 4) (eqb (kind s) 6) refl
   where
-    go : (a : Bool) → eqb (kind s) 1 ≡ a → (b : Bool) → eqb (kind s) 2 ≡ b → (d f : Bool)
+    go : (a : Bool) → eqb (kind s) 1 ≡ a → (b : Bool) → eqb (kind s) 2 ≡ b → (d f g : Bool) → eqb (kind s) 6 ≡ g
         → cond a (Act (Send (byte s 2) (reported (reportClass v s) (word s 3))))
-        (cond b (Act (Send (byte s 2) sync)) (cond d (Act (Handover (byte s 2) (byte s 3))) (cond f (Act (Stop (byte s 2) (word s 3))) (Read (byte s 2))))) ≡ Act (Send c p)
+        (cond b (Act (Send (byte s 2) sync)) (cond d (Act (Handover (byte s 2) (byte s 3))) (cond f (Act (Stop (byte s 2) (word s 3)))
+        (cond g (Act (Send (byte s 2) (write (byte s 3) (long s 4)))) (Read (byte s 2)))))) ≡ Act (Send c p)
         → SendRecord v s p
-    go true q b z d f e = reports (eqb-true (kind s) 1 q) cc
-    go false q true z d f e = syncs (eqb-true (kind s) 2 z) cc
-    go false q false z true f e = let r : _≡_ {A = ℕ} 0 1 = cc in absurd (omega arith)
-    go false q false z false true e = let r : _≡_ {A = ℕ} 0 1 = cc in absurd (omega arith)
-    go false q false z false false e = let r : _≡_ {A = ℕ} 0 1 = cc in absurd (omega arith)
+    go true q b z d f g y e = reports (eqb-true (kind s) 1 q) cc
+    go false q true z d f g y e = syncs (eqb-true (kind s) 2 z) cc
+    go false q false z true f g y e = let r : _≡_ {A = ℕ} 0 1 = cc in absurd (omega arith)
+    go false q false z false true g y e = let r : _≡_ {A = ℕ} 0 1 = cc in absurd (omega arith)
+    go false q false z false false true y e = writes (eqb-true (kind s) 6 y) cc
+    go false q false z false false false y e = let r : _≡_ {A = ℕ} 0 1 = cc in absurd (omega arith)
 
 -- Question 17 refuses reports of version 2 alone: any other message that a record sends has class 0, as it must.
 pub unclassed-fair : (v : ℕ) (s : List ℕ) (c : ℕ) (p : Payload) → decode v s ≡ Act (Send c p) → (eqb v 2 && eqb (kind s) 1) ≡ false → fairClass v p ≡ true
@@ -229,3 +243,5 @@ unclassed-fair v s c p e f = go (eqb v 2) refl (send-record v s c p e)
         rw (r, z) (unfold reported in (cond-case (λ (x : Payload). eqb (x .class) 0 ≡ true) (ltb (word s 3) 32768) _ _ (λ _. refl) (λ _. refl)))
     go true z (syncs q r) = rw (r, z) refl
     go false z (syncs q r) = rw (r, z) refl
+    go true z (writes q r) = rw (r, z) refl
+    go false z (writes q r) = rw (r, z) refl

@@ -6,11 +6,12 @@ use Prim.Native.Nat.{ℕ, zero, suc, _+_, _*_, _/_, _%_, _-_}
 use mathlib.Core.Bool.{Bool, true, false, cond}
 use mathlib.Core.List.{List, [], _∷_, _++_, map, flatten}
 use lib.Dec.{eqb}
-use Rattle.model.specs.Tables.{noSums, noPanel, fresh}
+use Rattle.model.specs.Tables.{noSums, noRegister, noPanel, fresh}
 use Rattle.model.specs.Calls.{EventAnswer, step, event, freshTable, look}
 use Rattle.model.specs.Runs.{progress, fileRun}
 use Rattle.model.specs.declared.Name.{Name}
 use Rattle.model.specs.declared.Sums.{Sums}
+use Rattle.model.specs.declared.Register.{Register}
 use Rattle.model.specs.declared.Panel.{Panel}
 use Rattle.model.specs.declared.Table.{Table}
 use Rattle.model.proofs.Computed.{computed}
@@ -36,6 +37,10 @@ stop c k = 4 ∷ 4 ∷ c ∷ 0 ∷ k ∷ []
 -- a local read
 local : ℕ → List ℕ
 local c = 2 ∷ 5 ∷ c ∷ []
+
+-- a write of a register
+write : ℕ → ℕ → ℕ → List ℕ
+write c r x = 7 ∷ 6 ∷ c ∷ r ∷ x / 16777216 ∷ x / 65536 % 256 ∷ x / 256 % 256 ∷ x % 256 ∷ []
 
 minus : ℕ → ℕ
 minus x = 65536 - x
@@ -71,7 +76,7 @@ record Given : Type 0 where
   lines : List ℕ
 
 abbrev summed : Sums → Panel
-summed z = record { sums = z; classes = noPanel .classes }
+summed z = record { sums = z; classes = noPanel .classes; registers = noPanel .registers }
 
 abbrev coded : Name → ℕ
 coded m = m .sender * 100 + m .number .0
@@ -129,7 +134,18 @@ both a w = record { added = a; withdrawn = w }
 
 -- a look shows the sums, and those of each class
 abbrev shows : ℕ → ℕ → List (List ℕ) → ℕ → List (List ℕ) → Sums → List Sums → Row
-shows v n rs c ss z zs = record { of = events v n rs (panel c); gives = record { number = 0; sets = ss; shown = record { sums = z; classes = zs }; finished = false; lines = [] } }
+shows v n rs c ss z zs = record { of = events v n rs (panel c); gives = record { number = 0; sets = ss; shown = record { sums = z; classes = zs; registers = noPanel .registers }; finished = false; lines = [] } }
+
+-- a look shows these registers, and no sums
+abbrev holds : ℕ → ℕ → List (List ℕ) → ℕ → List (List ℕ) → List Register → Row
+holds v n rs c ss zs = record {
+  of = events v n rs (panel c);
+  gives = record { number = 0; sets = ss; shown = record { sums = noSums; classes = noPanel .classes; registers = zs }; finished = false; lines = [] };
+}
+
+-- a value and its stamp
+abbrev stamped : ℕ → ℕ → ℕ → Register
+stamped x d c = record { value = x; stamp = record { date = d; writer = c } }
 
 -- an event whose answer has these sums, and whether it finishes an own sync
 abbrev sums : ℕ → ℕ → List (List ℕ) → List ℕ → List (List ℕ) → Bool → Sums → Row
@@ -180,6 +196,26 @@ backed (suc (suc k)) = backed (suc k) ++ (handover 1 (suc k) ∷ handover (suc (
 abbrev takes : ℕ → ℕ → Row
 takes n m = case n (backed m) (handover 1 m) 4096 0 (times (2 * m - 1) ([] ∷ []) ++ ((101 ∷ []) ∷ []))
 
+-- a machine of one sends a sync and then a write, and applies each
+set : ℕ → ℕ → List (List ℕ)
+unfolding sync write handover
+set r x = sync 1 ∷ handover 1 1 ∷ write 1 r x ∷ handover 1 1 ∷ []
+
+-- Both controllers send, and apply what was sent as one: first their syncs, so that each knows the same dates, then a write of register 3.
+settled : List (List ℕ)
+unfolding handover
+settled = handover 1 2 ∷ handover 2 1 ∷ handover 1 1 ∷ handover 1 1 ∷ handover 1 2 ∷ handover 2 2 ∷ handover 2 2 ∷ handover 2 1 ∷ []
+
+rivals : List (List ℕ)
+unfolding settled sync write
+rivals = sync 1 ∷ sync 2 ∷ settled ++ (write 1 3 700 ∷ write 2 3 500 ∷ settled)
+
+rivalSets : List (List ℕ)
+unfolding times
+rivalSets =
+    let once : ℕ → List (List ℕ) = λ k. times 6 ([] ∷ []) ++ (((100 + k) ∷ (200 + k) ∷ []) ∷ [] ∷ [] ∷ ((100 + k) ∷ (200 + k) ∷ []) ∷ []) in
+    once 1 ++ once 3
+
 -- k reports of one sender, all under way
 full : ℕ → List (List ℕ)
 unfolding report times
@@ -196,7 +232,7 @@ numbered zero x = []
 numbered (suc k) x = x ∷ numbered k (suc x)
 
 table : List Row
-unfolding report classed sync handover stop local minus times worked graded gradedSets underway further underwaySets three backed full each numbered
+unfolding report classed sync handover stop local write minus times worked graded gradedSets underway further underwaySets three backed set settled rivals rivalSets full each numbered
 table =
     -- P: the sets of the worked run; event 10 applies nothing
     case 3 worked (handover 3 1) 4096 0 ([] ∷ [] ∷ [] ∷ (101 ∷ []) ∷ [] ∷ [] ∷ (101 ∷ []) ∷ (301 ∷ []) ∷ [] ∷ [] ∷ (101 ∷ 301 ∷ []) ∷ [])
@@ -272,7 +308,6 @@ table =
     -- a local read: 7 before 8 before 10 before 18 before 15
     ∷ quiet 1 [] (1 ∷ 5 ∷ []) 4096 7 0
     ∷ quiet 1 [] (3 ∷ 5 ∷ 9 ∷ 0 ∷ []) 0 7 0
-    ∷ quiet 1 [] (2 ∷ 6 ∷ 1 ∷ []) 4096 6 0
     ∷ quiet 2 [] (local 0) 4096 8 0
     ∷ quiet 2 [] (local 3) 4096 8 0
     ∷ quiet 2 [] (local 8) 0 8 0
@@ -280,6 +315,39 @@ table =
     ∷ quiet 2 (report 1 1 ∷ []) (local 1) 0 18 1
     ∷ quiet 2 (sync 1 ∷ []) (local 1) 0 18 1
     ∷ quiet 2 [] (local 1) 4095 15 0
+    -- P: a write follows on an applied sync of its sender's own, and its latest message: not on nothing, on a report, on a sync before a report,
+    -- on a write, or on another's sync
+    ∷ case 1 (sync 1 ∷ handover 1 1 ∷ []) (write 1 1 5) 4096 0 ([] ∷ (101 ∷ []) ∷ [] ∷ [])
+    ∷ row (events 2 1 (sync 1 ∷ handover 1 1 ∷ []) (single (write 1 1 5) 4096)) 0 ([] ∷ (101 ∷ []) ∷ [] ∷ [])
+    ∷ quiet 1 [] (write 1 1 5) 4096 20 0
+    ∷ case 1 (report 1 5 ∷ handover 1 1 ∷ []) (write 1 1 5) 4096 20 (each 1 101)
+    ∷ case 1 (sync 1 ∷ handover 1 1 ∷ report 1 5 ∷ handover 1 1 ∷ []) (write 1 1 5) 4096 20 (each 2 101)
+    ∷ case 1 (set 1 5) (write 1 1 6) 4096 20 (each 2 101)
+    ∷ case 2 (sync 2 ∷ handover 1 2 ∷ handover 1 1 ∷ []) (write 1 1 5) 4096 20 ([] ∷ [] ∷ (201 ∷ []) ∷ [])
+    -- a message of another that is pending, or sent later, does not keep it from its sync
+    ∷ case 2 (sync 1 ∷ handover 2 1 ∷ handover 1 2 ∷ report 2 5 ∷ handover 1 2 ∷ []) (write 1 1 5) 4096 0 ([] ∷ [] ∷ (101 ∷ []) ∷ [] ∷ [] ∷ [] ∷ [])
+    -- P: registers 1 to 8
+    ∷ case 1 (sync 1 ∷ handover 1 1 ∷ []) (write 1 0 5) 4096 19 (each 1 101)
+    ∷ case 1 (sync 1 ∷ handover 1 1 ∷ []) (write 1 8 5) 4096 0 (each 1 101 ++ ([] ∷ []))
+    ∷ case 1 (sync 1 ∷ handover 1 1 ∷ []) (write 1 9 5) 4096 19 (each 1 101)
+    ∷ case 1 (sync 1 ∷ handover 1 1 ∷ []) (write 1 255 5) 4096 19 (each 1 101)
+    -- a write: 6, reaching to 6, before 7 before 8 before 19 before 10 before 11 before 12 before 20 before 15
+    ∷ quiet 1 [] (2 ∷ 7 ∷ 1 ∷ []) 0 6 0
+    ∷ quiet 1 [] (2 ∷ 6 ∷ 9 ∷ []) 0 7 0
+    ∷ quiet 1 [] (8 ∷ 6 ∷ 9 ∷ 0 ∷ 0 ∷ 0 ∷ 0 ∷ 0 ∷ 0 ∷ []) 0 7 0
+    ∷ quiet 2 [] (write 0 1 5) 4096 8 0
+    ∷ quiet 2 [] (write 3 0 5) 0 8 0
+    ∷ quiet 2 (stop 1 0 ∷ []) (write 1 9 5) 0 19 1
+    ∷ quiet 2 (report 1 1 ∷ stop 1 1 ∷ []) (write 1 8 5) 0 10 2
+    ∷ quiet 2 (sync 1 ∷ []) (write 1 8 5) 0 11 1
+    ∷ quiet 2 (full 64) (write 1 8 5) 0 11 64
+    ∷ quiet 2 (full 64) (write 2 8 5) 0 12 64
+    ∷ quiet 2 [] (write 2 8 5) 0 20 0
+    ∷ case 1 (sync 1 ∷ handover 1 1 ∷ []) (write 1 8 5) 4095 15 (each 1 101)
+    -- a write that is pending: a report may follow, a sync and another write may not
+    ∷ case 1 (sync 1 ∷ handover 1 1 ∷ write 1 1 5 ∷ []) (report 1 5) 4096 0 (each 1 101 ++ ([] ∷ [] ∷ []))
+    ∷ case 1 (sync 1 ∷ handover 1 1 ∷ write 1 1 5 ∷ []) (sync 1) 4096 11 (each 1 101 ++ ([] ∷ []))
+    ∷ case 1 (sync 1 ∷ handover 1 1 ∷ write 1 1 5 ∷ []) (write 1 1 5) 4096 11 (each 1 101 ++ ([] ∷ []))
     -- P: a stop at log length 3, highest read position 2
     ∷ quiet 4 three (stop 1 1) 4096 14 7
     ∷ quiet 4 three (stop 1 2) 4096 0 8
@@ -369,6 +437,12 @@ table =
     -- P: the greatest sum: 64 reports, all taken back and applied at once
     ∷ shows 1 1 (times 64 (report 1 (minus 360) ∷ []) ++ (handover 1 1 ∷ [])) 1 (times 64 ([] ∷ []) ++ (numbered 64 101 ∷ [])) (both 0 23040)
     (both 0 23040 ∷ noSums ∷ noSums ∷ noSums ∷ noSums ∷ [])
+    -- P: each register has dates of its own, from 1; values 0 and 4,294,967,295; nothing is shown of a write that is pending
+    ∷ holds 1 1 (set 1 7 ++ (set 1 4294967295 ++ (set 8 0 ++ (sync 1 ∷ handover 1 1 ∷ write 1 2 9 ∷ [])))) 1 (each 7 101 ++ ([] ∷ []))
+    (stamped 4294967295 2 1 ∷ noRegister ∷ noRegister ∷ noRegister ∷ noRegister ∷ noRegister ∷ noRegister ∷ stamped 0 1 1 ∷ [])
+    -- P: two writers with one date: the greater writer's value, on both panels
+    ∷ holds 1 2 rivals 1 rivalSets (noRegister ∷ noRegister ∷ stamped 500 1 2 ∷ noRegister ∷ noRegister ∷ noRegister ∷ noRegister ∷ noRegister ∷ [])
+    ∷ holds 1 2 rivals 2 rivalSets (noRegister ∷ noRegister ∷ stamped 500 1 2 ∷ noRegister ∷ noRegister ∷ noRegister ∷ noRegister ∷ noRegister ∷ [])
     -- P: the run with classes, its sets and what both panels show of each class
     ∷ shows 2 2 graded 1 gradedSets (both 42 2) (noSums ∷ both 30 0 ∷ noSums ∷ both 12 0 ∷ both 0 2 ∷ [])
     ∷ shows 2 2 graded 2 gradedSets (both 42 2) (noSums ∷ both 30 0 ∷ noSums ∷ both 12 0 ∷ both 0 2 ∷ [])
@@ -386,5 +460,5 @@ pub record AllCases : Type 0 where
   hold : results table ≡ expected table
 
 pub all-cases : AllCases
-unfolding computed flatten results expected table called played given report classed sync handover stop local minus times worked graded gradedSets underway further underwaySets three backed full each numbered
+unfolding computed flatten results expected table called played given report classed sync handover stop local write minus times worked graded gradedSets underway further underwaySets three backed set settled rivals rivalSets full each numbered
 all-cases = record { hold = refl }

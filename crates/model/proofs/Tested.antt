@@ -11,7 +11,7 @@ use Rattle.lists.specs.Below.{all, distinct}
 use Rattle.lists.proofs.Tests.{and-left, and-right, both, or-cases, or-left, or-right, implies-at, implies-of, not-both, not-both-of, contradiction, beq-eq, eq-beq}
 use Rattle.lists.proofs.Below.{all-at, all-of, distinct-at, distinct-of}
 use Rattle.model.specs.Tables.{seats, capacity, absent, yes?, at, message, slotAt, place, entry, held, mark, applied, highest}
-use Rattle.model.specs.WellFormed.{named, fairAmount, fairClass, known, sameName, goodMark, inLog, greatestApplied, inRange, goodMessage, goodMessages, goodLog, goodPlaces, goodMarks, goodBuffer, goodHighest, goodRunning, goodController, wellFormed}
+use Rattle.model.specs.WellFormed.{named, fairAmount, fairClass, fairRegister, fairDate, known, sameName, sameStamp, keptWrite, goodMark, inLog, greatestApplied, inRange, goodMessage, goodMessages, goodWrites, goodLog, goodPlaces, goodMarks, goodBuffer, goodHighest, goodRunning, goodController, wellFormed}
 use Rattle.model.specs.declared.Message.{Message}
 use Rattle.model.specs.declared.Controller.{Controller}
 use Rattle.model.specs.declared.Table.{Table}
@@ -125,25 +125,39 @@ same-name : (a b : Message) → a .sender ≡ b .sender → a .number .0 ≡ b .
 unfolding sameName
 same-name a b p q = both (eq-eqb (a .sender) (b .sender) p) (eq-eqb (a .number .0) (b .number .0) q)
 
+same-stamp : (a b : Message) → a .payload .kind ≡ 6 → b .payload .kind ≡ 6 → a .sender ≡ b .sender → a .payload .reg ≡ b .payload .reg → a .date ≡ b .date
+    → sameStamp a b ≡ true
+unfolding sameStamp
+same-stamp a b k l p q r =
+    both (eq-eqb (a .payload .kind) 6 k) (both (eq-eqb (b .payload .kind) 6 l)
+    (both (eq-eqb (a .sender) (b .sender) p) (both (eq-eqb (a .payload .reg) (b .payload .reg) q) (eq-eqb (a .date) (b .date) r))))
+
 message-facts : (t : Table) (m : Message) → goodMessage t m ≡ true
     → Among (t .n) (m .sender) × ((0 < m .number .0) × (m .number .0 ≤ 64)) × (fairAmount (m .payload) ≡ true) × (fairClass (t .version) (m .payload) ≡ true)
+    × (fairRegister (m .payload) ≡ true) × (fairDate t m ≡ true)
 unfolding goodMessage
 message-facts t m e =
     let e₁ = and-right (named t (m .sender)) _ e in
     let e₂ = and-right (ltb 0 (m .number .0)) _ e₁ in
-    let e₃ = and-right (leb (m .number .0) 64) _ e₂ in (
+    let e₃ = and-right (leb (m .number .0) 64) _ e₂ in
+    let e₄ = and-right (fairAmount (m .payload)) _ e₃ in
+    let e₅ = and-right (fairClass (t .version) (m .payload)) _ e₄ in (
       named-at t (m .sender) (and-left _ _ e),
       (ltb-true 0 (m .number .0) (and-left _ _ e₁), leb-true (m .number .0) 64 (and-left _ _ e₂)),
       and-left _ _ e₃,
-      and-right (fairAmount (m .payload)) _ e₃,
+      and-left _ _ e₄,
+      and-left _ _ e₅,
+      and-right (fairRegister (m .payload)) _ e₅,
     )
 
 pub facts : (t : Table) → wellFormed t ≡ true → WellFormed t
-unfolding wellFormed inRange goodMessages
+unfolding wellFormed inRange goodMessages goodWrites keptWrite
 facts t e =
     let range = and-left (inRange t) _ e in
     let e₁ = and-right (inRange t) _ e in
     let messages = and-left (goodMessages t) _ e₁ in
+    let e₂ = and-right (goodMessages t) _ e₁ in
+    let writes = and-left (goodWrites t) _ e₂ in
     let some-few = and-right (known (t .version)) _ range in
     let few-counted = and-right (ltb 0 (t .n)) _ some-few in
     let each : (s : ℕ) → s < t .count → goodMessage t (message t s) ≡ true = all-at (t .count) _ (and-right (distinct (t .count) (λ i j. sameName (message t i) (message t j))) _ messages) in
@@ -158,11 +172,21 @@ facts t e =
       numbers = λ s h. message-facts t (message t s) (each s h) .1;
       amounts = λ s h. message-facts t (message t s) (each s h) .2;
       classes = λ s h. message-facts t (message t s) (each s h) .3;
-      controllers = λ c h. controller-facts t c (at t c) (all-named (t .n) (λ i. goodController t i (at t i)) (and-right (goodMessages t) _ e₁) c h);
+      registers = λ s h. message-facts t (message t s) (each s h) .4;
+      dates = λ s h. message-facts t (message t s) (each s h) .5;
+      stamps = λ i j hi hj k l p q r.
+          distinct-same (t .count) _ (and-left _ _ writes) i j hi hj
+          (same-stamp (message t i) (message t j) k l p q r) (same-stamp (message t j) (message t i) l k (sym p) (sym q) (sym r));
+      kept = λ s h k r.
+          implies-at (yes? (at t (message t s .sender) .running)) _
+          (implies-at (eqb (message t s .payload .kind) 6) _
+          (all-at (t .count) (keptWrite t) (and-right (distinct (t .count) (λ i j. sameStamp (message t i) (message t j))) _ writes) s h)
+          (eq-eqb (message t s .payload .kind) 6 k)) r;
+      controllers = λ c h. controller-facts t c (at t c) (all-named (t .n) (λ i. goodController t i (at t i)) (and-right (goodWrites t) _ e₂) c h);
     }
 
 pub tested : (t : Table) → WellFormed t → wellFormed t ≡ true
-unfolding wellFormed inRange goodMessages goodMessage sameName
+unfolding wellFormed inRange goodMessages goodMessage sameName goodWrites sameStamp keptWrite
 tested t w =
     both (both (w .version) (both (lt-ltb 0 (t .n) (w .some)) (both (le-leb (t .n) seats (w .few)) (le-leb (t .count) capacity (w .counted)))))
     (both (both (distinct-of (t .count) _ (λ i j hi l. not-true (sameName (message t i) (message t j))
@@ -171,5 +195,13 @@ tested t w =
     (all-of (t .count) _ (λ s h.
     both (named-of t (message t s .sender) (w .senders s h))
     (both (lt-ltb 0 (message t s .number .0) (w .numbers s h .0))
-    (both (le-leb (message t s .number .0) 64 (w .numbers s h .1)) (both (w .amounts s h) (w .classes s h)))))))
-    (all-named-of (t .n) (λ i. goodController t i (at t i)) (λ c h. controller-tested t c (at t c) (w .controllers c h))))
+    (both (le-leb (message t s .number .0) 64 (w .numbers s h .1)) (both (w .amounts s h) (both (w .classes s h) (both (w .registers s h) (w .dates s h)))))))))
+    (both (both (distinct-of (t .count) _ (λ i j hi l. not-true (sameStamp (message t i) (message t j))
+    (not-both-of (eqb (message t i .payload .kind) 6) _ (λ k e.
+    let e₁ = and-right (eqb (message t j .payload .kind) 6) _ e in
+    let e₂ = and-right (eqb (message t i .sender) (message t j .sender)) _ e₁ in
+    omega (arith, w .stamps i j hi (omega arith) (eqb-true _ _ k) (eqb-true _ _ (and-left _ _ e)) (eqb-true _ _ (and-left _ _ e₁))
+    (eqb-true _ _ (and-left _ _ e₂)) (eqb-true _ _ (and-right (eqb (message t i .payload .reg) (message t j .payload .reg)) _ e₂)))))))
+    (all-of (t .count) _ (λ s h. implies-of (eqb (message t s .payload .kind) 6) _ (λ k.
+    implies-of (yes? (at t (message t s .sender) .running)) _ (λ r. w .kept s h (eqb-true _ _ k) r)))))
+    (all-named-of (t .n) (λ i. goodController t i (at t i)) (λ c h. controller-tested t c (at t c) (w .controllers c h)))))

@@ -91,7 +91,7 @@ freshTable v n =
     let k = firstNo (freshQuestions v n) in
     record { number = k; table = cond (eqb k 0) (fresh v n) zeroTable }
 
--- THE PANEL LOOK: the local counter, also of a controller that has stopped or has messages of its own pending
+-- THE PANEL LOOK: the local counter and the registers, also of a controller that has stopped or has messages of its own pending
 
 unfoldable pub look : Table → ℕ → LookAnswer
 look t c =

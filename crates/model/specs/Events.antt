@@ -1,5 +1,5 @@
--- The events (RULES.md, sections 6 to 10) and what each does to the table: lines 1 to 20 of Algorithm 1, the counter of Algorithm 4, and
--- the local read of Algorithm 5.
+-- The events (RULES.md, sections 6 to 10) and what each does to the table: lines 1 to 20 of Algorithm 1, the writes of
+-- Algorithm 3, the counter of Algorithm 4, and the local read of Algorithm 5.
 use Prim.Native.Nat.{ℕ, zero, suc, _+_, max}
 use mathlib.Core.Bool.{Bool, _&&_, _||_, cond}
 use mathlib.Core.List.{List, [], _∷_}
@@ -8,6 +8,7 @@ use lib.Dec.{eqb, leb, ltb}
 use Rattle.lists.specs.Below.{count, sum, greatest}
 use Rattle.lists.specs.Build.{tabulate}
 use Rattle.model.specs.Tables.{seats, capacity, classCount, messageNumber, messageOf, unheld, at, message, slotAt, place, entry, held, applied, highest, withController, withMessage, withEntry, withRead, withMark, withDelivered, withStop}
+use Rattle.model.specs.Registers.{registers, dateOf}
 use Rattle.model.specs.Delivery.{Slots, has, applicable}
 use Rattle.model.specs.declared.Payload.{Payload}
 use Rattle.model.specs.declared.Message.{Message}
@@ -21,11 +22,11 @@ use Rattle.model.specs.declared.Event.the-variants.{Send, Handover, Stop
 use Rattle.model.specs.declared.Command.{Command}
 use Rattle.model.specs.declared.Command.the-variants.{Act, Read}
 
--- 1. REPORT AND SYNC (scd-broadcast): lines 1 and 5 to 12 with i = sd = g
+-- 1. REPORT, SYNC AND WRITE (scd-broadcast): lines 1 and 5 to 12 with i = sd = g
 
--- the message that c sends next, numbered by its log
+-- the message that c sends next, numbered by its log, and dated by the registers that c holds
 unfoldable pub sentMessage : Table → ℕ → Payload → Message
-sentMessage t c p = messageOf c (messageNumber (at t c .length + 1)) p
+sentMessage t c p = messageOf c (messageNumber (at t c .length + 1)) (dateOf t (at t c) p) p
 
 -- c with a message of the next slot: buffered with c's own mark, and at the end of c's log
 unfoldable pub sent : Table → ℕ → Controller
@@ -111,7 +112,7 @@ unfoldable pub resulting : Table → Command → Table
 resulting t (Act e) = next t e
 resulting t (Read c) = t
 
--- WHAT A PANEL SHOWS (the local counter): that of Algorithm 4, as two sums, over all messages and over each class
+-- WHAT A PANEL SHOWS (the local counter): that of Algorithm 4, as two sums, over all messages and over each class; and the registers
 
 -- the sum of a weight over what x has applied
 unfoldable pub weigh : (Payload → ℕ) → Table → Controller → ℕ
@@ -137,9 +138,9 @@ ofClass k w p = cond (eqb (p .class) k) (w p) 0
 unfoldable pub classSums : Table → Controller → ℕ → Sums
 classSums t x k = bothOf (λ w. weigh (ofClass k w) t x)
 
--- the panel of a controller that is x: the sums, and those of each class from 0
+-- the panel of a controller that is x: the sums, those of each class from 0, and the registers
 unfoldable pub shown : Table → Controller → Panel
-shown t x = record { sums = sums t x; classes = tabulate classCount (classSums t x) }
+shown t x = record { sums = sums t x; classes = tabulate classCount (classSums t x); registers = registers t x }
 
 -- the panel of controller c
 unfoldable pub panelOf : Table → ℕ → Panel

@@ -6,7 +6,7 @@ use mathlib.Core.Logic.{_⊎_}
 use Prim.Native.Nat.{ℕ, _≤_, _<_}
 pub use Rattle.model.specs.Tables.{Among}
 use Rattle.model.specs.Tables.{seats, capacity, absent, yes?, at, message, slotAt, place, entry, held, mark, applied, highest}
-use Rattle.model.specs.WellFormed.{inLog, greatestApplied, fairAmount, fairClass, known}
+use Rattle.model.specs.WellFormed.{inLog, greatestApplied, fairAmount, fairClass, fairRegister, fairDate, known}
 use Rattle.model.specs.declared.Controller.{Controller}
 use Rattle.model.specs.declared.Table.{Table}
 
@@ -48,4 +48,15 @@ pub record WellFormed (t : Table) : Type 0 where
   pub amounts : (s : ℕ) → s < t .count → fairAmount (message t s .payload) ≡ true
   -- and classes as in question 17
   pub classes : (s : ℕ) → s < t .count → fairClass (t .version) (message t s .payload) ≡ true
+  -- and writes have registers as in question 19, and dates from 1 to the count of messages
+  pub registers : (s : ℕ) → s < t .count → fairRegister (message t s .payload) ≡ true
+  pub dates : (s : ℕ) → s < t .count → fairDate t (message t s) ≡ true
+  -- two writes of one sender and register have different dates
+  pub stamps : (i j : ℕ) → i < t .count → j < t .count → message t i .payload .kind ≡ 6 → message t j .payload .kind ≡ 6
+      → message t i .sender ≡ message t j .sender → message t i .payload .reg ≡ message t j .payload .reg
+      → message t i .date ≡ message t j .date → i ≡ j
+  -- a running controller has each write that it sent pending or applied
+  pub kept : (s : ℕ) → s < t .count → message t s .payload .kind ≡ 6
+      → let c = at t (message t s .sender) in
+      yes? (c .running) ≡ true → (held c s || applied c s) ≡ true
   pub controllers : (c : ℕ) → Among (t .n) c → GoodController t c (at t c)

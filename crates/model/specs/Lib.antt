@@ -2,6 +2,7 @@ pub mod Tables
 pub mod Sized
 pub mod Delivery
 pub mod Largest
+pub mod Registers
 pub mod Events
 pub mod Records
 pub mod WellFormed

@@ -4,10 +4,11 @@ use mathlib.Core.Bool.{Bool, not, _&&_, _||_, cond}
 use mathlib.Core.List.{List, [], _∷_, _++_}
 use lib.ListN.{length}
 use lib.Dec.{eqb, leb, ltb}
-use Rattle.lists.specs.Below.{count, all}
-use Rattle.model.specs.Tables.{seats, capacity, scratchSize, yes?, at, message, place, held}
+use Rattle.lists.specs.Below.{count, all, greatest}
+use Rattle.model.specs.Tables.{seats, capacity, scratchSize, yes?, at, message, place, held, applied}
+use Rattle.model.specs.Events.{numberOf}
 use Rattle.model.specs.Records.{byte, size, kind, sizeOf, decode}
-use Rattle.model.specs.WellFormed.{named, fairAmount, fairClass, known, wellFormed}
+use Rattle.model.specs.WellFormed.{named, fairAmount, fairClass, fairRegister, known, wellFormed}
 use Rattle.model.specs.declared.Table.{Table}
 use Rattle.model.specs.declared.Event.{Event}
 use Rattle.model.specs.declared.Event.the-variants.{Send, Handover, Stop}
@@ -42,7 +43,7 @@ lentTable t = ask 4 (wellFormed t)
 -- questions 6 and 7, in version v, of a record of this kind with so many bytes behind its length byte
 unfoldable pub kindQuestions : ℕ → ℕ → ℕ → List Question
 kindQuestions v n k =
-    ask 6 (ltb 0 n && (ltb 0 k && leb k 5))
+    ask 6 (ltb 0 n && (ltb 0 k && leb k 6))
     ∷ ask 7 (eqb n (sizeOf v k))
     ∷ []
 
@@ -54,6 +55,17 @@ recordQuestions v s = ask 5 (ltb (size s) (length s)) ∷ kindQuestions v (size 
 unfoldable pub ownPending : Table → ℕ → Bool
 ownPending t c = ltb 0 (count (t .count) (λ s. held (at t c) s && eqb (message t s .sender) c))
 
+-- 20: the latest message of c, that with its greatest number, is a sync that c has applied
+unfoldable pub latest : Table → ℕ → ℕ
+latest t c = greatest (t .count) (λ s. numberOf c (message t s))
+
+unfoldable pub synced : Table → ℕ → Bool
+synced t c =
+    let k = latest t c in
+    ltb 0 (count (t .count) (λ s.
+    applied (at t c) s
+    && (eqb (message t s .payload .kind) 2 && (eqb (message t s .sender) c && eqb (message t s .number .0) k))))
+
 -- 13: the log of o has an entry that r has not read
 unfoldable pub unread : Table → ℕ → ℕ → Bool
 unread t r o = ltb (place (at t r) o) (at t o .length)
@@ -62,13 +74,16 @@ unread t r o = ltb (place (at t r) o) (at t o .length)
 unfoldable pub keepable : Table → ℕ → ℕ → Bool
 keepable t c k = leb k (at t c .length) && all (t .n) (λ r. leb (place (at t (suc r)) c) k)
 
--- questions 8 to 14 and 17, by the kind of event; 11 is not put to a report, which may follow on pending ones
+-- questions 8 to 14, 17, 19 and 20, by the kind of event; 11 is not put to a report, which may follow on pending ones, and 20 is put to a
+-- write alone
 unfoldable pub eventQuestions : Table → Event → List Question
 eventQuestions t (Send c p) =
     ask 8 (named t c)
-    ∷ ask 9 (fairAmount p) ∷ ask 17 (fairClass (t .version) p) ∷ ask 10 (yes? (at t c .running))
+    ∷ ask 9 (fairAmount p) ∷ ask 17 (fairClass (t .version) p) ∷ ask 19 (fairRegister p)
+    ∷ ask 10 (yes? (at t c .running))
     ∷ ask 11 (eqb (p .kind) 1 || not (ownPending t c))
     ∷ ask 12 (ltb (t .count) capacity)
+    ∷ ask 20 (not (eqb (p .kind) 6) || synced t c)
     ∷ []
 eventQuestions t (Handover r o) =
     ask 8 (named t r && named t o)
@@ -81,7 +96,7 @@ eventQuestions t (Stop c k) =
     ∷ ask 14 (keepable t c k)
     ∷ []
 
--- questions 8 to 14, 17 and 18, of what a record asks for
+-- questions 8 to 14 and 17 to 20, of what a record asks for
 unfoldable pub commandQuestions : Table → Command → List Question
 commandQuestions t (Act e) = eventQuestions t e
 commandQuestions t (Read c) =
@@ -94,7 +109,7 @@ commandQuestions t (Read c) =
 unfoldable pub scratchRoom : ℕ → Question
 scratchRoom room = ask 15 (leb scratchSize room)
 
--- questions 5 to 15, 17 and 18, the record's bytes read as the table's version says
+-- questions 5 to 15 and 17 to 20, the record's bytes read as the table's version says
 unfoldable pub stepQuestions : Table → List ℕ → ℕ → List Question
 stepQuestions t s room = recordQuestions (t .version) s ++ (commandQuestions t (decode (t .version) s) ++ (scratchRoom room ∷ []))
 

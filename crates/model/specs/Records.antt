@@ -4,7 +4,7 @@ use mathlib.Core.Bool.{cond}
 use mathlib.Core.List.{List, [], _∷_}
 use lib.ListN.{getD, drop}
 use lib.Dec.{eqb, ltb}
-use Rattle.model.specs.Tables.{report, sync}
+use Rattle.model.specs.Tables.{report, sync, write}
 use Rattle.model.specs.declared.Payload.{Payload}
 use Rattle.model.specs.declared.Event.the-variants.{Send, Handover, Stop}
 use Rattle.model.specs.declared.Command.{Command}
@@ -28,10 +28,14 @@ kind s = byte s 1
 abbrev pub word : List ℕ → ℕ → ℕ
 word s i = byte s i * 256 + byte s (i + 1)
 
--- the lengths of the kinds 1 report, 2 sync, 3 handover, 4 stop, 5 local read, in files of version v: in version 2 a report has a class
--- byte more
+-- four bytes, the high one first
+abbrev pub long : List ℕ → ℕ → ℕ
+long s i = word s i * 65536 + word s (i + 2)
+
+-- the lengths of the kinds 1 report, 2 sync, 3 handover, 4 stop, 5 local read, 6 write, in files of version v: in version 2 a report has
+-- a class byte more
 unfoldable pub sizeOf : ℕ → ℕ → ℕ
-sizeOf v k = getD (0 ∷ cond (eqb v 2) 5 4 ∷ 2 ∷ 3 ∷ 4 ∷ 2 ∷ []) k 0
+sizeOf v k = getD (0 ∷ cond (eqb v 2) 5 4 ∷ 2 ∷ 3 ∷ 4 ∷ 2 ∷ 7 ∷ []) k 0
 
 -- the class of a report: the byte after the amount in version 2, and 0 in version 1
 unfoldable pub reportClass : ℕ → List ℕ → ℕ
@@ -41,11 +45,12 @@ reportClass v s = cond (eqb v 2) (byte s 5) 0
 unfoldable pub reported : ℕ → ℕ → Payload
 reported k x = cond (ltb x 32768) (report k x 0) (report k 0 (65536 - x))
 
--- what a record of kind 1 to 5 and of that kind's length asks for
+-- what a record of kind 1 to 6 and of that kind's length asks for
 unfoldable pub decode : ℕ → List ℕ → Command
 decode v s =
     cond (eqb (kind s) 1) (Act (Send (byte s 2) (reported (reportClass v s) (word s 3))))
     (cond (eqb (kind s) 2) (Act (Send (byte s 2) sync))
     (cond (eqb (kind s) 3) (Act (Handover (byte s 2) (byte s 3)))
     (cond (eqb (kind s) 4) (Act (Stop (byte s 2) (word s 3)))
-    (Read (byte s 2)))))
+    (cond (eqb (kind s) 6) (Act (Send (byte s 2) (write (byte s 3) (long s 4))))
+    (Read (byte s 2))))))

@@ -13,6 +13,8 @@ use Rattle.model.specs.declared.Name.{Name}
 use Rattle.model.specs.declared.Pending.{Pending}
 use Rattle.model.specs.declared.Controller.{Controller}
 use Rattle.model.specs.declared.Sums.{Sums}
+use Rattle.model.specs.declared.Stamp.{Stamp}
+use Rattle.model.specs.declared.Register.{Register}
 use Rattle.model.specs.declared.Panel.{Panel}
 use Rattle.model.specs.declared.Table.{Table}
 
@@ -31,6 +33,10 @@ lastClass = 4
 
 abbrev pub classCount : ℕ
 classCount = 5
+
+-- registers (set points), from 1
+abbrev pub registerCount : ℕ
+registerCount = 8
 
 -- the scratch bytes that an event asks for
 abbrev pub scratchSize : ℕ
@@ -53,10 +59,14 @@ yes? f = ltb 0 f
 
 -- a report's class, what it adds and what it withdraws; class 0 is none
 abbrev pub report : ℕ → ℕ → ℕ → Payload
-report k a w = record { kind = 1; class = k; added = a; withdrawn = w }
+report k a w = record { kind = 1; class = k; added = a; withdrawn = w; reg = 0; value = 0 }
 
 abbrev pub sync : Payload
-sync = record { kind = 2; class = 0; added = 0; withdrawn = 0 }
+sync = record { kind = 2; class = 0; added = 0; withdrawn = 0; reg = 0; value = 0 }
+
+-- the register that a write sets, and the value that it gives
+abbrev pub write : ℕ → ℕ → Payload
+write r x = record { kind = 6; class = 0; added = 0; withdrawn = 0; reg = r; value = x }
 
 -- a place in a log, and a sender's number: separate counters, each from 1
 abbrev pub forwardNumber : ℕ → ForwardNumber
@@ -65,8 +75,9 @@ forwardNumber k = record { 0 = k }
 abbrev pub messageNumber : ℕ → MessageNumber
 messageNumber k = record { 0 = k }
 
-abbrev pub messageOf : ℕ → MessageNumber → Payload → Message
-messageOf c k p = record { sender = c; number = k; payload = p }
+-- what its sender gives a message besides: a number, and the date of a write, 0 for any other
+abbrev pub messageOf : ℕ → MessageNumber → ℕ → Payload → Message
+messageOf c k d p = record { sender = c; number = k; date = d; payload = p }
 
 -- WHAT STANDS PAST THE END OF AN ARRAY, as in every read of the language: zero, and no elements
 
@@ -77,14 +88,18 @@ abbrev pub noName : Name
 noName = record { sender = 0; number = none }
 
 abbrev pub noMessage : Message
-noMessage = record { sender = 0; number = none; payload = record { kind = 0; class = 0; added = 0; withdrawn = 0 } }
+noMessage = messageOf 0 none 0 (record { kind = 0; class = 0; added = 0; withdrawn = 0; reg = 0; value = 0 })
+
+-- "registers 1 to 8, each starting at 0"; "Stamps start at 0, 0."
+abbrev pub noRegister : Register
+noRegister = record { value = 0; stamp = record { date = 0; writer = 0 } }
 
 -- the sums over no message, and a panel that shows nothing, as refusals answer them
 abbrev pub noSums : Sums
 noSums = record { added = 0; withdrawn = 0 }
 
 abbrev pub noPanel : Panel
-noPanel = record { sums = noSums; classes = replicate classCount noSums }
+noPanel = record { sums = noSums; classes = replicate classCount noSums; registers = replicate registerCount noRegister }
 
 abbrev pub noPending : Pending
 noPending = record { held = 0; marks = [] }

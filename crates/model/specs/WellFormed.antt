@@ -3,7 +3,7 @@ use Prim.Native.Nat.{ℕ, suc}
 use mathlib.Core.Bool.{Bool, not, _&&_, _||_, Bool·beq, cond}
 use lib.Dec.{eqb, leb, ltb}
 use Rattle.lists.specs.Below.{count, all, distinct, greatest}
-use Rattle.model.specs.Tables.{seats, capacity, lastClass, absent, yes?, at, message, slotAt, place, entry, held, mark, applied, highest}
+use Rattle.model.specs.Tables.{seats, capacity, lastClass, registerCount, absent, yes?, at, message, slotAt, place, entry, held, mark, applied, highest}
 use Rattle.model.specs.Events.{numberOf}
 use Rattle.model.specs.declared.Payload.{Payload}
 use Rattle.model.specs.declared.Message.{Message}
@@ -14,21 +14,36 @@ use Rattle.model.specs.declared.Table.{Table}
 unfoldable pub named : Table → ℕ → Bool
 named t c = ltb 0 c && leb c (t .n)
 
--- A report's amount is from -360 to 360 and not 0; a sync has none.
+-- A report's amount is from -360 to 360 and not 0; a sync and a write have none.
 unfoldable pub fairMagnitude : ℕ → Bool
 fairMagnitude x = ltb 0 x && leb x 360
 
 unfoldable pub fairAmount : Payload → Bool
 fairAmount p =
     eqb (p .kind) 1 && (fairMagnitude (p .added) && eqb (p .withdrawn) 0 || eqb (p .added) 0 && fairMagnitude (p .withdrawn))
-    || eqb (p .kind) 2 && (eqb (p .added) 0 && eqb (p .withdrawn) 0)
+    || (eqb (p .kind) 2 || eqb (p .kind) 6) && (eqb (p .added) 0 && eqb (p .withdrawn) 0)
 
 -- A report of version 2 has a class from 1 to 4; every other message has class 0.
 unfoldable pub fairClass : ℕ → Payload → Bool
 fairClass v p = cond (eqb v 2 && eqb (p .kind) 1) (ltb 0 (p .class) && leb (p .class) lastClass) (eqb (p .class) 0)
 
+-- A write has a register from 1 to 8; every other message has none, and no value.
+unfoldable pub fairRegister : Payload → Bool
+fairRegister p =
+    cond (eqb (p .kind) 6) (ltb 0 (p .reg) && leb (p .reg) registerCount) (eqb (p .reg) 0 && eqb (p .value) 0)
+
+-- A write has a date from 1 to the count of messages; every other message has none.
+unfoldable pub fairDate : Table → Message → Bool
+fairDate t m = cond (eqb (m .payload .kind) 6) (ltb 0 (m .date) && leb (m .date) (t .count)) (eqb (m .date) 0)
+
 unfoldable pub sameName : Message → Message → Bool
 sameName a b = eqb (a .sender) (b .sender) && eqb (a .number .0) (b .number .0)
+
+-- two writes of one sender and register, with one date
+unfoldable pub sameStamp : Message → Message → Bool
+sameStamp a b =
+    eqb (a .payload .kind) 6 && (eqb (b .payload .kind) 6
+    && (eqb (a .sender) (b .sender) && (eqb (a .payload .reg) (b .payload .reg) && eqb (a .date) (b .date))))
 
 -- the log of c names slot s
 unfoldable pub inLog : Controller → ℕ → Bool
@@ -46,16 +61,30 @@ known v = eqb v 1 || eqb v 2
 unfoldable pub inRange : Table → Bool
 inRange t = known (t .version) && (ltb 0 (t .n) && (leb (t .n) seats && leb (t .count) capacity))
 
--- "messages have distinct names, senders 1 to n, numbers 1 to 64, and reports have amounts as in question 9", and classes as in 17
+-- "messages have distinct names, senders 1 to n, numbers 1 to 64, and reports have amounts as in question 9", and classes as in 17;
+-- writes have registers as in 19, and dates
 unfoldable pub goodMessage : Table → Message → Bool
 goodMessage t m =
     named t (m .sender)
-    && (ltb 0 (m .number .0) && (leb (m .number .0) 64 && (fairAmount (m .payload) && fairClass (t .version) (m .payload))))
+    && (ltb 0 (m .number .0) && (leb (m .number .0) 64
+    && (fairAmount (m .payload) && (fairClass (t .version) (m .payload) && (fairRegister (m .payload) && fairDate t m)))))
 
 unfoldable pub goodMessages : Table → Bool
 goodMessages t =
     distinct (t .count) (λ i j. sameName (message t i) (message t j))
     && all (t .count) (λ s. goodMessage t (message t s))
+
+-- the sender of a write, while it runs, has it pending or applied
+unfoldable pub keptWrite : Table → ℕ → Bool
+keptWrite t s =
+    let c = at t (message t s .sender) in
+    not (eqb (message t s .payload .kind) 6) || (not (yes? (c .running)) || (held c s || applied c s))
+
+-- two writes of one sender and register have different dates; a running controller has each write that it sent pending or applied
+unfoldable pub goodWrites : Table → Bool
+goodWrites t =
+    distinct (t .count) (λ i j. sameStamp (message t i) (message t j))
+    && all (t .count) (keptWrite t)
 
 -- "a log names only messages of the run, none twice"
 unfoldable pub goodLog : Table → Controller → Bool
@@ -97,4 +126,4 @@ goodController t i c =
     goodLog t c && (goodPlaces t c && (goodMarks t c && (goodBuffer t c && (goodHighest t c && goodRunning t i c))))
 
 unfoldable pub wellFormed : Table → Bool
-wellFormed t = inRange t && (goodMessages t && all (t .n) (λ i. goodController t (suc i) (at t (suc i))))
+wellFormed t = inRange t && (goodMessages t && (goodWrites t && all (t .n) (λ i. goodController t (suc i) (at t (suc i)))))

@@ -2,8 +2,8 @@
 ghost use mathlib.Core.Path.{_≡_};
 ghost use mathlib.Core.Bool.{cond};
 ghost use lib.Dec.{eqb};
-ghost use Rattle.model.specs.WellFormed.{fairMagnitude, fairAmount, fairClass, known};
-ghost use Rattle.model.specs.Tables.{report, sync, messageOf, forwardNumber, messageNumber, start, fresh, zeroTable, noSums, noPanel};
+ghost use Rattle.model.specs.WellFormed.{fairMagnitude, fairAmount, fairClass, fairRegister, known};
+ghost use Rattle.model.specs.Tables.{report, sync, write, messageOf, forwardNumber, messageNumber, start, fresh, zeroTable, noSums, noPanel, noRegister};
 
 pub mod refusal;
 
@@ -15,21 +15,24 @@ pub struct ForwardNumber(pub u8);
 #[repr(C)]
 pub struct MessageNumber(pub u8);
 
-// What a message says: kind 1 is a report and 2 a sync; a report's weight class, 0 for none; the amount is two magnitudes,
-// at most one of them not 0.
+// What a message says, as its record does: kind 1 is a report, 2 a sync and 6 a write; a report's weight class, 0 for none; the
+// amount is two magnitudes, at most one of them not 0; the register that a write sets, 0 for none, and the value.
 #[repr(C)]
 pub struct Payload {
     pub kind: u8,
     pub class: u8,
     pub added: u16,
     pub withdrawn: u16,
+    pub reg: u16,
+    pub value: u32,
 }
 
-// A message that is scd-broadcast. Its index in the table is its slot.
+// A message that is scd-broadcast. Its index in the table is its slot. Its sender gives it a number and, if it is a write, a date.
 #[repr(C)]
 pub struct Message {
     pub sender: u8,
     pub number: MessageNumber,
+    pub date: u16,
     pub payload: Payload,
 }
 
@@ -77,11 +80,27 @@ pub struct Sums {
     pub withdrawn: u32,
 }
 
-// What a panel shows (the local counter): the sums over what its controller has applied, and those of each class, from 0 for none.
+// A stamp (the source's timestamp): the date of a write, and its writer. Dates decide before writers.
+#[repr(C)]
+pub struct Stamp {
+    pub date: u16,
+    pub writer: u16,
+}
+
+// A register (set point): its value, and the stamp of the write that gave it. All is 0 until then.
+#[repr(C)]
+pub struct Register {
+    pub value: u32,
+    pub stamp: Stamp,
+}
+
+// What a panel shows (the local counter and registers): the sums over what its controller has applied, those of each class, from 0
+// for none, and the registers, from 1.
 #[repr(C)]
 pub struct Panel {
     pub sums: Sums,
     pub classes: [Sums; 5],
+    pub registers: [Register; 8],
 }
 
 // What the single-event call answers: the refusal number, 0 if accepted; whether a sync of the receiver's own is in the
@@ -159,10 +178,14 @@ impl Payload {
 
     pub const SYNC: u8 = 2;
 
+    pub const WRITE: u8 = 6;
+
     pub const AMOUNT: u16 = 360;
 
     // The weight classes are 1 XL, 2 L, 3 M, 4 S.
     pub const LAST_CLASS: u8 = 4;
+
+    pub const LAST_REGISTER: u16 = 8;
 
     pub fn report(class: u8, added: u16, withdrawn: u16) -> Payload
         ensures { λ r. ⌜ r ≡ report class added withdrawn ⌝ }
@@ -172,6 +195,8 @@ impl Payload {
             class,
             added,
             withdrawn,
+            reg: 0,
+            value: 0,
         }
     }
 
@@ -183,6 +208,21 @@ impl Payload {
             class: 0,
             added: 0,
             withdrawn: 0,
+            reg: 0,
+            value: 0,
+        }
+    }
+
+    pub fn write(reg: u16, value: u32) -> Payload
+        ensures { λ r. ⌜ r ≡ write reg value ⌝ }
+    {
+        Payload {
+            kind: Payload::WRITE,
+            class: 0,
+            added: 0,
+            withdrawn: 0,
+            reg,
+            value,
         }
     }
 
@@ -192,14 +232,15 @@ impl Payload {
         (0 < x) & (x <= Payload::AMOUNT)
     }
 
-    // A report adds or withdraws a fair amount, and not both; a sync has none.
+    // A report adds or withdraws a fair amount, and not both; a sync and a write have none.
     pub fn fair(p: Payload) -> bool
         ensures { λ r. ⌜ r ≡ fairAmount p ⌝ }
     {
         let a = Payload::fair_magnitude(p.added) & (p.withdrawn == 0);
         let w = (p.added == 0) & Payload::fair_magnitude(p.withdrawn);
         ((p.kind == Payload::REPORT) & (a | w))
-            | ((p.kind == Payload::SYNC) & ((p.added == 0) & (p.withdrawn == 0)))
+            | (((p.kind == Payload::SYNC) | (p.kind == Payload::WRITE))
+                & ((p.added == 0) & (p.withdrawn == 0)))
     }
 
     // A report of version 2 has one of the weight classes; every other message has none.
@@ -212,6 +253,19 @@ impl Payload {
             return (0 < class) & (class <= Payload::LAST_CLASS);
         }
         class == 0
+    }
+
+    // A write has one of the registers; every other message has none, and no value.
+    pub fn fair_register(p: Payload) -> bool
+        ensures { λ r. ⌜ r ≡ fairRegister p ⌝ }
+    {
+        let kind = p.kind;
+        let reg = p.reg;
+        let value = p.value;
+        if kind == Payload::WRITE {
+            return (0 < reg) & (reg <= Payload::LAST_REGISTER);
+        }
+        (reg == 0) & (value == 0)
     }
 }
 
@@ -227,9 +281,26 @@ impl Sums {
     }
 }
 
+impl Register {
+    // A register that was not written.
+    pub fn zero() -> Register
+        ensures { λ r. ⌜ r ≡ noRegister ⌝ }
+    {
+        Register {
+            value: 0,
+            stamp: Stamp {
+                date: 0,
+                writer: 0,
+            },
+        }
+    }
+}
+
 impl Panel {
     // Those of the four weight classes, and that of none.
     pub const CLASSES: usize = 5;
+
+    pub const REGISTERS: usize = 8;
 
     // The panel that shows nothing, which a refused look answers.
     pub fn zero() -> Panel
@@ -239,17 +310,19 @@ impl Panel {
         Panel {
             sums: none,
             classes: [none; Panel::CLASSES],
+            registers: [Register::zero(); Panel::REGISTERS],
         }
     }
 }
 
 impl Message {
-    pub fn of(sender: u8, number: MessageNumber, payload: Payload) -> Message
-        ensures { λ r. ⌜ r ≡ messageOf sender number payload ⌝ }
+    pub fn of(sender: u8, number: MessageNumber, date: u16, payload: Payload) -> Message
+        ensures { λ r. ⌜ r ≡ messageOf sender number date payload ⌝ }
     {
         Message {
             sender,
             number,
+            date,
             payload,
         }
     }
@@ -272,11 +345,14 @@ impl Table {
         let none = Message {
             sender: 0,
             number: MessageNumber(MessageNumber::NONE),
+            date: 0,
             payload: Payload {
                 kind: 0,
                 class: 0,
                 added: 0,
                 withdrawn: 0,
+                reg: 0,
+                value: 0,
             },
         };
         let unheld = Pending {

@@ -18,7 +18,7 @@ pub const TABLE: u8 = 4;
 // Are the length byte and all the bytes it counts there?
 pub const RECORD: u8 = 5;
 
-// Is there a kind, from 1 to 5?
+// Is there a kind, from 1 to 6?
 pub const KIND: u8 = 6;
 
 // Is the length that of the kind?
@@ -33,7 +33,7 @@ pub const AMOUNT: u8 = 9;
 // Is the sender, receiver, or controller to be stopped or read still running?
 pub const STOPPED: u8 = 10;
 
-// Has the sender of a sync no message of its own pending?
+// Has the sender of a sync or write no message of its own pending?
 pub const OWN_PENDING: u8 = 11;
 
 // Has the run fewer than 64 messages?
@@ -56,3 +56,9 @@ pub const CLASS: u8 = 17;
 
 // Has the controller of a local read no message of its own pending?
 pub const READ_PENDING: u8 = 18;
+
+// Is the register of a write from 1 to 8?
+pub const REGISTER: u8 = 19;
+
+// Is the latest message of a write's sender a sync that it has applied?
+pub const NOT_SYNCED: u8 = 20;

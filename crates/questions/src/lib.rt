@@ -1,8 +1,8 @@
-// Questions 8 to 14, 17 and 18, on every table. Past the last controller the definitions read zeros; no value of the
+// Questions 8 to 14 and 17 to 20, on every table. Past the last controller the definitions read zeros; no value of the
 // type has empty arrays, so each function that reads a controller answers that case by itself. A function that indexes an
 // array of the table copies it, so each kind has the controllers read in one function.
 ghost use mathlib.Core.Path.{_≡_};
-ghost use mathlib.Core.Bool.{not, _&&_};
+ghost use mathlib.Core.Bool.{not, _&&_, _||_};
 ghost use mathlib.Core.List.{[]};
 ghost use Prim.Native.Nat.{_<_};
 ghost use lib.Dec.{eqb, leb, ltb};
@@ -12,7 +12,7 @@ ghost use Rattle.model.specs.Parts.{whole};
 ghost use Rattle.model.specs.Questions.{firstNo, eventQuestions, commandQuestions};
 ghost use Rattle.model.specs.declared.Event.the-variants.{Send, Handover, Stop};
 ghost use Rattle.model.specs.declared.Command.the-variants.{Read};
-ghost use Rattle.questions.specs.Arrays.{ownAmong, readWithin};
+ghost use Rattle.questions.specs.Arrays.{ownAmong, readWithin, latestAmong, syncedAmong};
 use model::Command;
 use model::Controller;
 use model::Event;
@@ -43,7 +43,7 @@ fn own_pending(count: usize, messages: [Message; 64], pending: [Pending; 64], c:
     false
 }
 
-// A REPORT OR SYNC
+// A REPORT, SYNC OR WRITE
 
 // Whether a message of this kind has to wait for one of its sender's own: a report has not.
 fn must_wait(kind: u8, count: usize, messages: [Message; 64], pending: [Pending; 64], c: u8) -> bool
@@ -53,6 +53,46 @@ fn must_wait(kind: u8, count: usize, messages: [Message; 64], pending: [Pending;
         return false;
     }
     own_pending(count, messages, pending, c)
+}
+
+// The greatest number among so many messages, of those of c.
+fn latest(count: usize, messages: [Message; 64], c: u8) -> u8
+    ensures { λ r. ⌜ r ≡ latestAmong count messages c ⌝ }
+{
+    let mut latest: u8 = 0;
+    for s in 0..numbers::at_most(count, Table::MESSAGES) {
+        let m = messages[s];
+        if m.sender != c {
+            continue;
+        }
+        latest = numbers::greater(latest, m.number.0);
+    }
+    latest
+}
+
+// Whether a message of c with this number is a sync that is flagged as applied.
+fn synced(count: usize, messages: [Message; 64], applied: [u8; 64], c: u8, last: u8) -> bool
+    ensures { λ r. ⌜ r ≡ syncedAmong count messages applied c last ⌝ }
+{
+    for s in 0..numbers::at_most(count, Table::MESSAGES) {
+        let m = messages[s];
+        let kind = m.payload.kind;
+        let named = (m.sender == c) & (m.number.0 == last);
+        if (0 < applied[s]) & ((kind == Payload::SYNC) & named) {
+            return true;
+        }
+    }
+    false
+}
+
+// Whether a message of this kind may be its sender's next, by the latest one: a write follows on an applied sync.
+fn may_follow(kind: u8, count: usize, messages: [Message; 64], applied: [u8; 64], c: u8) -> bool
+    ensures { λ r. ⌜ r ≡ (not (eqb kind 6) || syncedAmong count messages applied c (latestAmong count messages c)) ⌝ }
+{
+    if kind != Payload::WRITE {
+        return true;
+    }
+    synced(count, messages, applied, c, latest(count, messages, c))
 }
 
 fn send_refusal(
@@ -75,6 +115,9 @@ fn send_refusal(
     if !Payload::fair_class(version, payload) {
         return refusal::CLASS;
     }
+    if !Payload::fair_register(payload) {
+        return refusal::REGISTER;
+    }
     let i = sender as usize - 1;
     if Table::CONTROLLERS <= i {
         return refusal::STOPPED;
@@ -91,6 +134,10 @@ fn send_refusal(
     }
     if Table::MESSAGES <= count {
         return refusal::FULL;
+    }
+    let applied = x.applied;
+    if !may_follow(kind, count, messages, applied, sender) {
+        return refusal::NOT_SYNCED;
     }
     refusal::ACCEPTED
 }
@@ -207,7 +254,7 @@ fn read_refusal(
 
 // EVERY RECORD
 
-// The first no of questions 8 to 14, 17 and 18, in their order for each kind of record.
+// The first no of questions 8 to 14 and 17 to 20, in their order for each kind of record.
 pub fn refusal(t: Table, a: Command) -> u8
     ensures { λ r. ⌜ r ≡ firstNo (commandQuestions t a) ⌝ }
 {

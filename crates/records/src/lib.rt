@@ -9,7 +9,7 @@ ghost use Prim.Native.Nat.{_<_};
 ghost use mathlib.Core.Bool.{_&&_};
 ghost use lib.Dec.{leb, ltb};
 ghost use lib.ListN.{drop};
-ghost use Rattle.model.specs.Records.{byte, word, sizeOf, reportClass, reported, decode};
+ghost use Rattle.model.specs.Records.{byte, word, long, sizeOf, reportClass, reported, decode};
 ghost use Rattle.model.specs.Questions.{firstNo, kindQuestions};
 ghost use Rattle.records.specs.Cuts.{cut, found, recordOf};
 
@@ -59,8 +59,8 @@ pub fn behind(bytes: &[u8], used: usize) -> &[u8]
     &bytes[have..]
 }
 
-// The lengths of the kinds 1 report, 2 sync, 3 handover, 4 stop, 5 local read in version 1.
-const SIZES: [usize; 6] = [0, 4, 2, 3, 4, 2];
+// The lengths of the kinds 1 report, 2 sync, 3 handover, 4 stop, 5 local read, 6 write in version 1.
+const SIZES: [usize; 7] = [0, 4, 2, 3, 4, 2, 7];
 
 // The length of a record of a kind, in files of a version; 0 for what is no kind. A report of version 2 has a class byte more.
 fn size_of_kind(version: usize, kind: u8) -> usize
@@ -69,20 +69,20 @@ fn size_of_kind(version: usize, kind: u8) -> usize
     if (version == Table::CLASSED) & (kind == Payload::REPORT) {
         return 5;
     }
-    if kind < 6 {
+    if kind < 7 {
         return SIZES[kind as usize];
     }
     0
 }
 
-// Question 6, of a record of so many bytes: there is a kind, from 1 to 5.
+// Question 6, of a record of so many bytes: there is a kind, from 1 to 6.
 fn has_kind(size: usize, kind: u8) -> bool
-    ensures { λ r. ⌜ r ≡ (ltb 0 size && (ltb 0 kind && leb kind 5)) ⌝ }
+    ensures { λ r. ⌜ r ≡ (ltb 0 size && (ltb 0 kind && leb kind 6)) ⌝ }
 {
     if size == 0 {
         return false;
     }
-    0 < kind && kind <= 5
+    0 < kind && kind <= 6
 }
 
 // The first no of questions 6 and 7.
@@ -102,12 +102,22 @@ fn kind_refusal(version: usize, size: usize, kind: u8) -> u8
 
 // Two bytes, the high one first.
 fn word_at(bytes: &[u8], i: usize) -> u16
-    requires { ⌜ i < 4 ⌝ }
+    requires { ⌜ i < 8 ⌝ }
     ensures { λ r. ⌜ r ≡ word (now (bytes .entry)) i ⌝ }
 {
     let high = byte_at(bytes, i) as u16;
     let low = byte_at(bytes, i + 1) as u16;
     high * 256 + low
+}
+
+// Four bytes, the high one first.
+fn long_at(bytes: &[u8], i: usize) -> u32
+    requires { ⌜ i < 6 ⌝ }
+    ensures { λ r. ⌜ r ≡ long (now (bytes .entry)) i ⌝ }
+{
+    let high = word_at(bytes, i) as u32;
+    let low = word_at(bytes, i + 2) as u32;
+    high * 65536 + low
 }
 
 // The class of a report: the byte after the amount in version 2, and 0 in version 1.
@@ -134,7 +144,7 @@ const HANDOVER: u8 = 3;
 
 const STOP: u8 = 4;
 
-// What a record of kind 1 to 5 and of that kind's length asks for.
+// What a record of kind 1 to 6 and of that kind's length asks for.
 fn decode_record(version: usize, bytes: &[u8]) -> Command
     ensures { λ r. ⌜ r ≡ decode version (now (bytes .entry)) ⌝ }
 {
@@ -162,6 +172,12 @@ fn decode_record(version: usize, bytes: &[u8]) -> Command
         return Command::Act(Event::Stop {
             controller: first,
             kept: word_at(bytes, 3) as usize,
+        });
+    }
+    if kind == Payload::WRITE {
+        return Command::Act(Event::Send {
+            sender: first,
+            payload: Payload::write(byte_at(bytes, 3) as u16, long_at(bytes, 4)),
         });
     }
     Command::Read(first)

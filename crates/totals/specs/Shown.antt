@@ -1,30 +1,42 @@
 -- What a panel shows, by what it is made of, and what the private functions that add up answer.
 use mathlib.Core.List.{List, []}
-use mathlib.Core.Bool.{cond}
+use mathlib.Core.Bool.{_&&_, cond}
 use Prim.Native.Nat.{ℕ, _*_, _≤_}
 use Rattle.lists.specs.Build.{tabulate}
+use lib.Dec.{eqb}
 use Rattle.model.specs.Tables.{classCount, yes?}
+use Rattle.model.specs.Registers.{registers}
 use Rattle.model.specs.Events.{bothOf, sums, classSums, shown}
 use Rattle.model.specs.Parts.{part}
 use Rattle.model.specs.declared.Payload.{Payload}
 use Rattle.model.specs.declared.Message.{Message}
 use Rattle.model.specs.declared.Controller.{Controller}
 use Rattle.model.specs.declared.Sums.{Sums}
+use Rattle.model.specs.declared.Register.{Register}
 use Rattle.model.specs.declared.Panel.{Panel}
 
 -- a controller of which only what it has applied is given, for what reads no more
 abbrev pub appliedAlone : List ℕ → Controller
 appliedAlone A = record { length = 0; log = []; read = []; pending = []; applied = A; highest = []; running = 0 }
 
--- the sums, those of each class and the panel of every controller that has applied so, of so many messages
+-- the sums, those of each class, the registers and the panel of every controller that has applied so, of so many messages
 unfoldable pub sumsOf : ℕ → List Message → List ℕ → Sums
 sumsOf k M A = sums (part 0 0 k M) (appliedAlone A)
 
 unfoldable pub classesOf : ℕ → List Message → List ℕ → List Sums
 classesOf k M A = tabulate classCount (classSums (part 0 0 k M) (appliedAlone A))
 
+unfoldable pub registersOf : ℕ → List Message → List ℕ → List Register
+registersOf k M A = registers (part 0 0 k M) (appliedAlone A)
+
 unfoldable pub shownOf : ℕ → List Message → List ℕ → Panel
 shownOf k M A = shown (part 0 0 k M) (appliedAlone A)
+
+-- WRITES
+
+-- the register that a message writes, where the flag says that it counts; 0 if none
+unfoldable pub targetOf : ℕ → Payload → ℕ
+targetOf flag p = cond (yes? flag && eqb (p .kind) 6) (p .reg) 0
 
 -- ADDING UP
 

@@ -1,12 +1,15 @@
-// What a panel shows, of all messages and of each class, and whether a set holds a sync of a controller's own: on every
+// What a panel shows, of all messages and of each class, and its registers; and whether a set holds a sync of a controller's own: on every
 // table, what no array holds being zero.
 ghost use mathlib.Core.Path.{_≡_};
+ghost use Rattle.model.specs.Registers.{exceeds, wins, written};
 ghost use Rattle.model.specs.Events.{plus, panelOf, finishes};
 ghost use Rattle.model.specs.Parts.{part};
-ghost use Rattle.totals.specs.Shown.{sumsOf, classesOf, shownOf, countedOf, largestSum, AtMost};
+ghost use Rattle.totals.specs.Shown.{sumsOf, classesOf, registersOf, shownOf, countedOf, targetOf, largestSum, AtMost};
 use model::Message;
 use model::Panel;
 use model::Payload;
+use model::Register;
+use model::Stamp;
 use model::Sums;
 use model::Table;
 
@@ -64,6 +67,65 @@ fn classes(count: usize, messages: [Message; 64], applied: [u8; 64]) -> [Sums; 5
     sums
 }
 
+// Whether a stamp exceeds another: dates decide before writers.
+fn exceeds(a: Stamp, b: Stamp) -> bool
+    ensures { λ r. ⌜ r ≡ exceeds a b ⌝ }
+{
+    (b.date < a.date) | ((a.date == b.date) & (b.writer < a.writer))
+}
+
+// What is written, if its stamp exceeds that of what is held.
+fn wins(w: Register, y: Register) -> Register
+    ensures { λ r. ⌜ r ≡ wins w y ⌝ }
+{
+    let new = w.stamp;
+    let old = y.stamp;
+    if exceeds(new, old) {
+        return w;
+    }
+    y
+}
+
+// What a write gives its register.
+fn written(m: Message) -> Register
+    ensures { λ r. ⌜ r ≡ written m ⌝ }
+{
+    Register {
+        value: m.payload.value,
+        stamp: Stamp {
+            date: m.date,
+            writer: m.sender as u16,
+        },
+    }
+}
+
+// The register that a message writes, where the flag says that it counts; 0 if none.
+fn target(flag: u8, p: Payload) -> usize
+    ensures { λ r. ⌜ r ≡ targetOf flag p ⌝ }
+{
+    let kind = p.kind;
+    if (flag == 0) | (kind != Payload::WRITE) {
+        return 0;
+    }
+    p.reg as usize
+}
+
+// The registers, from 1, by so many messages, of those flagged as applied.
+pub fn registers(count: usize, messages: [Message; 64], applied: [u8; 64]) -> [Register; 8]
+    ensures { λ r. ⌜ r ≡ registersOf count messages applied ⌝ }
+{
+    let mut registers: [Register; 8] = [Register::zero(); Panel::REGISTERS];
+    for s in 0..numbers::at_most(count, Table::MESSAGES) {
+        let m = messages[s];
+        let place = target(applied[s], m.payload);
+        if (place == 0) | (Panel::REGISTERS < place) {
+            continue;
+        }
+        registers[place - 1] = wins(written(m), registers[place - 1]);
+    }
+    registers
+}
+
 // The panel of a controller that has applied so, of so many messages.
 pub fn shown(count: usize, messages: [Message; 64], applied: [u8; 64]) -> Panel
     ensures { λ r. ⌜ r ≡ shownOf count messages applied ⌝ }
@@ -71,6 +133,7 @@ pub fn shown(count: usize, messages: [Message; 64], applied: [u8; 64]) -> Panel
     Panel {
         sums: sums(count, messages, applied),
         classes: classes(count, messages, applied),
+        registers: registers(count, messages, applied),
     }
 }
 

@@ -19,6 +19,15 @@ use Rattle.validity.specs.declared.BufferRead.{BufferRead}
 abbrev pub Seated : ℕ → List Message → Type 0
 Seated k M = (s : ℕ) → s < k → getD M s noMessage .sender ≤ 7
 
+-- the senders, registers and dates of the first k messages that are writes are in range
+pub record GoodStamp (m : Message) : Type 0 where
+  pub sender : (0 < m .sender) × (m .sender ≤ 7)
+  pub reg : m .payload .reg ≤ 8
+  pub date : m .date ≤ 64
+
+abbrev pub Stamped : ℕ → List Message → Type 0
+Stamped k M = (s : ℕ) → s < k → GoodStamp (getD M s noMessage)
+
 -- f takes the value j below k
 unfoldable pub taken : (ℕ → ℕ) → ℕ → ℕ → Bool
 taken f k j = ltb 0 (count k (λ i. eqb (f i) j))

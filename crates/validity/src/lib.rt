@@ -1,34 +1,48 @@
 // Question 4: whether a table is well formed. What a clause asks of every message, log entry or slot is read in one pass
 // into flags, so that no clause searches; a name, a log entry and a sender each have a flag or a number of their own.
 ghost use mathlib.Core.Path.{_≡_};
-ghost use mathlib.Core.Bool.{cond};
+ghost use mathlib.Core.Bool.{not, _||_, cond};
 ghost use mathlib.Core.List.{[]};
 ghost use Prim.Native.Nat.{suc, max, _+_, _≤_, _<_};
 ghost use lib.ListN.{getD};
 ghost use lib.Dec.{eqb, leb};
-ghost use Rattle.lists.specs.Below.{all};
+ghost use Rattle.lists.specs.Below.{all, distinct};
 ghost use Rattle.lists.specs.Build.{tabulate};
-ghost use Rattle.model.specs.Tables.{none, noController, at, yes?};
-ghost use Rattle.model.specs.WellFormed.{goodMessage, goodMessages, goodMark, goodController, wellFormed};
+ghost use Rattle.model.specs.Tables.{none, noMessage, noController, at, yes?, held, applied};
+ghost use Rattle.model.specs.WellFormed.{fairDate, sameStamp, keptWrite, goodMessage, goodMessages, goodMark, goodController, wellFormed};
 ghost use Rattle.model.specs.Parts.{part, whole};
 ghost use Rattle.validity.specs.Parts.{goodAlone};
-ghost use Rattle.validity.specs.Flags.{Seated, ReadsLog, goodEntry, ReadsBuffer, goodSlot, slotTest, greatestOf};
+ghost use Rattle.validity.specs.Flags.{Seated, Stamped, ReadsLog, goodEntry, ReadsBuffer, goodSlot, slotTest, greatestOf};
 use model::Controller;
 use model::ForwardNumber;
 use model::Message;
 use model::MessageNumber;
+use model::Panel;
 use model::Payload;
 use model::Pending;
 use model::Table;
 
 // MESSAGES
 
-fn good_message(version: usize, n: usize, m: Message) -> bool
-    ensures { λ r. ⌜ r ≡ goodMessage (part version n 0 []) m ⌝ }
+// A write has a date from 1 to the count of messages; every other message has none.
+fn fair_date(count: usize, m: Message) -> bool
+    ensures { λ r. ⌜ r ≡ fairDate (part 0 0 count []) m ⌝ }
+{
+    let kind = m.payload.kind;
+    let date = m.date as usize;
+    if kind == Payload::WRITE {
+        return (0 < date) & (date <= count);
+    }
+    date == 0
+}
+
+fn good_message(version: usize, n: usize, count: usize, m: Message) -> bool
+    ensures { λ r. ⌜ r ≡ goodMessage (part version n count []) m ⌝ }
 {
     let number = m.number.0 as usize;
     let named = (0 < m.sender) & ((m.sender as usize) <= n);
-    let fair = Payload::fair(m.payload) & Payload::fair_class(version, m.payload);
+    let write = Payload::fair_register(m.payload) & fair_date(count, m);
+    let fair = Payload::fair(m.payload) & (Payload::fair_class(version, m.payload) & write);
     named & ((0 < number) & ((number <= Table::MESSAGES) & fair))
 }
 
@@ -47,7 +61,7 @@ fn good_messages(version: usize, n: usize, count: usize, messages: [Message; 64]
     let mut seen = [false; CODES];
     for s in 0..count {
         let m = messages[s];
-        if !good_message(version, n, m) {
+        if !good_message(version, n, count, m) {
             return false;
         }
         let code = (m.sender as usize) * NUMBERS + (m.number.0 as usize);
@@ -55,6 +69,64 @@ fn good_messages(version: usize, n: usize, count: usize, messages: [Message; 64]
             return false;
         }
         seen[code] = true;
+    }
+    true
+}
+
+// WRITES
+
+// Registers count from 1, and 0 has a place too.
+const REGISTERS: usize = Panel::REGISTERS + 1;
+
+// A write's sender, register and date have a code of their own, below this.
+const STAMPS: usize = SENDERS * REGISTERS * NUMBERS;
+
+// Whether no two writes of one sender and register have the same date.
+fn distinct_stamps(count: usize, messages: [Message; 64]) -> bool
+    requires { ⌜ (count ≤ 64) × Stamped count messages ⌝ }
+    ensures { λ r. ⌜ r ≡ distinct count (λ i j. sameStamp (getD messages i noMessage) (getD messages j noMessage)) ⌝ }
+{
+    let mut seen = [false; STAMPS];
+    for s in 0..count {
+        let m = messages[s];
+        if m.payload.kind != Payload::WRITE {
+            continue;
+        }
+        let code = ((m.sender as usize) * REGISTERS + (m.payload.reg as usize)) * NUMBERS
+            + (m.date as usize);
+        if seen[code] {
+            return false;
+        }
+        seen[code] = true;
+    }
+    true
+}
+
+// Whether a controller that runs has a slot pending or applied.
+fn keeps(c: Controller, s: usize) -> bool
+    requires { ⌜ s < 64 ⌝ }
+    ensures { λ r. ⌜ r ≡ (not (yes? (c .running)) || (held c s || applied c s)) ⌝ }
+{
+    let held = c.pending[s].held;
+    let done = c.applied[s];
+    let running = c.running;
+    (running == 0) | ((0 < held) | (0 < done))
+}
+
+// Whether each running controller has the writes that it sent pending or applied.
+fn kept_writes(count: usize, messages: [Message; 64], controllers: [Controller; 7]) -> bool
+    requires { ⌜ (count ≤ 64) × Stamped count messages ⌝ }
+    ensures { λ r. ⌜ r ≡ all count (keptWrite (whole 0 0 count messages controllers)) ⌝ }
+{
+    for s in 0..count {
+        let m = messages[s];
+        if m.payload.kind != Payload::WRITE {
+            continue;
+        }
+        let i = m.sender as usize - 1;
+        if !keeps(controllers[i], s) {
+            return false;
+        }
     }
     true
 }
@@ -308,5 +380,8 @@ pub fn well_formed(t: Table) -> bool
         return false;
     }
     let controllers = t.controllers;
+    if !(distinct_stamps(count, messages) & kept_writes(count, messages, controllers)) {
+        return false;
+    }
     each_controller(n, count, messages, controllers)
 }

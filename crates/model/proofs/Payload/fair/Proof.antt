@@ -1,4 +1,4 @@
--- `Payload::fair` is the rule of question 9 for a report, and of a sync. Assumes nothing.
+-- `Payload::fair` is the rule of question 9 for a report, and of a sync or write. Assumes nothing.
 use mathlib.Core.Path.{_≡_}
 use mathlib.Core.Bool.{Bool, _&&_, _||_}
 use lib.Dec.{eqb}
@@ -9,8 +9,8 @@ use Rattle.model.proofs.Payload.fair.Statement.{statement}
 use Rattle.model.proofs.Payload.fair.Tie as tie
 
 -- from the end to the second magnitude, and from there to the first
-abbrev second : tie.After-struct-known6 → tie.After-fair-magnitude2
-second c = c .before .before .before .before
+abbrev second : tie.After-struct-known7 → tie.After-fair-magnitude2
+second c = c .before .before .before .before .before
 
 abbrev first : tie.After-fair-magnitude2 → tie.After-fair-magnitude
 first c = c .before .before .before
@@ -22,7 +22,8 @@ fair-magnitude-requires-2 : tie.Need-fair-magnitude-requires-2
 fair-magnitude-requires-2 c κs = search needs
 
 fair-is : (p : Payload) (a w : Bool) → a ≡ fairMagnitude (p .added) → w ≡ fairMagnitude (p .withdrawn)
-    → (eqb (p .kind) 1 && (a && eqb (p .withdrawn) 0 || eqb (p .added) 0 && w) || eqb (p .kind) 2 && (eqb (p .added) 0 && eqb (p .withdrawn) 0))
+    → (eqb (p .kind) 1 && (a && eqb (p .withdrawn) 0 || eqb (p .added) 0 && w) 
+    || (eqb (p .kind) 2 || eqb (p .kind) 6) && (eqb (p .added) 0 && eqb (p .withdrawn) 0))
     ≡ fairAmount p
 unfolding fairAmount
 fair-is p a w e f = rw (e, f)
