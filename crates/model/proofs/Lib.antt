@@ -1,5 +1,6 @@
 pub mod Tested
 pub mod Allowed
+pub mod Registers
 pub mod Steps
 pub mod Decimals
 pub mod Lengths

@@ -1,0 +1,166 @@
+-- Registers: stamps are in order, and a register is the write with the greatest stamp among those that count. Assumes nothing.
+use mathlib.Core.Path.{_≡_, refl, sym, ap, ap₂, _∙_}
+use mathlib.Core.Logic.{_⊎_, inl, inr}
+use mathlib.Core.Bool.{Bool, true, false, _&&_, _||_, cond}
+use Prim.Native.Nat.{ℕ, zero, suc, _≤_, _<_}
+use native.Mathlib.Nat.{not-suc-le-zero}
+use native.Mathlib.Omega.{arith}
+use lib.Dec.{eqb, leb, ltb}
+use borrow.Author.Tests.{ltb-true, ltb-false, leb-true, eqb-true, le-ltb, eq-eqb}
+use Rattle.lists.proofs.Tests.{and-left, and-right, or-cases, or-false, refuted, contradiction, cond-case, below-suc}
+use Rattle.model.specs.Tables.{registerCount, noRegister, message}
+use Rattle.model.specs.Registers.{exceeds, wins, writes, written, newest}
+use Rattle.model.specs.WellFormed.{fairRegister, fairDate}
+use Rattle.model.specs.Facts.{WellFormed}
+use Rattle.model.specs.declared.Stamp.{Stamp}
+use Rattle.model.specs.declared.Register.{Register}
+use Rattle.model.specs.declared.Message.{Message}
+use Rattle.model.specs.declared.Table.{Table}
+
+-- THE ORDER OF STAMPS
+
+-- no later: the date before the writer
+pub record NoLater (a b : Stamp) : Type 0 where
+  pub dates : a .date ≤ b .date
+  pub writers : a .date ≡ b .date → a .writer ≤ b .writer
+
+pub not-exceeds : (a b : Stamp) → exceeds a b ≡ false → NoLater a b
+unfolding exceeds
+not-exceeds a b e =
+    let f = or-false (ltb (b .date) (a .date)) _ e in
+    record {
+      dates = ltb-false (b .date) (a .date) (f .0);
+      writers = λ q. ltb-false (b .writer) (a .writer) (rw (eq-eqb (a .date) (b .date) q) at (f .1));
+    }
+
+pub no-later : (a b : Stamp) → NoLater a b → exceeds a b ≡ false
+unfolding exceeds
+no-later a b h = refuted _ (λ e. go (or-cases (ltb (b .date) (a .date)) _ e))
+  where
+    go : (ltb (b .date) (a .date) ≡ true) ⊎ ((eqb (a .date) (b .date) && ltb (b .writer) (a .writer)) ≡ true) → ⊥
+    go (inl p) = omega (arith, ltb-true (b .date) (a .date) p, h .dates)
+    go (inr p) =
+        omega (arith, ltb-true (b .writer) (a .writer) (and-right (eqb (a .date) (b .date)) _ p), h .writers (eqb-true (a .date) (b .date) (and-left _ _ p)))
+
+exceeded : (a b : Stamp) → exceeds a b ≡ true → NoLater b a
+unfolding exceeds
+exceeded a b e = go (or-cases (ltb (b .date) (a .date)) _ e)
+  where
+    go : (ltb (b .date) (a .date) ≡ true) ⊎ ((eqb (a .date) (b .date) && ltb (b .writer) (a .writer)) ≡ true) → NoLater b a
+    go (inl p) = let l = ltb-true (b .date) (a .date) p in record { dates = omega (arith, l); writers = λ q. absurd (omega (arith, l, q)) }
+    go (inr p) =
+        let q = eqb-true (a .date) (b .date) (and-left _ _ p) in
+        let l = ltb-true (b .writer) (a .writer) (and-right (eqb (a .date) (b .date)) _ p) in
+        record { dates = omega (arith, q); writers = λ _. omega (arith, l) }
+
+same-later : (a : Stamp) → NoLater a a
+same-later a = record { dates = omega arith; writers = λ _. omega arith }
+
+later-trans : {a b c : Stamp} → NoLater a b → NoLater b c → NoLater a c
+later-trans {a} {b} {c} h k = record {
+  dates = omega (arith, h .dates, k .dates);
+  writers = λ q.
+      let p : a .date ≡ b .date = omega (arith, h .dates, k .dates, q) in
+      omega (arith, h .writers p, k .writers (sym p ∙ q));
+}
+
+-- two stamps of which neither is later are the same
+pub later-antisym : (a b : Stamp) → NoLater a b → NoLater b a → a ≡ b
+later-antisym a b h k =
+    let d : a .date ≡ b .date = omega (arith, h .dates, k .dates) in
+    let w : a .writer ≡ b .writer = omega (arith, h .writers d, k .writers (sym d)) in
+    ap₂ (λ x y. record { date = x; writer = y }) d w
+
+-- no stamp comes before 0, 0
+pub zero-first : (a : Stamp) → NoLater (noRegister .stamp) a
+zero-first a = record { dates = omega arith; writers = λ _. omega arith }
+
+-- THE GREATER OF TWO
+
+wins-case : (P : Register → Type 0) (w y : Register) → (NoLater (y .stamp) (w .stamp) → P w) → (NoLater (w .stamp) (y .stamp) → P y) → P (wins w y)
+unfolding wins
+wins-case P w y f g =
+    cond-case P (exceeds (w .stamp) (y .stamp)) w y (λ e. f (exceeded (w .stamp) (y .stamp) e)) (λ e. g (not-exceeds (w .stamp) (y .stamp) e))
+
+pub wins-most : (w y : Register) → NoLater (w .stamp) (wins w y .stamp) × NoLater (y .stamp) (wins w y .stamp)
+wins-most w y =
+    wins-case (λ z. NoLater (w .stamp) (z .stamp) × NoLater (y .stamp) (z .stamp)) w y
+    (λ h. (same-later (w .stamp), h)) (λ h. (h, same-later (y .stamp)))
+
+-- THE NEWEST WRITE
+
+-- y is a write of register r among the slots below k that f has, or was not written
+pub data Held (k : ℕ) (t : Table) (f : ℕ → Bool) (r : ℕ) (y : Register) : Type 0 where
+  none : y ≡ noRegister → Held k t f r y
+  some : (s : ℕ) → s < k → f s ≡ true → writes r (message t s) ≡ true → y ≡ written (message t s) → Held k t f r y
+
+module _ (t : Table) (f : ℕ → Bool) (r : ℕ) where
+  held-suc : {k : ℕ} {y : Register} → Held k t f r y → Held (suc k) t f r y
+  held-suc (none e) = none e
+  held-suc (some s h p q e) = some s (omega arith) p q e
+
+  pub newest-held : (k : ℕ) → Held k t f r (newest k t f r)
+  unfolding newest
+  newest-held zero = none refl
+  newest-held (suc k) =
+      cond-case (Held (suc k) t f r) (f k && writes r (message t k)) _ _
+      (λ e. wins-case (Held (suc k) t f r) _ _ (λ _. some k (omega arith) (and-left _ _ e) (and-right (f k) _ e) refl) (λ _. held-suc (newest-held k)))
+      (λ _. held-suc (newest-held k))
+
+  -- no write that counts is later
+  pub newest-most : (k s : ℕ) → s < k → f s ≡ true → writes r (message t s) ≡ true → NoLater (written (message t s) .stamp) (newest k t f r .stamp)
+  unfolding newest
+  newest-most zero s h = absurd (not-suc-le-zero h)
+  newest-most (suc k) s h =
+      below-suc (λ s. f s ≡ true → writes r (message t s) ≡ true → NoLater (written (message t s) .stamp) (newest (suc k) t f r .stamp)) k
+      (λ p q. rw (p, q) (wins-most (written (message t k)) (newest k t f r) .0))
+      (λ s b p q. later-trans (newest-most k s b p q) grown) s h
+    where
+      grown : NoLater (newest k t f r .stamp) (newest (suc k) t f r .stamp)
+      grown =
+          cond-case (λ (y : Register). NoLater (newest k t f r .stamp) (y .stamp)) (f k && writes r (message t k)) _ _
+          (λ _. wins-most (written (message t k)) (newest k t f r) .1) (λ _. same-later (newest k t f r .stamp))
+
+pub newest-ext : (t : Table) (r k : ℕ) (f g : ℕ → Bool) → ((s : ℕ) → s < k → f s ≡ g s) → newest k t f r ≡ newest k t g r
+unfolding newest
+newest-ext t r zero f g e = refl
+newest-ext t r (suc k) f g e =
+    ap₂ (λ (b : Bool) (y : Register). cond (b && writes r (message t k)) (wins (written (message t k)) y) y) (e k (omega arith))
+    (newest-ext t r k f g (λ s h. e s (omega arith)))
+
+-- ON A WELL-FORMED TABLE
+
+module _ (t : Table) (w : WellFormed t) where
+  write-kind : (r s : ℕ) → writes r (message t s) ≡ true → message t s .payload .kind ≡ 6
+  unfolding writes
+  write-kind r s e = eqb-true (message t s .payload .kind) 6 (and-left _ _ e)
+
+  register-of : (r s : ℕ) → writes r (message t s) ≡ true → message t s .payload .reg ≡ r
+  unfolding writes
+  register-of r s e = eqb-true (message t s .payload .reg) r (and-right (eqb (message t s .payload .kind) 6) _ e)
+
+  -- a write's date is from 1 to the count of messages
+  pub write-date : (r s : ℕ) → s < t .count → writes r (message t s) ≡ true → (0 < message t s .date) × (message t s .date ≤ t .count)
+  unfolding fairDate
+  write-date r s h e =
+      let d = rw (write-kind r s e) at (w .dates s h) in
+      (ltb-true 0 (message t s .date) (and-left _ _ d), leb-true (message t s .date) (t .count) (and-right (ltb 0 (message t s .date)) _ d))
+
+  -- and so a register has a date up to that
+  pub held-date : {f : ℕ → Bool} {r : ℕ} {y : Register} → Held (t .count) t f r y → y .stamp .date ≤ t .count
+  held-date (none e) = rw e (omega arith)
+  held-date {r = r} (some s h p q e) = rw e (write-date r s h q .1)
+
+  -- writes of one register have different stamps, and none is 0, 0: with its stamp a register has its value
+  pub same-stamp-same : {f g : ℕ → Bool} {r : ℕ} {y z : Register} → Held (t .count) t f r y → Held (t .count) t g r z → y .stamp ≡ z .stamp → y ≡ z
+  same-stamp-same (none e) (none d) q = e ∙ sym d
+  same-stamp-same {r = r} (none e) (some s h p v d) q = absurd (omega (arith, write-date r s h v .0, ap (λ (x : Stamp). x .date) (rw (e, d) at q)))
+  same-stamp-same {r = r} (some s h p v e) (none d) q = absurd (omega (arith, write-date r s h v .0, ap (λ (x : Stamp). x .date) (rw (e, d) at q)))
+  same-stamp-same {r = r} (some s h p v e) (some i j u x d) q =
+      e ∙ ap (λ k. written (message t k)) slots ∙ sym d
+    where
+      stamps : written (message t s) .stamp ≡ written (message t i) .stamp
+      stamps = rw (e, d) at q
+
+      slots : s ≡ i
+      slots = w .stamps s i h j (write-kind r s v) (write-kind r i x) (ap (λ (a : Stamp). a .writer) stamps) (register-of r s v ∙ sym (register-of r i x)) (ap (λ (a : Stamp). a .date) stamps)
