@@ -1,7 +1,7 @@
 -- The date of a write: no register has one beyond the most messages of a run, and what the code reads off the registers is the next.
 -- Assumes nothing.
-use mathlib.Core.Path.{_≡_, ap, sym, _∙_}
-use mathlib.Core.Bool.{true}
+use mathlib.Core.Path.{_≡_, refl, ap, sym, _∙_}
+use mathlib.Core.Bool.{true, cond}
 use mathlib.Core.List.{List}
 use Prim.Native.Nat.{ℕ, suc, _+_, _-_, _≤_, _<_}
 use native.Mathlib.Omega.{arith}
@@ -10,21 +10,29 @@ use lib.Dec.{eqb, ltb}
 use borrow.Author.Tests.{ltb-true, leb-true, eq-eqb}
 use Rattle.lists.proofs.Tests.{and-left, and-right, cond-true}
 use Rattle.lists.proofs.Build.{getD-tabulate}
-use Rattle.model.specs.Tables.{capacity, registerCount, noRegister, applied}
+use Rattle.model.specs.Tables.{capacity, registerCount, noRegister, message, applied}
 use Rattle.model.specs.Registers.{registerOf, registers, dateOf}
 use Rattle.model.specs.WellFormed.{fairRegister, wellFormed}
+use Rattle.model.specs.Parts.{whole}
 use Rattle.model.specs.declared.Payload.{Payload}
 use Rattle.model.specs.declared.Register.{Register}
 use Rattle.model.specs.declared.Controller.{Controller}
 use Rattle.model.specs.declared.Table.{Table}
 use Rattle.model.proofs.Tested.{facts}
-use Rattle.model.proofs.Registers.{newest-held, held-date, message-date}
+use Rattle.model.proofs.Registers.{newest-held, held-date, newest-same, message-date}
 use Rattle.totals.specs.Shown.{registersOf}
 use Rattle.totals.proofs.Parts.{registers-part}
 use Rattle.events.specs.Conditions.{Dated}
 
 pub formed-dated : (t : Table) → wellFormed t ≡ true → Dated t
 formed-dated t e s h = let w = facts t e in omega (arith, message-date t w s h, w .counted)
+
+-- a date rests on no controller of the table
+pub date-elsewhere : (t : Table) (C : List Controller) (x : Controller) (p : Payload) → dateOf (whole (t .version) (t .n) (t .count) (t .messages) C) x p ≡ dateOf t x p
+unfolding dateOf registerOf
+date-elsewhere t C x p =
+    ap (λ (y : Register). cond (eqb (p .kind) 6) (y .stamp .date + 1) 0)
+    (newest-same (whole (t .version) (t .n) (t .count) (t .messages) C) t (p .reg) (t .count) (applied x) (applied x) (λ _ _. refl) (λ s _. unfold message in refl))
 
 -- a write has one of the registers
 pub write-place : (p : Payload) → p .kind ≡ 6 → fairRegister p ≡ true → (0 < p .reg) × (p .reg ≤ registerCount)

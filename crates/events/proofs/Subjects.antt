@@ -15,6 +15,7 @@ use Rattle.model.specs.Facts.{Among}
 use Rattle.model.specs.Runs.{lineOf}
 use Rattle.model.specs.Sized.{Sized}
 use Rattle.model.specs.declared.Payload.{Payload}
+use Rattle.model.specs.Parts.{whole}
 use Rattle.model.specs.declared.Message.{Message}
 use Rattle.model.specs.declared.Controller.{Controller}
 use Rattle.model.specs.declared.Table.{Table}
@@ -32,6 +33,7 @@ use Rattle.events.specs.declared.effects.Effect.{Effect}
 use Rattle.events.specs.Effects.{Leaves, noSet, effectOf}
 use Rattle.events.specs.Conditions.{Accepted}
 use Rattle.events.proofs.Accepted.{sendable, handable}
+use Rattle.events.proofs.Dating.{date-elsewhere}
 
 -- THE SUBJECT
 
@@ -74,10 +76,10 @@ stored-else t (Stop c k) x q f = rw f refl
 
 -- the same, of a record that asks for e, whose subject has the index i
 pub stored-as-send : (t : Table) (a : Command) (e : Event) (i c : ℕ) (p : Payload) (x : Controller) (m : Message) → a ≡ Act e → i ≡ subject e - 1 → e ≡ Send c p → x ≡ after t (Send c p)
-    → m ≡ messageOf c (messageNumber (x .length)) (dateOf t x p) p
+    → m ≡ messageOf c (messageNumber (x .length)) (dateOf (whole (t .version) (t .n) (t .count) (t .messages) (set (t .controllers) i x)) x p) p
     → _≡_ {A = Table} (record { version = t .version; n = t .n; count = t .count + 1; messages = set (t .messages) (t .count) m; controllers = set (t .controllers) i x }) (resulting t a)
 unfolding subject resulting
-stored-as-send t a e i c p x m q ei es ex em = rw (q, ei, es) (stored-send t c p x ex m em)
+stored-as-send t a e i c p x m q ei es ex em = rw (q, ei, es) (stored-send t c p x ex m (rw (date-elsewhere t (set (t .controllers) i x) x p) at em))
 
 pub stored-as-else : (t : Table) (a : Command) (e : Event) (i : ℕ) (x : Controller) → a ≡ Act e → i ≡ subject e - 1 → (tagOf event.the-type e ≡ 1) ⊎ (tagOf event.the-type e ≡ 2) → x ≡ after t e
     → _≡_ {A = Table} (record { version = t .version; n = t .n; count = t .count; messages = t .messages; controllers = set (t .controllers) i x }) (resulting t a)

@@ -342,14 +342,15 @@ pub(crate) fn date_of(t: Table, c: Controller, p: Payload) -> u16
     requires { ⌜ Dated t × (fairRegister p ≡ true) ⌝ }
     ensures { λ r. ⌜ r ≡ dateOf t c p ⌝ }
 {
-    if p.kind != Payload::WRITE {
+    let kind = p.kind;
+    if kind != Payload::WRITE {
         return 0;
     }
+    let i = p.reg as usize - 1;
     let messages = t.messages;
     let applied = c.applied;
     let registers = totals::registers(t.count, messages, applied);
-    let place = p.reg as usize - 1;
-    let register = registers[place];
+    let register = registers[i];
     register.stamp.date + 1
 }
 

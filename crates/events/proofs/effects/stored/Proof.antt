@@ -9,13 +9,14 @@ use Rattle.model.specs.declared.Event.{Event}
 use Rattle.model.specs.declared.Event.the-variants.{Send}
 use Rattle.events.specs.Effects.{Leaves}
 use Rattle.events.proofs.Accepted.{Sendable, sendable}
+use Rattle.events.proofs.Dating.{formed-dated}
 use Rattle.events.proofs.Subjects.{subject-seated, sent-length, stored-send, stored-else}
 use Rattle.events.proofs.effects.stored.Statement.{statement}
 use Rattle.events.proofs.effects.stored.Tie as tie
 
 -- PLACES: from behind the message to behind the test of the kind, and from there to the start
 abbrev kind : tie.After-of2 → tie.After-e
-kind c = c .before .before .before .before
+kind c = c .before .before .before .before .before
 
 abbrev start : tie.After-e → tie.Start
 start c = c .before .before .before
@@ -27,8 +28,8 @@ seat c = rw (c .subject .ensures) (subject-seated _ _ (c .before .pre .0))
 leaves : (c : tie.After-e) → Leaves (start c .args .t) (Send (c .e .given .0 .0) (c .e .given .0 .1 .0)) (start c .args .c)
 leaves c = subst (λ (e : Event). Leaves (start c .args .t) e (start c .args .c)) (c .e .given .1) (start c .pre)
 
-room : (c : tie.After-of2) → Sendable (start (kind c) .args .t) (kind c .e .given .0 .0)
-room c = sendable _ _ _ (leaves (kind c) .0)
+room : (c : tie.After-e) → Sendable (start c .args .t) (c .e .given .0 .0) (c .e .given .0 .1 .0)
+room c = sendable _ _ _ (leaves c .0)
 
 subject-requires : tie.Need-subject-requires
 subject-requires c κs = search needs
@@ -57,23 +58,26 @@ cast-of c = omega (arith, sent-length _ _ _ _ (leaves (c .before .before)))
 of-requires : tie.Need-of-requires
 of-requires c κs = search needs
 
+date-of-requires : tie.Need-date-of-requires
+date-of-requires c κs = let k = c .before .before .before in (formed-dated _ (leaves k .0 .0), room k .register)
+
 of-requires-2 : tie.Need-of-requires-2
 of-requires-2 c κs = search needs
 
-mul-t11 : tie.Need-mul-t11
-mul-t11 c = omega (arith, room c .slot)
+mul-t12 : tie.Need-mul-t12
+mul-t12 c = omega (arith, room (kind c) .slot)
 
 element-set-from-next : tie.Need-element-set-from-next
-element-set-from-next c = room c .slot
+element-set-from-next c = room (kind c) .slot
 
 add-next : tie.Need-add-next
-add-next c = omega (arith, room c .slot)
+add-next c = omega (arith, room (kind c) .slot)
 
 returns-2 : tie.Need-returns-2
 unfolding subject
 returns-2 c =
     rw (kind c .before .before .subject .ensures, kind c .e .given .1)
-    (stored-send _ _ _ _ (leaves (kind c) .1) _ (rw (c .before .of .ensures) at (c .of2 .ensures)))
+    (stored-send _ _ _ _ (leaves (kind c) .1) _ (rw (c .before .before .of .ensures, c .before .date-of .ensures) at (c .of2 .ensures)))
 
 pub stored-spec : {M : Type 1} → statement M
 stored-spec =
@@ -88,8 +92,9 @@ stored-spec =
     returns
     cast-of
     of-requires
+    date-of-requires
     of-requires-2
-    mul-t11
+    mul-t12
     element-set-from-next
     add-next
     returns-2)

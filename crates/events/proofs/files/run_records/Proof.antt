@@ -6,7 +6,7 @@ use native.Mathlib.Omega.{arith}
 use lib.ListN.{length}
 use borrow.Author.Needs.{needs}
 use denote.Ref.{now}
-use Rattle.model.specs.Tables.{seats}
+use Rattle.model.specs.Tables.{seats, message}
 use Rattle.model.specs.Events.{subject}
 use Rattle.model.specs.Records.{decode}
 use Rattle.model.specs.declared.Event.{Event}
@@ -18,6 +18,7 @@ use Rattle.events.specs.declared.files.Ahead.{Ahead}
 use Rattle.events.specs.Turns.{seatsOf, aheadOf}
 use Rattle.events.specs.Effects.{Leaves}
 use Rattle.events.proofs.Accepted.{Sendable, sendable}
+use Rattle.events.proofs.Dating.{formed-dated}
 use Rattle.events.proofs.Subjects.{subject-seated, sent-length, stored-as-send, stored-as-else, read-stays}
 use Rattle.events.proofs.Asking.{command-read}
 use Rattle.events.proofs.Reading.{seat-is, seats-low, allowed-at}
@@ -34,7 +35,7 @@ abbrev μ-loop : tie.MeasureT-loop
 
 -- PLACES: from behind the message to the test of the kind, what was stored, the bytes left and the turn
 abbrev kind : tie.After-of2 Inv-loop μ-loop → tie.After-e Inv-loop μ-loop
-kind c = c .before .before .before .before
+kind c = c .before .before .before .before .before
 
 abbrev kept : tie.After-e Inv-loop μ-loop → tie.After-c Inv-loop μ-loop
 kept c = c .before .before
@@ -111,8 +112,8 @@ sends c =
     let d = turned (went (commanded (kept c))) in
     subst (λ (x : Event). Leaves (loop d .loop .table) x (d .turn .result .controller)) (c .e .given .1) (leaves (commanded (kept c)))
 
-room : (c : tie.After-of2 Inv-loop μ-loop) → Sendable (loop (turned (went (commanded (kept (kind c))))) .loop .table) (kind c .e .given .0 .0)
-room c = sendable _ _ _ (sends (kind c) .0)
+room : (c : tie.After-e Inv-loop μ-loop) → Sendable (loop (turned (went (commanded (kept c)))) .loop .table) (c .e .given .0 .0) (c .e .given .0 .1 .0)
+room c = sendable _ _ _ (sends c .0)
 
 -- fewer bytes are left
 fewer : (c : tie.After-behind2 Inv-loop μ-loop) → length (now (c .behind2 .result)) < length (loop (done c) .loop .left .now)
@@ -224,17 +225,21 @@ cast-of c = omega (arith, sent-length _ _ _ _ (sends (c .before .before)))
 of-requires : tie.Need-of-requires Inv-loop μ-loop
 of-requires c κs = search needs
 
+date-of-requires : tie.Need-date-of-requires Inv-loop μ-loop
+unfolding message
+date-of-requires c κs = let k = c .before .before .before in (formed-dated _ (sends k .0 .0), room k .register)
+
 of-requires-2 : tie.Need-of-requires-2 Inv-loop μ-loop
 of-requires-2 c κs = search needs
 
-mul-t27 : tie.Need-mul-t27 Inv-loop μ-loop
-mul-t27 c = omega (arith, room c .slot)
+mul-t28 : tie.Need-mul-t28 Inv-loop μ-loop
+mul-t28 c = omega (arith, room (kind c) .slot)
 
 element-set-from-table : tie.Need-element-set-from-table Inv-loop μ-loop
-element-set-from-table c = room c .slot
+element-set-from-table c = room (kind c) .slot
 
 add-table : tie.Need-add-table Inv-loop μ-loop
-add-table c = omega (arith, room c .slot)
+add-table c = omega (arith, room (kind c) .slot)
 
 loop-less-4 : tie.Need-loop-less-4 Inv-loop μ-loop
 loop-less-4 c = fewer (went (commanded (kept (kind c))) .before)
@@ -246,7 +251,7 @@ loop-again-4 c =
     let g = went k in
     let d = turned g in
     run-goes-on _ _ _ _ _ _ _ _ (loop d .loop .inv) (some d .loop-test .taken) _ _ _ (d .turn .ensures) _ (g .before .behind2 .ensures) _
-    (λ _. stored-as-send _ _ _ _ _ _ _ _ (event-is k) (seat k) (e .e .given .1) (sends e .1) (rw (c .before .of .ensures) at (c .of2 .ensures)))
+    (λ _. stored-as-send _ _ _ _ _ _ _ _ (event-is k) (seat k) (e .e .given .1) (sends e .1) (rw (c .before .before .of .ensures, c .before .date-of .ensures) at (c .of2 .ensures)))
     (λ n. absurd (n (g .if1 .left)))
 
 same-length : tie.Need-same-length Inv-loop μ-loop
@@ -291,8 +296,9 @@ run-records-spec =
     loop-again-3
     cast-of
     of-requires
+    date-of-requires
     of-requires-2
-    mul-t27
+    mul-t28
     element-set-from-table
     add-table
     loop-less-4
