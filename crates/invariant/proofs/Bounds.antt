@@ -46,11 +46,11 @@ fair-parts p e = kinds (or-cases (eqb (p .kind) 1 && (fairMagnitude (p .added) &
         one (inl z) (omega arith) (magnitude-bound (p .withdrawn) (and-right (eqb (p .added) 0) _ q))
 
     kinds : (eqb (p .kind) 1 && (fairMagnitude (p .added) && eqb (p .withdrawn) 0 || eqb (p .added) 0 && fairMagnitude (p .withdrawn)) ≡ true)
-        ⊎ (eqb (p .kind) 2 && (eqb (p .added) 0 && eqb (p .withdrawn) 0) ≡ true)
+        ⊎ ((eqb (p .kind) 2 || eqb (p .kind) 6) && (eqb (p .added) 0 && eqb (p .withdrawn) 0) ≡ true)
         → FairParts p
     kinds (inl q) = amounts (or-cases (fairMagnitude (p .added) && eqb (p .withdrawn) 0) _ (and-right (eqb (p .kind) 1) _ q))
     kinds (inr q) =
-        let r = and-right (eqb (p .kind) 2) _ q in
+        let r = and-right (eqb (p .kind) 2 || eqb (p .kind) 6) _ q in
         let a = eqb-true (p .added) 0 (and-left _ _ r) in
         let w = eqb-true (p .withdrawn) 0 (and-right (eqb (p .added) 0) _ r) in
         one (inl a) (omega arith) (omega arith)

@@ -38,6 +38,14 @@ module _ (t : Table) (c : Controller) (S : Slots) where
       go true = refl
       go false = refl
 
+  -- what was buffered or applied still is
+  pub delivered-known : (s : ℕ) → s < capacity → (held c s || applied c s) ≡ true → (held (deliver t c S) s || applied (deliver t c S) s) ≡ true
+  delivered-known s h e = rw (delivered-held s h, delivered-applied s h) (go (has S s) (held c s) e)
+    where
+      go : (b k : Bool) → (k || applied c s) ≡ true → (not b && k || (b || applied c s)) ≡ true
+      go true k e = refl
+      go false k e = e
+
   pub delivered-highest : (x : ℕ) → Among seats x → highest (deliver t c S) x ≡ max (highest c x) (highestIn t S x)
   unfolding deliver
   delivered-highest x h =

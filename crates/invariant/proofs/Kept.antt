@@ -65,6 +65,10 @@ fresh-well-formed {v} {n} a = record {
   numbers = λ s h. absurd (not-suc-le-zero h);
   amounts = λ s h. absurd (not-suc-le-zero h);
   classes = λ s h. absurd (not-suc-le-zero h);
+  registers = λ s h. absurd (not-suc-le-zero h);
+  dates = λ s h. absurd (not-suc-le-zero h);
+  stamps = λ i j h. absurd (not-suc-le-zero h);
+  kept = λ s h. absurd (not-suc-le-zero h);
   controllers = λ c h. rw (at-fresh v n c (omega (arith, a .few))) (idle-good v n c (a .few));
 }
 

@@ -239,12 +239,12 @@ listing-fits s room space q h =
 -- HOW MANY EVENTS
 
 -- a record has at least three bytes, its length byte counted
-size-least : (v k : ℕ) → 0 < k → k ≤ 5 → 2 ≤ sizeOf v k
+size-least : (v k : ℕ) → 0 < k → k ≤ 6 → 2 ≤ sizeOf v k
 unfolding sizeOf all
-size-least v (suc k) l h = cond-case (λ n. 2 ≤ getD (n ∷ 2 ∷ 3 ∷ 4 ∷ 2 ∷ []) k 0) (eqb v 2) 5 4 (λ _. each 5 refl) (λ _. each 4 refl)
+size-least v (suc k) l h = cond-case (λ n. 2 ≤ getD (n ∷ 2 ∷ 3 ∷ 4 ∷ 2 ∷ 7 ∷ []) k 0) (eqb v 2) 5 4 (λ _. each 5 refl) (λ _. each 4 refl)
   where
-    each : (n : ℕ) → all 5 (λ j. leb 2 (getD (n ∷ 2 ∷ 3 ∷ 4 ∷ 2 ∷ []) j 0)) ≡ true → 2 ≤ getD (n ∷ 2 ∷ 3 ∷ 4 ∷ 2 ∷ []) k 0
-    each n e = leb-true 2 _ (all-at 5 (λ j. leb 2 (getD (n ∷ 2 ∷ 3 ∷ 4 ∷ 2 ∷ []) j 0)) e k (omega arith))
+    each : (n : ℕ) → all 6 (λ j. leb 2 (getD (n ∷ 2 ∷ 3 ∷ 4 ∷ 2 ∷ 7 ∷ []) j 0)) ≡ true → 2 ≤ getD (n ∷ 2 ∷ 3 ∷ 4 ∷ 2 ∷ 7 ∷ []) k 0
+    each n e = leb-true 2 _ (all-at 6 (λ j. leb 2 (getD (n ∷ 2 ∷ 3 ∷ 4 ∷ 2 ∷ 7 ∷ []) j 0)) e k (omega arith))
 
 accepted-size : (v : ℕ) (s : List ℕ) → firstNo (recordQuestions v s) ≡ 0 → 2 ≤ size s
 unfolding recordQuestions kindQuestions
@@ -256,7 +256,7 @@ accepted-size v s e =
     omega (
       arith,
       eqb-true (size s) (sizeOf v (kind s)) (q7 .0),
-      size-least v (kind s) (ltb-true 0 (kind s) (and-left _ _ k)) (leb-true (kind s) 5 (and-right (ltb 0 (kind s)) _ k)),
+      size-least v (kind s) (ltb-true 0 (kind s) (and-left _ _ k)) (leb-true (kind s) 6 (and-right (ltb 0 (kind s)) _ k)),
     )
 
 length-behind : (s : List ℕ) → length (behind s) ≡ length s - (size s + 1)

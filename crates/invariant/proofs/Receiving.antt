@@ -1,7 +1,7 @@
 -- An allowed handover keeps a well-formed table well formed: the receiver reads an entry, passes it over, marks or forwards
 -- it, and applies a set of what it has buffered. Assumes nothing.
 use mathlib.Core.Path.{_≡_, refl, _∙_}
-use mathlib.Core.Bool.{true, false, cond}
+use mathlib.Core.Bool.{true, false, _||_, cond}
 use Prim.Native.Nat.{ℕ, _+_, _≤_, _<_}
 use native.Mathlib.Omega.{arith}
 use native.Mathlib.Decide.{ℕ-discrete}
@@ -9,20 +9,21 @@ use lib.Dec.{leb}
 use borrow.Author.Tests.{leb-false, eq-eqb}
 use Rattle.lists.proofs.Tests.{refuted}
 use Rattle.lists.proofs.Below.{greatest-ge}
-use Rattle.model.specs.Tables.{capacity, yes?, at, message, place, entry, held, applied, highest, unheld, withRead, withController}
+use Rattle.model.specs.Tables.{capacity, yes?, at, message, place, entry, held, applied, highest, unheld, withEntry, withRead, withController}
 use Rattle.model.specs.Delivery.{has}
 use Rattle.model.specs.Events.{numberOf, forward, nextSlot, received, handoverSet, deliver}
 use Rattle.model.specs.Sized.{Sized, SizedController}
 use Rattle.model.specs.WellFormed.{inLog, greatestApplied}
+use Rattle.model.specs.declared.Message.{Message}
 use Rattle.model.specs.declared.Controller.{Controller}
 use Rattle.model.specs.declared.Table.{Table}
 use Rattle.model.specs.Facts.{Among, GoodController, WellFormed}
 use Rattle.model.proofs.Allowed.{HandoverAllowed}
 use Rattle.model.proofs.Largest.{applicable-held}
-use Rattle.invariant.proofs.Stores.{seated, at-sized, read-place, read-place-other, forward-case}
-use Rattle.invariant.proofs.Sizes.{read-sized}
+use Rattle.invariant.proofs.Stores.{seated, at-sized, read-place, read-place-other, marked-known, forward-case}
+use Rattle.invariant.proofs.Sizes.{read-sized, entered-sized}
 use Rattle.invariant.proofs.Buffering.{unheld-marks, marked-good, entered-good}
-use Rattle.invariant.proofs.Delivering.{delivered-good}
+use Rattle.invariant.proofs.Delivering.{delivered-known, delivered-good}
 use Rattle.invariant.proofs.Replacing.{but-one, replaced}
 
 -- no applied number is above the highest
@@ -57,6 +58,14 @@ forward-good t w i c g z running s run o k low high =
   where
     unapplied : leb (message t s .number .0) (highest c (message t s .sender)) ≡ false → applied c s ≡ false
     unapplied = above-unapplied t w i c g s run
+
+-- what was buffered or applied still is
+forward-known : (c : Controller) (m : Message) (s o k : ℕ) → SizedController c → s < capacity
+    → (r : ℕ) → (held c r || applied c r) ≡ true → (held (forward c m s o k) r || applied (forward c m s o k) r) ≡ true
+forward-known c m s o k z h r e =
+    forward-case (λ x. (held x r || applied x r) ≡ true) c m s o k (λ _. e)
+    (λ _ _. marked-known c s (entry (c .pending) s .marks) o k z h r e)
+    (λ _ _. marked-known (withEntry c s) s (unheld .marks) o k (entered-sized c s z) h r e)
 
 -- a receiver's log only grows
 pub received-longer : (t : Table) (r o : ℕ) → at t r .length ≤ received t r o .length
@@ -104,9 +113,18 @@ module _ (t : Table) (w : WellFormed t) (z : Sized t) (r o : ℕ) (a : HandoverA
   pub receiver-good : GoodController t r (deliver t (received t r o) (handoverSet t r o))
   receiver-good = delivered-good t r (received t r o) received-good (w .few) (w .counted) (handoverSet t r o) applied-held
 
+  receiver-known : (s : ℕ) → s < t .count → (held (at t r) s || applied (at t r) s) ≡ true
+      → (held (deliver t (received t r o) (handoverSet t r o)) s || applied (deliver t (received t r o) (handoverSet t r o)) s) ≡ true
+  unfolding received
+  receiver-known s h e =
+      delivered-known t (received t r o) (handoverSet t r o) s (omega (arith, w .counted))
+      (forward-known (withRead (at t r) o) (message t (nextSlot t r o)) (nextSlot t r o) o (place (at t r) o + 1) (read-sized (at t r) o receiver-sized)
+      (omega (arith, w .counted, next-slot-run t w r o a)) s e)
+
   pub handover-well-formed : WellFormed (withController t r (deliver t (received t r o) (handoverSet t r o)))
   unfolding deliver
   handover-well-formed =
       replaced t r (deliver t (received t r o) (handoverSet t r o)) z (but-one t r w) (a .receiver) receiver-good
       (omega (arith, receiver-good .places r (a .receiver), received-longer t r o))
       (λ q h _. omega (arith, w .controllers q h .places r (a .receiver), received-longer t r o))
+      (λ s h k e _. receiver-known s h (rw e at (w .kept s h k) (a .running)))

@@ -1,4 +1,4 @@
--- The numbers that a step can give: 0, 5 to 15, 17 or 18. Assumes nothing.
+-- The numbers that a step can give: 0, 5 to 15 or 17 to 20. Assumes nothing.
 use mathlib.Core.Path.{_≡_, refl}
 use mathlib.Core.Logic.{_≢_, _⊎_, inl, inr}
 use mathlib.Core.List.{List, [], _∷_, _++_}
@@ -13,7 +13,7 @@ use Rattle.model.specs.declared.Command.{Command}
 use Rattle.model.specs.declared.Command.the-variants.{Act, Read}
 
 abbrev pub StepNumber : ℕ → Type 0
-StepNumber k = (5 ≤ k) × (k ≤ 18) × (k ≢ 16)
+StepNumber k = (5 ≤ k) × (k ≤ 20) × (k ≢ 16)
 
 -- every question has such a number
 abbrev Numbers : List Question → Type 0

@@ -29,4 +29,4 @@ stopped-good t i c k g l = record {
 pub stop-well-formed : (t : Table) → WellFormed t → Sized t → (c k : ℕ) → StopAllowed t c k → WellFormed (withController t c (withStop (at t c) k))
 stop-well-formed t w z c k a =
     replaced t c (withStop (at t c) k) z (but-one t c w) (a .controller) (stopped-good t c (at t c) k (w .controllers c (a .controller)) (a .within))
-    (a .read-kept c (a .controller)) (λ r h _. a .read-kept r h)
+    (a .read-kept c (a .controller)) (λ r h _. a .read-kept r h) (λ s h k e r. absurd (false≢true r))

@@ -1,6 +1,6 @@
 -- What is read after one controller, or one entry of its buffer, is replaced. Assumes nothing.
 use mathlib.Core.Path.{_≡_, ap}
-use mathlib.Core.Bool.{true, false}
+use mathlib.Core.Bool.{true, false, _||_}
 use mathlib.Core.Logic.{_≢_}
 use mathlib.Core.List.{List}
 use Prim.Native.Nat.{ℕ, _+_, _-_, _≤_, _<_}
@@ -9,8 +9,8 @@ use native.Mathlib.Decide.{ℕ-discrete}
 use lib.ListN.{length, getD, set}
 use lib.Dec.{leb}
 use lib.Seq.{getD-set-same, getD-set-other}
-use Rattle.lists.proofs.Tests.{cond-case}
-use Rattle.model.specs.Tables.{seats, capacity, yes?, at, message, place, entry, held, mark, highest, unheld, noController, noMessage, noPending, forwardNumber, withController, withMessage, withEntry, withRead, withMark}
+use Rattle.lists.proofs.Tests.{or-left, cond-case}
+use Rattle.model.specs.Tables.{seats, capacity, yes?, at, message, place, entry, held, mark, applied, highest, unheld, noController, noMessage, noPending, forwardNumber, withController, withMessage, withEntry, withRead, withMark}
 use Rattle.model.specs.Events.{forward}
 use Rattle.model.specs.Sized.{Sized, SizedController}
 use Rattle.model.specs.declared.ForwardNumber.{ForwardNumber}
@@ -76,6 +76,14 @@ module _ (c : Controller) (s : ℕ) (ms : List ForwardNumber) (o k : ℕ) where
 
   pub marked-held-other : (r : ℕ) → r ≢ s → held (withMark c s ms o k) r ≡ held c r
   marked-held-other r f = ap (λ (p : Pending). yes? (p .held)) (marked-entry-other r f)
+
+  -- what was buffered or applied still is
+  pub marked-known : SizedController c → s < capacity → (r : ℕ) → (held c r || applied c r) ≡ true → (held (withMark c s ms o k) r || applied c r) ≡ true
+  marked-known z h r e = go (ℕ-discrete r s)
+    where
+      go : Dec (r ≡ s) → (held (withMark c s ms o k) r || applied c r) ≡ true
+      go (yes q) = or-left {a = held (withMark c s ms o k) r} (applied c r) (rw q (marked-held z h))
+      go (no q) = rw (marked-held-other r q) e
 
 -- AN ENTRY READ: passed over, marked, or buffered and forwarded
 
