@@ -76,18 +76,13 @@ abbrev pub Comparable : Ledger → Ledger → Type 0
 Comparable l k = (c d : ℕ) → Contains (applied l c) (applied k d) ⊎ Contains (applied k d) (applied l c)
 
 pub comparable : {n : ℕ} {s₀ : State} {t u : Table} {l k : Ledger} → Later n s₀ t u l k → Comparable l k
-comparable {n} {s₀} {t} {u} {l} {k} w c d = go (naming n c) (naming n d)
+comparable {n} {s₀} {t} {u} {l} {k} w c d = go (w .first) (w .second) (naming n c) (naming n d)
   where
-    abbrev m : Moment n s₀ t l
-    m = w .first
-
-    abbrev m′ : Moment n (m .state) u k
-    m′ = w .second
-
-    go : Dec (Among n c) → Dec (Among n d) → Contains (applied l c) (applied k d) ⊎ Contains (applied k d) (applied l c)
-    go (no f) y = inr (λ x e. absurd (f (applied-named (m .recorded) c x e)))
-    go (yes x) (no f) = inl (λ x e. absurd (f (applied-named (m′ .recorded) d x e)))
-    go (yes x) (yes y) = elim (containment (system n) (m .state) (m′ .state) (m .related .all) (m′ .run) (c - 1) (d - 1)) [
+    go : (m : Moment n s₀ t l) → Moment n (m .state) u k → Dec (Among n c) → Dec (Among n d)
+        → Contains (applied l c) (applied k d) ⊎ Contains (applied k d) (applied l c)
+    go m m′ (no f) y = inr (λ x e. absurd (f (applied-named (m .recorded) c x e)))
+    go m m′ (yes x) (no f) = inl (λ x e. absurd (f (applied-named (m′ .recorded) d x e)))
+    go m m′ (yes x) (yes y) = elim (containment (system n) (m .state) (m′ .state) (m .related .all) (m′ .run) (c - 1) (d - 1)) [
       | inl w ↦ inr (subset-contains (m .related) (m .recorded) (m′ .related) (m′ .recorded) c d x y w)
       | inr w ↦ inl (subset-contains (m′ .related) (m′ .recorded) (m .related) (m .recorded) d c y x w)
     ]

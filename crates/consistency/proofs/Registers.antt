@@ -1,13 +1,12 @@
 -- Registers: those that the ledger gives are those that the table holds, and so no two writes of one have the same stamp, fewer messages give
 -- none a later stamp, and a stamp has one value; and a later ledger still gives those of an earlier one. Assumes nothing.
 use mathlib.Core.Path.{_≡_, refl, sym, ap, _∙_}
-use mathlib.Core.Bool.{Bool, true, false, _&&_, cond}
+use mathlib.Core.Bool.{Bool, true, _&&_, cond}
 use mathlib.Core.List.{List, [], _∷_, _++_, map, map-append, append-nil, append-assoc, foldl, foldl-append}
 use Prim.Native.Nat.{ℕ, zero, suc, _+_, _<_}
-use native.Mathlib.Nat.{add-zero}
 use native.Mathlib.Omega.{arith}
-use lib.ListN.{length, getD, length-append}
-use lib.Seq.{getD-append-add}
+use lib.ListN.{length, length-append}
+use lib.Seq.{getD-at}
 use lib.Dec.{eqb}
 use borrow.Author.Tests.{eqb-true}
 use Rattle.lists.specs.Build.{tabulateFrom, tabulate}
@@ -24,18 +23,22 @@ use Rattle.model.specs.declared.Table.{Table}
 use Rattle.model.specs.declared.Event.the-variants.{Send, Handover, Stop}
 use Rattle.model.specs.Facts.{Among}
 use Rattle.model.proofs.Registers.{NoLater as StampNoLater, no-later, zero-first, Held, none, some, newest-held, newest-most, newest-ext, same-stamp-same}
-use Rattle.consistency.specs.Demand3.{same, has, Distinct, Step, carried, Sent, Ledger, applied, writes, written, newest, registerAt, dateFor, moved, sentNames, Contains, Exactly, NoLater}
+use Rattle.consistency.specs.Demand3.{same, has, Step, carried, Sent, Ledger, applied, writes, written, newest, registerAt, dateFor, moved, sentNames, Contains, Exactly, NoLater}
 use Rattle.consistency.proofs.Names.{same-self, Apart, apart-of}
 use Rattle.consistency.proofs.SlotNames.{nameAt}
-use Rattle.consistency.proofs.Ledger.{saidOf, sentOf, sentAt, Recorded, slot-sent, distinct-sent}
+use Rattle.consistency.proofs.Ledger.{saidOf, sentAt, Recorded, slot-sent, distinct-sent}
 
 -- BY SLOTS
+
+-- the slots of messages
+abbrev among : Table → List Name → ℕ → Bool
+among t ms j = has (nameAt t j) ms
 
 -- one message more
 abbrev turn : ℕ → List Name → Register → Sent → Register
 turn r ms y x = cond (has (x .name) ms && writes r x) (wins (written x) y) y
 
-newest-slots : (t : Table) (r : ℕ) (ms : List Name) (k : ℕ) → newest r (tabulate k (sentAt t)) ms ≡ newestIn k t (λ j. has (nameAt t j) ms) r
+newest-slots : (t : Table) (r : ℕ) (ms : List Name) (k : ℕ) → newest r (tabulate k (sentAt t)) ms ≡ newestIn k t (among t ms) r
 unfolding newest newestIn writes writesOf tabulate tabulateFrom
 newest-slots t r ms zero = refl
 newest-slots t r ms (suc k) =
@@ -44,7 +47,7 @@ newest-slots t r ms (suc k) =
     ∙ ap (λ (y : Register). turn r ms y (sentAt t k)) (newest-slots t r ms k)
 
 module _ {n : ℕ} {t : Table} {l : Ledger} (p : Recorded n t l) where
-  newest-has : (r : ℕ) (ms : List Name) → newest r (l .sent) ms ≡ newestIn (t .count) t (λ j. has (nameAt t j) ms) r
+  newest-has : (r : ℕ) (ms : List Name) → newest r (l .sent) ms ≡ newestIn (t .count) t (among t ms) r
   newest-has r ms = ap (λ (xs : List Sent). newest r xs ms) (p .sent) ∙ newest-slots t r ms (t .count)
 
   pub register-held : (c : ℕ) → Among n c → (r : ℕ) → registerAt l c r ≡ registerOf t (at t c) r
@@ -64,19 +67,19 @@ module _ {n : ℕ} {t : Table} {l : Ledger} (p : Recorded n t l) where
 
   -- one within the other
   pub fewer-no-later : (ms ks : List Name) → Contains ks ms → NoLater (λ r. newest r (l .sent) ms) (λ r. newest r (l .sent) ks)
-  fewer-no-later ms ks w r = rw (newest-has r ms, newest-has r ks) (no-later _ _ (go (newest-held t (λ j. has (nameAt t j) ms) r (t .count))))
+  fewer-no-later ms ks w r = rw (newest-has r ms, newest-has r ks) (no-later _ _ (go (newest-held t (among t ms) r (t .count))))
     where
-      go : {y : Register} → Held (t .count) t (λ j. has (nameAt t j) ms) r y
-          → StampNoLater (y .stamp) (newestIn (t .count) t (λ j. has (nameAt t j) ks) r .stamp)
+      go : {y : Register} → Held (t .count) t (among t ms) r y
+          → StampNoLater (y .stamp) (newestIn (t .count) t (among t ks) r .stamp)
       go (none e) = rw e (zero-first _)
-      go (some s b f q e) = rw e (newest-most t (λ j. has (nameAt t j) ks) r (t .count) s b (w (nameAt t s) f) q)
+      go (some s b f q e) = rw e (newest-most t (among t ks) r (t .count) s b (w (nameAt t s) f) q)
 
   -- any two
   pub same-stamp-same-register : (r : ℕ) (ms ks : List Name) → newest r (l .sent) ms .stamp ≡ newest r (l .sent) ks .stamp
       → newest r (l .sent) ms ≡ newest r (l .sent) ks
   same-stamp-same-register r ms ks =
       rw (newest-has r ms, newest-has r ks)
-      (same-stamp-same t (p .formed) (newest-held t (λ j. has (nameAt t j) ms) r (t .count)) (newest-held t (λ j. has (nameAt t j) ks) r (t .count)))
+      (same-stamp-same t (p .formed) (newest-held t (among t ms) r (t .count)) (newest-held t (among t ks) r (t .count)))
 
   -- DIFFERENT STAMPS
 
@@ -85,13 +88,7 @@ module _ {n : ℕ} {t : Table} {l : Ledger} (p : Recorded n t l) where
   placed xs x ys e =
       let q : tabulate (t .count) (sentAt t) ≡ xs ++ (x ∷ ys) = sym (p .sent) ∙ e in
       let b : length xs < t .count = omega (arith, length-append xs (x ∷ ys), ap length q, length-tabulate (t .count) (sentAt t)) in
-      (
-        b,
-        sym (getD-tabulate (t .count) (sentAt t) x (length xs) b)
-        ∙ ap (λ (zs : List Sent). getD zs (length xs) x) q
-        ∙ ap (λ k. getD (xs ++ (x ∷ ys)) k x) (sym (add-zero (length xs)))
-        ∙ getD-append-add xs (x ∷ ys) 0 x,
-      )
+      (b, sym (getD-tabulate (t .count) (sentAt t) x (length xs) b) ∙ rw q (getD-at xs x ys x (length xs) refl))
 
   same-stamp-same-slot : (r i j : ℕ) → i < t .count → j < t .count → writes r (sentAt t i) ≡ true → writes r (sentAt t j) ≡ true
       → written (sentAt t i) .stamp ≡ written (sentAt t j) .stamp → i ≡ j
@@ -108,10 +105,12 @@ module _ {n : ℕ} {t : Table} {l : Ledger} (p : Recorded n t l) where
   stamps-differ r x y before between after e wx wy s =
       let i = placed before x (between ++ (y ∷ after)) e in
       let j = placed (before ++ (x ∷ between)) y after (e ∙ sym (append-assoc before (x ∷ between) (y ∷ after))) in
+      let stamp : Sent → Stamp = λ z. written z .stamp in
       omega (
         arith,
         length-append before (x ∷ between),
-        same-stamp-same-slot r _ _ (i .0) (j .0) (rw (i .1) wx) (rw (j .1) wy) (rw (i .1, j .1) s),
+        same-stamp-same-slot r (length before) (length (before ++ (x ∷ between))) (i .0) (j .0) (ap (writes r) (i .1) ∙ wx) (ap (writes r) (j .1) ∙ wy)
+            (ap stamp (i .1) ∙ (s ∙ sym (ap stamp (j .1)))),
       )
 
 -- A LATER LEDGER
@@ -134,8 +133,11 @@ grown l (x ∷ xs) =
     let b = grown (moved l x) xs in
     record { more = a .more ++ b .more; is = b .is ∙ (ap (λ (ys : List Sent). ys ++ b .more) (a .is) ∙ append-assoc (l .sent) (a .more) (b .more)) }
 
+abbrev names : List Sent → List Name
+names xs = map (λ x. x .name) xs
+
 -- messages that are not among ms change no register
-skipped : (r : ℕ) (ms : List Name) (xs : List Sent) → Apart ms (map (λ (x : Sent). x .name) xs) → (y : Register) → foldl (turn r ms) y xs ≡ y
+skipped : (r : ℕ) (ms : List Name) (xs : List Sent) → Apart ms (names xs) → (y : Register) → foldl (turn r ms) y xs ≡ y
 unfolding has
 skipped r ms [] a y = refl
 skipped r ms (x ∷ xs) a y =
@@ -149,8 +151,8 @@ unfolding newest
 register-later {l = l} {k = k} p q g c r =
     sym (rw (g .is) (foldl-append (turn r (applied l c)) noRegister (l .sent) (g .more) ∙ skipped r (applied l c) (g .more) new _))
   where
-    names : sentNames k ≡ sentNames l ++ map (λ (x : Sent). x .name) (g .more)
-    names = ap (map (λ (x : Sent). x .name)) (g .is) ∙ map-append (λ (x : Sent). x .name) (l .sent) (g .more)
+    sent : sentNames k ≡ sentNames l ++ names (g .more)
+    sent = ap names (g .is) ∙ map-append (λ (x : Sent). x .name) (l .sent) (g .more)
 
-    new : Apart (applied l c) (map (λ (x : Sent). x .name) (g .more))
-    new m e = apart-of (sentNames l) _ (rw names at (distinct-sent q)) m (slot-sent p m (p .applied-sent c m e))
+    new : Apart (applied l c) (names (g .more))
+    new m e = apart-of (sentNames l) _ (rw sent at (distinct-sent q)) m (slot-sent p m (p .applied-sent c m e))

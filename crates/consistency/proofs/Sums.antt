@@ -1,5 +1,5 @@
--- Sums over names: of any weight of a message they depend on the members alone, and what a panel shows is that of what was applied, for
--- each part of a fair amount is what the payload keeps of it, and so are the registers. Assumes nothing.
+-- Sums over names: of any weight of a message they depend on the members alone; and what a panel shows, its registers too, is that of what was
+-- applied, for each part of a fair amount is what the payload keeps of it. Assumes nothing.
 use mathlib.Core.Path.{_≡_, refl, sym, ap, ap₂, subst, fun-ext, _∙_}
 use mathlib.Core.Bool.{Bool, true, false, cond, Bool·not-not}
 use mathlib.Core.Logic.{_⊎_, inl, inr}
@@ -115,7 +115,7 @@ inClass k w = record {
 -- the panel that shows a number of each weight, and these registers
 abbrev panel : (Weight → ℕ) → (ℕ → Register) → Panel
 panel f g =
-    let both : (Weight → Weight) → Sums = λ g. record { added = f (g added); withdrawn = f (g withdrawn) } in
+    let both : (Weight → Weight) → Sums = λ v. record { added = f (v added); withdrawn = f (v withdrawn) } in
     record {
       sums = both (λ w. w);
       classes = tabulate classCount (λ k. both (inClass k));
