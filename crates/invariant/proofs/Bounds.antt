@@ -2,11 +2,11 @@
 -- Assumes nothing.
 use mathlib.Core.Path.{_≡_}
 use mathlib.Core.Bool.{Bool, true, false, _&&_, _||_, cond}
-use mathlib.Core.Logic.{_⊎_, inl, inr}
+use mathlib.Core.Logic.{_⊎_, inl, inr, _≢_}
 use Prim.Native.Nat.{ℕ, _+_, _≤_}
 use native.Mathlib.Omega.{arith}
 use lib.Dec.{eqb, ltb}
-use borrow.Author.Tests.{leb-true, eqb-true}
+use borrow.Author.Tests.{leb-true, eqb-true, ne-eqb}
 use Rattle.lists.proofs.Tests.{and-left, and-right, or-cases}
 use Rattle.lists.proofs.Below.{sum-bound, sum-plus}
 use Rattle.model.specs.Tables.{message, applied}
@@ -54,6 +54,13 @@ fair-parts p e = kinds (or-cases (eqb (p .kind) 1 && (fairMagnitude (p .added) &
         let a = eqb-true (p .added) 0 (and-left _ _ r) in
         let w = eqb-true (p .withdrawn) 0 (and-right (eqb (p .added) 0) _ r) in
         one (inl a) (omega arith) (omega arith)
+
+-- and none where it is no report's: a sync and a write weigh nothing
+pub weighs-nothing : (p : Payload) → fairAmount p ≡ true → p .kind ≢ 1 → (p .added ≡ 0) × (p .withdrawn ≡ 0)
+unfolding fairAmount
+weighs-nothing p e n =
+    let r = and-right (eqb (p .kind) 2 || eqb (p .kind) 6) _ (rw (ne-eqb (p .kind) 1 n) at e) in
+    (eqb-true (p .added) 0 (and-left _ _ r), eqb-true (p .withdrawn) 0 (and-right (eqb (p .added) 0) _ r))
 
 -- TWO SUMS
 

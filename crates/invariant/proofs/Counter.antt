@@ -73,7 +73,7 @@ module _ (t : Table) (w : WellFormed t) (z : Sized t) (r o : ℕ) (a : HandoverA
   applied-new s h e = refuted (applied (at t r) s) (λ p.
       received-good t w z r o a .apart s h (applied-held t w z r o a s (omega (arith, w .counted)) e) (rw (received-applied t r o) p))
 
-  receiver-applied : (s : ℕ) → s < t .count
+  pub receiver-applied : (s : ℕ) → s < t .count
       → applied (deliver t (received t r o) (handoverSet t r o)) s ≡ (has (handoverSet t r o) s || applied (at t r) s)
   receiver-applied s h =
       delivered-applied t (received t r o) (handoverSet t r o) s (omega (arith, w .counted))

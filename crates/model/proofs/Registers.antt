@@ -2,12 +2,12 @@
 use mathlib.Core.Path.{_≡_, refl, sym, ap, ap₂, _∙_}
 use mathlib.Core.Logic.{_⊎_, inl, inr}
 use mathlib.Core.Bool.{Bool, true, false, _&&_, _||_, cond}
-use Prim.Native.Nat.{ℕ, zero, suc, _≤_, _<_}
+use Prim.Native.Nat.{ℕ, zero, suc, _+_, _≤_, _<_}
 use native.Mathlib.Nat.{not-suc-le-zero}
 use native.Mathlib.Omega.{arith}
 use lib.Dec.{eqb, leb, ltb}
 use borrow.Author.Tests.{ltb-true, ltb-false, leb-true, eqb-true, le-ltb, eq-eqb}
-use Rattle.lists.proofs.Tests.{and-left, and-right, or-cases, or-false, refuted, contradiction, cond-case, below-suc}
+use Rattle.lists.proofs.Tests.{and-left, and-right, or-cases, or-false, or-left, or-right, refuted, contradiction, cond-case, below-suc}
 use Rattle.model.specs.Tables.{registerCount, noRegister, message}
 use Rattle.model.specs.Registers.{exceeds, wins, writes, written, newest}
 use Rattle.model.specs.WellFormed.{fairRegister, fairDate}
@@ -121,12 +121,26 @@ module _ (t : Table) (f : ℕ → Bool) (r : ℕ) where
           cond-case (λ (y : Register). NoLater (newest k t f r .stamp) (y .stamp)) (f k && writes r (message t k)) _ _
           (λ _. wins-most (written (message t k)) (newest k t f r) .1) (λ _. same-later (newest k t f r .stamp))
 
-pub newest-ext : (t : Table) (r k : ℕ) (f g : ℕ → Bool) → ((s : ℕ) → s < k → f s ≡ g s) → newest k t f r ≡ newest k t g r
+-- by more slots
+pub held-within : {k : ℕ} {t : Table} {f g : ℕ → Bool} {r : ℕ} {y : Register} → ((s : ℕ) → s < k → f s ≡ true → g s ≡ true) → Held k t f r y → Held k t g r y
+held-within w (none e) = none e
+held-within w (some s h p q e) = some s h (w s h p) q e
+
+-- a register rests on the slots that count and their messages
+pub newest-same : (t u : Table) (r k : ℕ) (f g : ℕ → Bool) → ((s : ℕ) → s < k → f s ≡ g s) → ((s : ℕ) → s < k → message t s ≡ message u s)
+    → newest k t f r ≡ newest k u g r
 unfolding newest
-newest-ext t r zero f g e = refl
-newest-ext t r (suc k) f g e =
-    ap₂ (λ (b : Bool) (y : Register). cond (b && writes r (message t k)) (wins (written (message t k)) y) y) (e k (omega arith))
-    (newest-ext t r k f g (λ s h. e s (omega arith)))
+newest-same t u r zero f g e m = refl
+newest-same t u r (suc k) f g e m =
+    rw (e k (omega arith), m k (omega arith), newest-same t u r k f g (λ s h. e s (omega arith)) (λ s h. m s (omega arith))) refl
+
+pub newest-ext : (t : Table) (r k : ℕ) (f g : ℕ → Bool) → ((s : ℕ) → s < k → f s ≡ g s) → newest k t f r ≡ newest k t g r
+newest-ext t r k f g e = newest-same t t r k f g e (λ _ _. refl)
+
+-- a slot more, which does not count
+pub newest-last : (t : Table) (f : ℕ → Bool) (r k : ℕ) → f k ≡ false → newest (k + 1) t f r ≡ newest k t f r
+unfolding newest
+newest-last t f r k e = let q : k + 1 ≡ suc k = omega arith in rw (q, e) refl
 
 -- ON A WELL-FORMED TABLE
 
@@ -164,3 +178,33 @@ module _ (t : Table) (w : WellFormed t) where
 
       slots : s ≡ i
       slots = w .stamps s i h j (write-kind r s v) (write-kind r i x) (ap (λ (a : Stamp). a .writer) stamps) (register-of r s v ∙ sym (register-of r i x)) (ap (λ (a : Stamp). a .date) stamps)
+
+  -- of two sets together: that of the first wins, if its stamp exceeds that of the second
+  pub newest-joined : (f g h : ℕ → Bool) (r : ℕ) → ((s : ℕ) → s < t .count → h s ≡ (f s || g s))
+      → newest (t .count) t h r ≡ wins (newest (t .count) t f r) (newest (t .count) t g r)
+  newest-joined f g h r e =
+      same-stamp-same all joined (later-antisym (newest (t .count) t h r .stamp) (wins (newest (t .count) t f r) (newest (t .count) t g r) .stamp) (up all) (down joined))
+    where
+      all : Held (t .count) t h r (newest (t .count) t h r)
+      all = newest-held t h r (t .count)
+
+      joined : Held (t .count) t h r (wins (newest (t .count) t f r) (newest (t .count) t g r))
+      joined =
+          wins-case (Held (t .count) t h r) _ _
+          (λ _. held-within (λ s b p. rw (e s b) (or-left (g s) p)) (newest-held t f r (t .count)))
+          (λ _. held-within (λ s b p. rw (e s b) (or-right (f s) p)) (newest-held t g r (t .count)))
+
+      most : NoLater (newest (t .count) t f r .stamp) (wins (newest (t .count) t f r) (newest (t .count) t g r) .stamp)
+          × NoLater (newest (t .count) t g r .stamp) (wins (newest (t .count) t f r) (newest (t .count) t g r) .stamp)
+      most = wins-most (newest (t .count) t f r) (newest (t .count) t g r)
+
+      up : {y : Register} → Held (t .count) t h r y → NoLater (y .stamp) (wins (newest (t .count) t f r) (newest (t .count) t g r) .stamp)
+      up (none q) = rw q (zero-first _)
+      up (some s b p v q) = rw q (elim (or-cases (f s) (g s) (sym (e s b) ∙ p)) [
+        | inl i ↦ later-trans (newest-most t f r (t .count) s b i v) (most .0)
+        | inr i ↦ later-trans (newest-most t g r (t .count) s b i v) (most .1)
+      ])
+
+      down : {y : Register} → Held (t .count) t h r y → NoLater (y .stamp) (newest (t .count) t h r .stamp)
+      down (none q) = rw q (zero-first _)
+      down (some s b p v q) = rw q (newest-most t h r (t .count) s b p v)
