@@ -35,16 +35,19 @@ abbrev among : Table → List Name → ℕ → Bool
 among t ms j = has (nameAt t j) ms
 
 -- one message more
-abbrev turn : ℕ → List Name → Register → Sent → Register
-turn r ms y x = cond (has (x .name) ms && writes r x) (wins (written x) y) y
+newest-last : (r : ℕ) (ms : List Name) (xs : List Sent) (x : Sent)
+    → let y = newest r xs ms in
+    newest r (xs ++ (x ∷ [])) ms ≡ cond (has (x .name) ms && writes r x) (wins (written x) y) y
+unfolding newest
+newest-last r ms xs x = foldl-append _ noRegister xs (x ∷ [])
 
 newest-slots : (t : Table) (r : ℕ) (ms : List Name) (k : ℕ) → newest r (tabulate k (sentAt t)) ms ≡ newestIn k t (among t ms) r
 unfolding newest newestIn writes writesOf tabulate tabulateFrom
 newest-slots t r ms zero = refl
 newest-slots t r ms (suc k) =
     ap (λ (xs : List Sent). newest r xs ms) (tabulate-suc (sentAt t) k)
-    ∙ foldl-append (turn r ms) noRegister (tabulate k (sentAt t)) (sentAt t k ∷ [])
-    ∙ ap (λ (y : Register). turn r ms y (sentAt t k)) (newest-slots t r ms k)
+    ∙ newest-last r ms (tabulate k (sentAt t)) (sentAt t k)
+    ∙ ap (λ (y : Register). cond (among t ms k && writes r (sentAt t k)) (wins (written (sentAt t k)) y) y) (newest-slots t r ms k)
 
 module _ {n : ℕ} {t : Table} {l : Ledger} (p : Recorded n t l) where
   newest-has : (r : ℕ) (ms : List Name) → newest r (l .sent) ms ≡ newestIn (t .count) t (among t ms) r
@@ -137,19 +140,19 @@ abbrev names : List Sent → List Name
 names xs = map (λ x. x .name) xs
 
 -- messages that are not among ms change no register
-skipped : (r : ℕ) (ms : List Name) (xs : List Sent) → Apart ms (names xs) → (y : Register) → foldl (turn r ms) y xs ≡ y
+newest-skips : (r : ℕ) (ms : List Name) (xs ys : List Sent) → Apart ms (names ys) → newest r (xs ++ ys) ms ≡ newest r xs ms
 unfolding has
-skipped r ms [] a y = refl
-skipped r ms (x ∷ xs) a y =
-    rw (refuted (has (x .name) ms) (λ e. contradiction (or-left _ (same-self (x .name))) (a (x .name) e)))
-    (skipped r ms xs (λ m e. or-false (same m (x .name)) _ (a m e) .1) y)
+newest-skips r ms xs [] a = rw append-nil
+newest-skips r ms xs (y ∷ ys) a =
+    ap (λ (zs : List Sent). newest r zs ms) (sym (append-assoc xs (y ∷ []) ys))
+    ∙ newest-skips r ms (xs ++ (y ∷ [])) ys (λ m e. or-false (same m (y .name)) _ (a m e) .1)
+    ∙ newest-last r ms xs y
+    ∙ rw (refuted (has (y .name) ms) (λ e. contradiction (or-left _ (same-self (y .name))) (a (y .name) e)))
 
 -- the registers of the first, by what was applied then
 pub register-later : {n : ℕ} {t u : Table} {l k : Ledger} → Recorded n t l → Recorded n u k → Grown l k → (c r : ℕ)
     → registerAt l c r ≡ newest r (k .sent) (applied l c)
-unfolding newest
-register-later {l = l} {k = k} p q g c r =
-    sym (rw (g .is) (foldl-append (turn r (applied l c)) noRegister (l .sent) (g .more) ∙ skipped r (applied l c) (g .more) new _))
+register-later {l = l} {k = k} p q g c r = sym (rw (g .is) (newest-skips r (applied l c) (l .sent) (g .more) new))
   where
     sent : sentNames k ≡ sentNames l ++ names (g .more)
     sent = ap names (g .is) ∙ map-append (λ (x : Sent). x .name) (l .sent) (g .more)
