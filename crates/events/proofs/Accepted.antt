@@ -1,6 +1,6 @@
 -- What the code of an event relies on where no question refuses it: its controllers have seats, and its stores have room. Assumes nothing.
 use mathlib.Core.Path.{_≡_, refl, _∙_}
-use mathlib.Core.Bool.{false}
+use mathlib.Core.Bool.{true, false}
 use Prim.Native.Nat.{ℕ, _+_, _<_}
 use native.Mathlib.Omega.{arith}
 use native.Mathlib.Decide.{decLt}
@@ -10,6 +10,7 @@ use Rattle.lists.proofs.Tests.{contradiction}
 use Rattle.model.specs.Tables.{seats, capacity, at, message, place, held, highest, withRead}
 use Rattle.model.specs.Events.{nextSlot, received, handoverSet}
 use Rattle.model.specs.Sized.{Sized}
+use Rattle.model.specs.WellFormed.{fairRegister}
 use Rattle.model.specs.declared.Payload.{Payload}
 use Rattle.model.specs.declared.Table.{Table}
 use Rattle.model.specs.declared.Event.the-variants.{Send, Handover, Stop}
@@ -22,12 +23,13 @@ use Rattle.invariant.proofs.Logs.{log-within, log-shorter}
 use Rattle.invariant.proofs.Receiving.{above-unapplied, next-slot-run, received-good, applied-held}
 use Rattle.events.specs.Conditions.{Accepted, Receivable, OfRun}
 
-pub record Sendable (t : Table) (c : ℕ) : Type 0 where
+pub record Sendable (t : Table) (c : ℕ) (p : Payload) : Type 0 where
   pub sender : Among seats c
   pub slot : t .count < capacity
   pub room : at t c .length < capacity
+  pub register : fairRegister p ≡ true
 
-pub sendable : (t : Table) (c : ℕ) (p : Payload) → Accepted t (Send c p) → Sendable t c
+pub sendable : (t : Table) (c : ℕ) (p : Payload) → Accepted t (Send c p) → Sendable t c p
 sendable t c p q =
     let w = facts t (q .0) in
     let a = send-allowed t c p (q .1) in
@@ -35,6 +37,7 @@ sendable t c p q =
       sender = seated (w .few) (a .sender);
       slot = a .room;
       room = omega (arith, log-within t c (at t c) (w .controllers c (a .sender)));
+      register = a .register;
     }
 
 pub stoppable : (t : Table) (c k : ℕ) → Accepted t (Stop c k) → Among seats c

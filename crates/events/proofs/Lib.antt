@@ -1,6 +1,7 @@
 pub mod Accepted
 pub mod Forwarding
 pub mod Applying
+pub mod Dating
 pub mod Subjects
 pub mod Reading
 pub mod Asking

@@ -9,6 +9,7 @@ use lib.ListN.{set}
 use denote.Enum.Declared.{tagOf}
 use Rattle.lists.proofs.Clipped.{any-none}
 use Rattle.model.specs.Tables.{seats, capacity, message, messageNumber, messageOf, withController, withMessage}
+use Rattle.model.specs.Registers.{registerOf, dateOf}
 use Rattle.model.specs.Events.{sentMessage, sent, subject, after, withSent, next, appliedBy, resulting, weigh, sums, shown, panelOf, namesOf, finishes}
 use Rattle.model.specs.Facts.{Among}
 use Rattle.model.specs.Runs.{lineOf}
@@ -57,9 +58,9 @@ pub sent-length : (t : Table) (c : ℕ) (p : Payload) (x : Controller) → Leave
 unfolding after sent
 sent-length t c p x l = let h = sendable t c p (l .0) in omega (arith, ap (λ (y : Controller). y .length) (l .1), h .room)
 
-pub stored-send : (t : Table) (c : ℕ) (p : Payload) (x : Controller) → x ≡ after t (Send c p) → (m : Message) → m ≡ messageOf c (messageNumber (x .length)) p
+pub stored-send : (t : Table) (c : ℕ) (p : Payload) (x : Controller) → x ≡ after t (Send c p) → (m : Message) → m ≡ messageOf c (messageNumber (x .length)) (dateOf t x p) p
     → _≡_ {A = Table} (record { version = t .version; n = t .n; count = t .count + 1; messages = set (t .messages) (t .count) m; controllers = set (t .controllers) (c - 1) x }) (next t (Send c p))
-unfolding next subject after withSent sentMessage sent withController withMessage
+unfolding next subject after withSent sentMessage sent withController withMessage dateOf registerOf
 stored-send t c p x e m f = rw (f, e) refl
 
 -- an event of another kind
@@ -73,7 +74,7 @@ stored-else t (Stop c k) x q f = rw f refl
 
 -- the same, of a record that asks for e, whose subject has the index i
 pub stored-as-send : (t : Table) (a : Command) (e : Event) (i c : ℕ) (p : Payload) (x : Controller) (m : Message) → a ≡ Act e → i ≡ subject e - 1 → e ≡ Send c p → x ≡ after t (Send c p)
-    → m ≡ messageOf c (messageNumber (x .length)) p
+    → m ≡ messageOf c (messageNumber (x .length)) (dateOf t x p) p
     → _≡_ {A = Table} (record { version = t .version; n = t .n; count = t .count + 1; messages = set (t .messages) (t .count) m; controllers = set (t .controllers) i x }) (resulting t a)
 unfolding subject resulting
 stored-as-send t a e i c p x m q ei es ex em = rw (q, ei, es) (stored-send t c p x ex m em)

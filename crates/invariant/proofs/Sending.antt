@@ -20,7 +20,7 @@ use Rattle.model.specs.declared.Controller.{Controller}
 use Rattle.model.specs.declared.Table.{Table}
 use Rattle.model.specs.Facts.{Among, GoodController, WellFormed}
 use Rattle.model.proofs.Allowed.{SendAllowed}
-use Rattle.model.proofs.Registers.{newest-held, newest-most, held-date}
+use Rattle.model.proofs.Registers.{newest-held, newest-most, held-date, message-date}
 use Rattle.invariant.proofs.Stores.{seated, at-sized, message-new, message-old, marked-held, marked-known}
 use Rattle.invariant.proofs.Logs.{log-lacks, log-within}
 use Rattle.invariant.proofs.Sizes.{message-sized, entered-sized}
@@ -150,7 +150,7 @@ module _ (t : Table) (w : WellFormed t) (z : Sized t) (c : ℕ) (p : Payload) (a
   new-date = go (eqb (p .kind) 6)
     where
       go : (b : Bool) → cond b (ltb 0 (cond b (known + 1) 0) && leb (cond b (known + 1) 0) (t .count + 1)) (eqb (cond b (known + 1) 0) 0) ≡ true
-      go true = both (lt-ltb 0 (known + 1) (omega arith)) (le-leb (known + 1) (t .count + 1) (omega (arith, held-date t w (newest-held t (applied (at t c)) (p .reg) (t .count)))))
+      go true = both (lt-ltb 0 (known + 1) (omega arith)) (le-leb (known + 1) (t .count + 1) (omega (arith, held-date (t .count) (newest-held t (applied (at t c)) (p .reg) (t .count)) (message-date t w))))
       go false = refl
 
   -- c has applied each write that it sent, so that the next has a later date

@@ -126,6 +126,11 @@ pub held-within : {k : ℕ} {t : Table} {f g : ℕ → Bool} {r : ℕ} {y : Regi
 held-within w (none e) = none e
 held-within w (some s h p q e) = some s h (w s h p) q e
 
+-- a register's date is that of some message
+pub held-date : {k : ℕ} {t : Table} {f : ℕ → Bool} {r : ℕ} {y : Register} (most : ℕ) → Held k t f r y → ((s : ℕ) → s < k → message t s .date ≤ most) → y .stamp .date ≤ most
+held-date most (none e) d = rw e (omega arith)
+held-date most (some s h p q e) d = rw e (d s h)
+
 -- a register rests on the slots that count and their messages
 pub newest-same : (t u : Table) (r k : ℕ) (f g : ℕ → Bool) → ((s : ℕ) → s < k → f s ≡ g s) → ((s : ℕ) → s < k → message t s ≡ message u s)
     → newest k t f r ≡ newest k u g r
@@ -160,10 +165,13 @@ module _ (t : Table) (w : WellFormed t) where
       let d = rw (write-kind r s e) at (w .dates s h) in
       (ltb-true 0 (message t s .date) (and-left _ _ d), leb-true (message t s .date) (t .count) (and-right (ltb 0 (message t s .date)) _ d))
 
-  -- and so a register has a date up to that
-  pub held-date : {f : ℕ → Bool} {r : ℕ} {y : Register} → Held (t .count) t f r y → y .stamp .date ≤ t .count
-  held-date (none e) = rw e (omega arith)
-  held-date {r = r} (some s h p q e) = rw e (write-date r s h q .1)
+  -- and that of no other message is greater
+  pub message-date : (s : ℕ) → s < t .count → message t s .date ≤ t .count
+  unfolding fairDate
+  message-date s h =
+      cond-case (λ b. b ≡ true → message t s .date ≤ t .count) (eqb (message t s .payload .kind) 6) _ _
+      (λ _ e. leb-true (message t s .date) (t .count) (and-right (ltb 0 (message t s .date)) _ e))
+      (λ _ e. omega (arith, eqb-true (message t s .date) 0 e)) (w .dates s h)
 
   -- writes of one register have different stamps, and none is 0, 0: with its stamp a register has its value
   pub same-stamp-same : {f g : ℕ → Bool} {r : ℕ} {y z : Register} → Held (t .count) t f r y → Held (t .count) t g r z → y .stamp ≡ z .stamp → y ≡ z

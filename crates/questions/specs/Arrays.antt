@@ -23,9 +23,8 @@ readWithin n C o k = all n (λ r. leb (getD (getD C r noController .read) o 0) k
 unfoldable pub latestAmong : ℕ → List Message → ℕ → ℕ
 latestAmong k M c = greatest k (λ s. numberOf c (getD M s noMessage))
 
+abbrev pub isSynced : ℕ → Message → ℕ → ℕ → Bool
+isSynced flag m c last = yes? flag && (eqb (m .payload .kind) 2 && (eqb (m .sender) c && eqb (m .number .0) last))
+
 unfoldable pub syncedAmong : ℕ → List Message → List ℕ → ℕ → ℕ → Bool
-syncedAmong k M A c last =
-    ltb 0 (count k (λ s.
-    yes? (getD A s 0)
-    && (eqb (getD M s noMessage .payload .kind) 2
-    && (eqb (getD M s noMessage .sender) c && eqb (getD M s noMessage .number .0) last))))
+syncedAmong k M A c last = ltb 0 (count k (λ s. isSynced (getD A s 0) (getD M s noMessage) c last))

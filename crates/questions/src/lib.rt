@@ -57,10 +57,11 @@ fn must_wait(kind: u8, count: usize, messages: [Message; 64], pending: [Pending;
 
 // The greatest number among so many messages, of those of c.
 fn latest(count: usize, messages: [Message; 64], c: u8) -> u8
+    requires { ⌜ count < 64 ⌝ }
     ensures { λ r. ⌜ r ≡ latestAmong count messages c ⌝ }
 {
     let mut latest: u8 = 0;
-    for s in 0..numbers::at_most(count, Table::MESSAGES) {
+    for s in 0..count {
         let m = messages[s];
         if m.sender != c {
             continue;
@@ -72,9 +73,10 @@ fn latest(count: usize, messages: [Message; 64], c: u8) -> u8
 
 // Whether a message of c with this number is a sync that is flagged as applied.
 fn synced(count: usize, messages: [Message; 64], applied: [u8; 64], c: u8, last: u8) -> bool
+    requires { ⌜ count < 64 ⌝ }
     ensures { λ r. ⌜ r ≡ syncedAmong count messages applied c last ⌝ }
 {
-    for s in 0..numbers::at_most(count, Table::MESSAGES) {
+    for s in 0..count {
         let m = messages[s];
         let kind = m.payload.kind;
         let named = (m.sender == c) & (m.number.0 == last);
@@ -87,6 +89,7 @@ fn synced(count: usize, messages: [Message; 64], applied: [u8; 64], c: u8, last:
 
 // Whether a message of this kind may be its sender's next, by the latest one: a write follows on an applied sync.
 fn may_follow(kind: u8, count: usize, messages: [Message; 64], applied: [u8; 64], c: u8) -> bool
+    requires { ⌜ count < 64 ⌝ }
     ensures { λ r. ⌜ r ≡ (not (eqb kind 6) || syncedAmong count messages applied c (latestAmong count messages c)) ⌝ }
 {
     if kind != Payload::WRITE {

@@ -8,8 +8,8 @@ use borrow.Author.Tests.{eqb-true, eq-eqb, ne-eqb}
 use lib.Dec.{eqb, ltb, leb}
 use lib.ListN.{getD}
 use Rattle.lists.proofs.Tests.{and-left, and-right}
-use Rattle.model.specs.Tables.{sync}
-use Rattle.model.specs.Records.{byte, size, kind, word, sizeOf, reportClass, reported, decode}
+use Rattle.model.specs.Tables.{sync, write}
+use Rattle.model.specs.Records.{byte, size, kind, word, long, sizeOf, reportClass, reported, decode}
 use Rattle.model.specs.Questions.{firstNo, kindQuestions, recordQuestions}
 use Rattle.model.specs.declared.Event.the-variants.{Send, Handover, Stop}
 use Rattle.model.specs.declared.Command.{Command}
@@ -24,7 +24,7 @@ pub size-classed : (v k : ℕ) → (eqb v 2 && eqb k 1) ≡ true → 5 ≡ sizeO
 unfolding sizeOf
 size-classed v k e = rw (eqb-true k 1 (and-right (eqb v 2) _ e), and-left (eqb v 2) _ e)
 
-pub size-other : (v k : ℕ) → (eqb v 2 && eqb k 1) ≡ false → getD (0 ∷ 4 ∷ 2 ∷ 3 ∷ 4 ∷ 2 ∷ []) k 0 ≡ sizeOf v k
+pub size-other : (v k : ℕ) → (eqb v 2 && eqb k 1) ≡ false → getD (0 ∷ 4 ∷ 2 ∷ 3 ∷ 4 ∷ 2 ∷ 7 ∷ []) k 0 ≡ sizeOf v k
 unfolding sizeOf
 size-other v zero e = refl
 size-other v (suc zero) e = go (eqb v 2) e
@@ -38,7 +38,7 @@ size-other v (suc (suc k)) e = refl
 
 -- question 6, as the code puts it
 abbrev pub hasKind : ℕ → ℕ → Bool
-hasKind n k = ltb 0 n && (ltb 0 k && leb k 5)
+hasKind n k = ltb 0 n && (ltb 0 k && leb k 6)
 
 pub refused-five : (v : ℕ) (s : List ℕ) → whole s ≡ false → 5 ≡ firstNo (recordQuestions v s)
 unfolding whole firstNo recordQuestions
@@ -92,6 +92,10 @@ module _ (v : ℕ) (s : List ℕ) (k : ℕ) (e : k ≡ kind s) where
   unfolding decode
   decode-stop h = rw (sym e ∙ h)
 
-  pub decode-read : (k ≡ 1 → ⊥) → (k ≡ 2 → ⊥) → (k ≡ 3 → ⊥) → (k ≡ 4 → ⊥) → Read (byte s 2) ≡ decode v s
+  pub decode-write : k ≡ 6 → Act (Send (byte s 2) (write (byte s 3) (long s 4))) ≡ decode v s
   unfolding decode
-  decode-read a b c d = rw (← e, ne-eqb k 1 a, ne-eqb k 2 b, ne-eqb k 3 c, ne-eqb k 4 d)
+  decode-write h = rw (sym e ∙ h)
+
+  pub decode-read : (k ≡ 1 → ⊥) → (k ≡ 2 → ⊥) → (k ≡ 3 → ⊥) → (k ≡ 4 → ⊥) → (k ≡ 6 → ⊥) → Read (byte s 2) ≡ decode v s
+  unfolding decode
+  decode-read a b c d f = rw (← e, ne-eqb k 1 a, ne-eqb k 2 b, ne-eqb k 3 c, ne-eqb k 4 d, ne-eqb k 6 f)

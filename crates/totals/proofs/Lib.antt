@@ -1,4 +1,5 @@
-pub mod Panels
 pub mod Parts
 pub mod Passing
 pub mod Weights
+pub mod Writing
+pub mod Panels

@@ -1,43 +1,51 @@
 -- Past the last controller a panel shows what it shows of no message. Assumes nothing.
-use mathlib.Core.Path.{_≡_, refl, ap, fun-ext, sym}
+use mathlib.Core.Path.{_≡_, refl, ap₂, fun-ext, sym}
 use mathlib.Core.List.{List}
-use Prim.Native.Nat.{ℕ, _-_, _≤_}
+use Prim.Native.Nat.{ℕ, suc, _-_, _≤_}
 use native.Mathlib.Omega.{arith}
 use lib.ListN.{length, getD, List·getD-eq-default}
 use Rattle.lists.specs.Below.{sum}
 use Rattle.lists.specs.Build.{tabulate}
+use Rattle.lists.proofs.Build.{tabulate-ext}
 use Rattle.lists.proofs.Clipped.{sum-none}
-use Rattle.model.specs.Tables.{seats, classCount, noController, at}
+use Rattle.model.specs.Tables.{seats, classCount, registerCount, noRegister, noController, at, applied}
+use Rattle.model.specs.Registers.{newest, registerOf, registers}
 use Rattle.model.specs.Events.{weigh, bothOf, sums, ofClass, classSums, shown, panelOf}
 use Rattle.model.specs.Parts.{part}
 use Rattle.model.specs.declared.Payload.{Payload}
 use Rattle.model.specs.declared.Message.{Message}
 use Rattle.model.specs.declared.Controller.{Controller}
+use Rattle.model.specs.declared.Register.{Register}
 use Rattle.model.specs.declared.Panel.{Panel}
 use Rattle.model.specs.declared.Table.{Table}
 use Rattle.totals.specs.Shown.{appliedAlone, shownOf}
 use Rattle.totals.proofs.Parts.{shown-part}
+use Rattle.totals.proofs.Writing.{newest-past}
 
--- the panel that shows a number of each weight
-abbrev panel : ((Payload → ℕ) → ℕ) → Panel
-panel f = record { sums = bothOf f; classes = tabulate classCount (λ k. bothOf (λ w. f (ofClass k w))) }
+-- the panel that shows a number of each weight, and registers
+abbrev panel : ((Payload → ℕ) → ℕ) → List Register → Panel
+panel f R = record { sums = bothOf f; classes = tabulate classCount (λ k. bothOf (λ w. f (ofClass k w))); registers = R }
 
--- two panels show the same where every weight is the same
-same-shown : (t u : Table) (x y : Controller) → ((w : Payload → ℕ) → weigh w t x ≡ weigh w u y) → shown t x ≡ shown u y
+-- two panels show the same where every weight is the same, and every register
+same-shown : (t u : Table) (x y : Controller) → ((w : Payload → ℕ) → weigh w t x ≡ weigh w u y) → registers t x ≡ registers u y → shown t x ≡ shown u y
 unfolding shown sums classSums
-same-shown t u x y e = ap panel (fun-ext e)
+same-shown t u x y e r = ap₂ panel (fun-ext e) r
 
 -- no controller shows what every controller does of no message
 none-weighed : (M : List Message) (A : List ℕ) (t : Table) (w : Payload → ℕ) → weigh w (part 0 0 0 M) (appliedAlone A) ≡ weigh w t noController
 unfolding weigh sum
 none-weighed M A t w = sum-none _ (t .count) (λ s. refl)
 
+none-written : (M : List Message) (A : List ℕ) (t : Table) → registers (part 0 0 0 M) (appliedAlone A) ≡ registers t noController
+unfolding registers registerOf newest
+none-written M A t = tabulate-ext registerCount _ _ noRegister (λ i _. newest-past t (applied noController) (suc i) 0 (t .count) (omega arith) (λ s _. refl))
+
 module _ (t : Table) (c i : ℕ) (e : i ≡ c - 1) where
   pub panel-past : length (t .controllers) ≡ seats → seats ≤ i → (M : List Message) (A : List ℕ) → shownOf 0 M A ≡ panelOf t c
   unfolding shownOf panelOf at
   panel-past l h M A =
       let none : getD (t .controllers) (c - 1) noController ≡ noController = List·getD-eq-default (t .controllers) noController (omega arith) in
-      rw none (same-shown (part 0 0 0 M) t (appliedAlone A) noController (none-weighed M A t))
+      rw none (same-shown (part 0 0 0 M) t (appliedAlone A) noController (none-weighed M A t) (none-written M A t))
 
   pub panel-at : shownOf (t .count) (t .messages) (getD (t .controllers) i noController .applied) ≡ panelOf t c
   unfolding panelOf at

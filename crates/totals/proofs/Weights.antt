@@ -15,7 +15,7 @@ use Rattle.model.specs.declared.Payload.{Payload}
 use Rattle.model.specs.declared.Message.{Message}
 use Rattle.totals.specs.Shown.{appliedAlone}
 
-past {ℓ} : {A : Type ℓ} (xs : List A) (d : A) → length xs ≡ capacity → (j : ℕ) → capacity ≤ j → getD xs j d ≡ d
+pub past {ℓ} : {A : Type ℓ} (xs : List A) (d : A) → length xs ≡ capacity → (j : ℕ) → capacity ≤ j → getD xs j d ≡ d
 past xs d l j h = List·getD-eq-default xs d (omega arith)
 
 pub member-past : (S : List Bool) → length S ≡ capacity → (j : ℕ) → capacity ≤ j → (b : Bool) → (has S j && b) ≡ false

@@ -1,10 +1,10 @@
 -- What a panel shows, by what it is made of, and what the private functions that add up answer.
 use mathlib.Core.List.{List, []}
 use mathlib.Core.Bool.{_&&_, cond}
-use Prim.Native.Nat.{ℕ, _*_, _≤_}
+use Prim.Native.Nat.{ℕ, _-_, _*_, _≤_}
 use Rattle.lists.specs.Build.{tabulate}
-use lib.Dec.{eqb}
-use Rattle.model.specs.Tables.{classCount, yes?}
+use lib.Dec.{eqb, ltb}
+use Rattle.model.specs.Tables.{classCount, registerCount, yes?}
 use Rattle.model.specs.Registers.{registers}
 use Rattle.model.specs.Events.{bothOf, sums, classSums, shown}
 use Rattle.model.specs.Parts.{part}
@@ -34,9 +34,9 @@ shownOf k M A = shown (part 0 0 k M) (appliedAlone A)
 
 -- WRITES
 
--- the register that a message writes, where the flag says that it counts; 0 if none
+-- the index of the register that a message writes, where the flag says that it counts; past the last if none
 unfoldable pub targetOf : ℕ → Payload → ℕ
-targetOf flag p = cond (yes? flag && eqb (p .kind) 6) (p .reg) 0
+targetOf flag p = cond (yes? flag && (eqb (p .kind) 6 && ltb 0 (p .reg))) (p .reg - 1) registerCount
 
 -- ADDING UP
 

@@ -99,15 +99,17 @@ fn written(m: Message) -> Register
     }
 }
 
-// The register that a message writes, where the flag says that it counts; 0 if none.
+// The index of the register that a message writes, where the flag says that it counts; past the last if none.
 fn target(flag: u8, p: Payload) -> usize
     ensures { λ r. ⌜ r ≡ targetOf flag p ⌝ }
 {
     let kind = p.kind;
-    if (flag == 0) | (kind != Payload::WRITE) {
-        return 0;
+    let reg = p.reg as usize;
+    let i = numbers::index(reg);
+    if (0 < flag) & ((kind == Payload::WRITE) & (0 < reg)) {
+        return i;
     }
-    p.reg as usize
+    Panel::REGISTERS
 }
 
 // The registers, from 1, by so many messages, of those flagged as applied.
@@ -117,11 +119,11 @@ pub fn registers(count: usize, messages: [Message; 64], applied: [u8; 64]) -> [R
     let mut registers: [Register; 8] = [Register::zero(); Panel::REGISTERS];
     for s in 0..numbers::at_most(count, Table::MESSAGES) {
         let m = messages[s];
-        let place = target(applied[s], m.payload);
-        if (place == 0) | (Panel::REGISTERS < place) {
+        let i = target(applied[s], m.payload);
+        if Panel::REGISTERS <= i {
             continue;
         }
-        registers[place - 1] = wins(written(m), registers[place - 1]);
+        registers[i] = wins(written(m), registers[i]);
     }
     registers
 }

@@ -2,7 +2,7 @@
 use borrow.Author.Needs.{needs}
 use Rattle.model.specs.Tables.{at, message}
 use Rattle.model.specs.WellFormed.{named}
-use Rattle.model.specs.Questions.{ownPending, unread, keepable, eventQuestions, commandQuestions}
+use Rattle.model.specs.Questions.{ownPending, latest, synced, unread, keepable, eventQuestions, commandQuestions}
 use Rattle.questions.proofs.refusal.Statement.{statement}
 use Rattle.questions.proofs.refusal.Tie as tie
 
@@ -34,7 +34,7 @@ read-refusal-requires : tie.Need-read-refusal-requires
 read-refusal-requires c κs = search needs
 
 returns : tie.Need-returns
-unfolding commandQuestions eventQuestions named ownPending at message
+unfolding commandQuestions eventQuestions named ownPending latest synced at message
 returns c = let e = c .before .before .before in rw (e .before .before .before .a .given .1, e .e .given .1) (c .send-refusal .ensures)
 
 returns-2 : tie.Need-returns-2

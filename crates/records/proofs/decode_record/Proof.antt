@@ -1,5 +1,5 @@
 -- `decode_record` answers what a record asks for. Assumes nothing.
-use Rattle.records.proofs.Shapes.{decode-report, decode-sync, decode-handover, decode-stop, decode-read}
+use Rattle.records.proofs.Shapes.{decode-report, decode-sync, decode-handover, decode-stop, decode-write, decode-read}
 use borrow.Author.Needs.{needs}
 use Rattle.records.proofs.decode_record.Statement.{statement}
 use Rattle.records.proofs.decode_record.Tie as tie
@@ -8,9 +8,12 @@ use Rattle.records.proofs.decode_record.Tie as tie
 abbrev kind : tie.Else1 → tie.After-byte-at
 kind c = c .before .before
 
--- from behind a report's payload to behind the first test
+-- from behind the payload of a report, and of a write, to behind its test
 abbrev reported : tie.After-report-of → tie.Then1
 reported c = c .before .before .before
+
+abbrev written : tie.After-write → tie.Then5
+written c = c .before .before .before
 
 byte-at-requires : tie.Need-byte-at-requires
 byte-at-requires c κs = search needs
@@ -51,10 +54,29 @@ cast-t15 c = search needs
 returns-4 : tie.Need-returns-4
 returns-4 c = cc (decode-stop _ _ _ (kind (c .before .before .before .before) .byte-at .ensures) (c .before .if4 .taken))
 
+byte-at-requires-4 : tie.Need-byte-at-requires-4
+byte-at-requires-4 c κs = search needs
+
+cast-write : tie.Need-cast-write
+cast-write c = search needs
+
+long-at-requires : tie.Need-long-at-requires
+long-at-requires c κs = search needs
+
+write-requires : tie.Need-write-requires
+write-requires c κs = search needs
+
 returns-5 : tie.Need-returns-5
 returns-5 c =
-    let a = c .before .before .before in
-    cc (decode-read _ _ _ (kind a .byte-at .ensures) (a .if1 .left) (c .before .before .if2 .left) (c .before .if3 .left) (c .if4 .left))
+    let w = written c in
+    cc (decode-write _ _ _ (kind (w .before .before .before .before) .byte-at .ensures) (w .if5 .taken))
+
+returns-6 : tie.Need-returns-6
+returns-6 c =
+    let a = c .before .before .before .before in
+    cc
+    (decode-read _ _ _ (kind a .byte-at .ensures) (a .if1 .left) (c .before .before .before .if2 .left) (c .before .before .if3 .left)
+    (c .before .if4 .left) (c .if5 .left))
 
 pub decode-record-spec : {M : Type 1} → statement M
 decode-record-spec =
@@ -73,4 +95,9 @@ decode-record-spec =
     word-at-requires-2
     cast-t15
     returns-4
-    returns-5)
+    byte-at-requires-4
+    cast-write
+    long-at-requires
+    write-requires
+    returns-5
+    returns-6)

@@ -20,7 +20,7 @@ returns-2 : tie.Need-returns-2
 returns-2 c = size-other _ _ (c .before .if1 .left)
 
 returns-3 : tie.Need-returns-3
-returns-3 c = sym (List·getD-eq-default (0 ∷ 4 ∷ 2 ∷ 3 ∷ 4 ∷ 2 ∷ []) 0 (c .if2 .left)) ∙ size-other _ _ (c .before .if1 .left)
+returns-3 c = sym (List·getD-eq-default (0 ∷ 4 ∷ 2 ∷ 3 ∷ 4 ∷ 2 ∷ 7 ∷ []) 0 (c .if2 .left)) ∙ size-other _ _ (c .before .if1 .left)
 
 pub size-of-kind-spec : {M : Type 1} → statement M
 size-of-kind-spec = tie.close (tie.spec returns mul-result array-read-result returns-2 returns-3)
