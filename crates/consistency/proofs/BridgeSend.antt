@@ -1,4 +1,4 @@
--- An allowed report or sync is a legal broadcast. Assumes nothing.
+-- An allowed report, sync or write is a legal broadcast. Assumes nothing.
 use mathlib.Core.Path.{_≡_, refl, sym, ap, subst, _∙_}
 use mathlib.Core.Bool.{false}
 use mathlib.Core.Logic.{_≢_}

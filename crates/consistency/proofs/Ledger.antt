@@ -38,11 +38,11 @@ balance p = pos (p .added) -ℤ pos (p .withdrawn)
 
 -- what a record says that sends this payload
 abbrev pub saidOf : Payload → Said
-saidOf p = record { kind = p .kind; amount = balance p; class = p .class }
+saidOf p = record { kind = p .kind; amount = balance p; class = p .class; reg = p .reg; value = p .value }
 
 -- what the ledger keeps of a message, and of that of slot j
 abbrev pub sentOf : Message → Sent
-sentOf m = record { name = nameOf m; payload = m .payload; said = saidOf (m .payload) }
+sentOf m = record { name = nameOf m; date = m .date; payload = m .payload; said = saidOf (m .payload) }
 
 abbrev pub sentAt : Table → ℕ → Sent
 sentAt t j = sentOf (message t j)

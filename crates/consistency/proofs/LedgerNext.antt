@@ -1,11 +1,11 @@
--- An accepted record says the kind, the amount and the class of the message sent, and every legal step keeps the ledger and the table saying
+-- An accepted record says what the message sent has for a payload, and every legal step keeps the ledger and the table saying
 -- the same. Assumes nothing.
 use mathlib.Core.Path.{_≡_, refl, sym, ap, subst, _∙_}
 use mathlib.Core.Bool.{Bool, true, false, cond, false≢true}
 use mathlib.Core.List.{List}
 use Prim.Native.Nat.{ℕ, zero, suc, _+_, _-_, _<_}
 use native.Mathlib.Omega.{arith}
-use lib.IntN.{pos, negℤ, _+ℤ_, _-ℤ_, +ℤ-idr, +ℤ-assoc, +ℤ-invr, negℤ-+ℤ, pos-+ℤ-pos}
+use lib.IntN.{ℤ, pos, negℤ, _+ℤ_, _-ℤ_, +ℤ-idr, +ℤ-assoc, +ℤ-invr, negℤ-+ℤ, pos-+ℤ-pos}
 use lib.Dec.{ltb}
 use Rattle.model.specs.Tables.{report}
 use Rattle.model.specs.Records.{word, reportClass, reported, decode}
@@ -18,9 +18,9 @@ use Rattle.model.specs.declared.Table.{Table}
 use Rattle.model.specs.declared.Event.{Event}
 use Rattle.model.specs.declared.Event.the-variants.{Send, Handover, Stop}
 use Rattle.model.specs.declared.Command.the-variants.{Act}
-use Rattle.model.proofs.Allowed.{SendRecord, reports, syncs, send-record, send-allowed}
+use Rattle.model.proofs.Allowed.{SendRecord, reports, syncs, writes, send-record, send-allowed}
 use Rattle.broadcast.specs.State.{State}
-use Rattle.consistency.specs.Demand3.{Said, twos, amountIn, classIn, said, Ledger, carried, moved}
+use Rattle.consistency.specs.Demand3.{Said, twos, amountIn, classIn, registerIn, valueIn, said, Ledger, carried, moved}
 use Rattle.consistency.proofs.Bridge.{Related}
 use Rattle.consistency.proofs.Ledger.{saidOf, Recorded}
 use Rattle.consistency.proofs.LedgerSend.{send-recorded}
@@ -41,26 +41,31 @@ unfolding fairAmount fairMagnitude
 positive k zero e = absurd (false≢true e)
 positive k (suc w) e = omega arith
 
+-- what the record of a report says, with its class and amount
+abbrev ofReport : ℕ → ℤ → Said
+ofReport k z = record { kind = 1; amount = z; class = k; reg = 0; value = 0 }
+
 -- two's complement, whatever the bytes: a number of 65,536 or more is no amount
-reported-says : (k x : ℕ) → fairAmount (reported k x) ≡ true → record { kind = 1; amount = twos x; class = k } ≡ saidOf (reported k x)
+reported-says : (k x : ℕ) → fairAmount (reported k x) ≡ true → ofReport k (twos x) ≡ saidOf (reported k x)
 unfolding twos reported
 reported-says k x = go (ltb x 32768)
   where
     go : (b : Bool) → fairAmount (cond b (report k x 0) (report k 0 (65536 - x))) ≡ true
-        → record { kind = 1; amount = cond b (pos x) (pos x -ℤ pos 65536); class = k } ≡ saidOf (cond b (report k x 0) (report k 0 (65536 - x)))
-    go true e = ap (λ z. record { kind = 1; amount = z; class = k }) (sym (+ℤ-idr (pos x)))
+        → ofReport k (cond b (pos x) (pos x -ℤ pos 65536)) ≡ saidOf (cond b (report k x 0) (report k 0 (65536 - x)))
+    go true e = ap (ofReport k) (sym (+ℤ-idr (pos x)))
     go false e =
         let h = positive k (65536 - x) e in
         let q : x + (65536 - x) ≡ 65536 = omega arith in
-        ap (λ z. record { kind = 1; amount = z; class = k }) (subst (λ y. pos x -ℤ pos y ≡ pos 0 -ℤ pos (65536 - x)) q (minus-sum x (65536 - x)))
+        ap (ofReport k) (subst (λ y. pos x -ℤ pos y ≡ pos 0 -ℤ pos (65536 - x)) q (minus-sum x (65536 - x)))
 
 pub decoded-said : (v : ℕ) (s : List ℕ) (c : ℕ) (p : Payload) → decode v s ≡ Act (Send c p) → fairAmount p ≡ true → said v s ≡ saidOf p
-unfolding said amountIn classIn reportClass
+unfolding said amountIn classIn registerIn valueIn reportClass
 decoded-said v s c p e f = go (send-record v s c p e)
   where
     go : SendRecord v s p → said v s ≡ saidOf p
     go (reports q r) = rw (q, r) (reported-says (reportClass v s) (word s 3) (rw r at f))
     go (syncs q r) = rw (q, r)
+    go (writes q r) = rw (q, r)
 
 -- STEPS
 

@@ -1,4 +1,4 @@
--- The ledger and the table say the same after an accepted report or sync. Assumes nothing.
+-- The ledger and the table say the same after an accepted report, sync or write. Assumes nothing.
 use mathlib.Core.Path.{_≡_, refl, sym, ap, ap₂, subst, _∙_}
 use mathlib.Core.Bool.{true, false, not}
 use mathlib.Core.List.{List, [], _∷_, _++_, flatten}
@@ -27,9 +27,10 @@ use Rattle.invariant.proofs.Sizes.{next-sized}
 use Rattle.invariant.proofs.Logs.{log-within, entered-in-log, entered-in-log-other}
 use Rattle.invariant.proofs.Kept.{next-well-formed}
 use Rattle.invariant.proofs.Sending.{Added, new, old, added}
-use Rattle.consistency.specs.Demand3.{name, has, Said, Sent, Ledger, carried, moved}
+use Rattle.consistency.specs.Demand3.{name, has, Said, Sent, Ledger, dateFor, carried, moved}
 use Rattle.consistency.proofs.SlotNames.{logNames, length-log, log-entered, log-added}
 use Rattle.consistency.proofs.Ledger.{saidOf, sentOf, sentAt, senderAt, Slot, Recorded, slot-kept}
+use Rattle.consistency.proofs.Registers.{date-known}
 use Rattle.consistency.proofs.LedgerChanges.{at-case, at-kept, put-at}
 
 -- the run with the message that c sends
@@ -64,12 +65,13 @@ module _ {t : Table} {l : Ledger} (k : Recorded (t .n) t l) (c : ℕ) (p : Paylo
       (rw log-length (ap (λ (m : Message). nameOf m) (sym new-message)))
       ∙ sym (log-entered (longer t c p) (at t c) (t .count) sender-sized log-room)
 
-  sent-after : l .sent ++ (record { name = name c (length (l .log c) + 1); payload = p; said = s } ∷ []) ≡ tabulate (t .count + 1) (sentAt (longer t c p))
+  sent-after : l .sent ++ (record { name = name c (length (l .log c) + 1); date = dateFor l c s; payload = p; said = s } ∷ [])
+      ≡ tabulate (t .count + 1) (sentAt (longer t c p))
   unfolding sentMessage
   sent-after =
       ap₂ (λ (xs : List Sent) (x : Sent). xs ++ (x ∷ []))
       (k .sent ∙ tabulate-ext (t .count) _ _ (sentOf noMessage) (λ j h. ap (λ (m : Message). sentOf m) (sym (message-old t (sentMessage t c p) j h))))
-      (rw (log-length, says) (ap (λ (m : Message). sentOf m) (sym new-message)))
+      (rw (log-length, says, date-known k c (a .sender) p) (ap (λ (m : Message). sentOf m) (sym new-message)))
       ∙ sym (tabulate-last (sentAt (longer t c p)) (t .count))
 
   -- THE NEW NAME

@@ -14,6 +14,7 @@ pub mod BridgeNext
 pub mod Names
 pub mod SlotNames
 pub mod Ledger
+pub mod Registers
 pub mod LedgerChanges
 pub mod LedgerStop
 pub mod LedgerHandover

@@ -1,4 +1,4 @@
--- What the claim says of one moment or of two: containment, order, looks, local reads, and the ending. Assumes nothing.
+-- What the claim says of one moment or of two: containment, snapshots, order, looks, local reads, and the ending. Assumes nothing.
 use mathlib.Core.Path.{_≡_, refl, sym, ap, ap₂, _∙_}
 use mathlib.Core.Logic.{_⊎_, inl, inr, _↔_}
 use mathlib.Core.Bool.{true, false, false≢true}
@@ -19,6 +19,7 @@ use Rattle.model.specs.WellFormed.{named, wellFormed, inLog}
 use Rattle.model.specs.Questions.{firstNo, lentTable, kindQuestions, recordQuestions, ownPending, commandQuestions, scratchRoom, stepQuestions}
 use Rattle.model.specs.Calls.{EventAnswer, answering, accepted, settled, event, look}
 use Rattle.model.specs.declared.Name.{Name}
+use Rattle.model.specs.declared.Register.{Register}
 use Rattle.model.specs.declared.Panel.{Panel}
 use Rattle.model.specs.declared.Table.{Table}
 use Rattle.model.specs.declared.Command.the-variants.{Read}
@@ -30,15 +31,16 @@ use Rattle.invariant.proofs.Stores.{seated}
 use Rattle.broadcast.specs.State.{State}
 use Rattle.broadcast.specs.Delivery.{Subset}
 use Rattle.broadcast.proofs.Theorem.{containment, ending}
-use Rattle.consistency.specs.Demand3.{name, has, ownOf, Ledger, applied, sentNames, remaining, showing, Contains, Exactly, Runs, ReadOut, readRecord, IsRead}
+use Rattle.consistency.specs.Demand3.{name, has, ownOf, Ledger, applied, newest, registerAt, sentNames, remaining, showing, Contains, Exactly, NoLater, Runs, ReadOut, readRecord, IsRead}
 use Rattle.consistency.proofs.Bridge.{system, codeAt, code-injective, Related}
 use Rattle.consistency.proofs.BridgeFacts.{few, shown, applied-delivered, delivered-slot, remains-logged, own-logged, all-read, quorum-runs}
 use Rattle.consistency.proofs.PassedOver.{earlier-applied}
 use Rattle.consistency.proofs.Names.{has-own}
 use Rattle.consistency.proofs.SlotNames.{nameAt, length-log}
 use Rattle.consistency.proofs.Ledger.{slot-case, Recorded, sent-slot}
+use Rattle.consistency.proofs.Registers.{fewer-no-later, same-stamp-same-register, register-later}
 use Rattle.consistency.proofs.Sums.{panel-applied, has-remaining, remaining-slot, panel-remaining}
-use Rattle.consistency.proofs.Moments.{call-accepted, Moment}
+use Rattle.consistency.proofs.Moments.{call-accepted, Moment, Later}
 
 -- CONTAINMENT
 
@@ -69,18 +71,48 @@ applied-named : {n : ℕ} {t : Table} {l : Ledger} → Recorded n t l → (c : �
 unfolding has flatten
 applied-named {n} p c m e = elim (naming n c) [ yes h ↦ h | no f ↦ absurd (false≢true (rw (p .unnamed c f) at e)) ]
 
--- a moment, and one that a run from its state reaches
-pub comparable : {n : ℕ} {s₀ : State} {t u : Table} {l k : Ledger} (m : Moment n s₀ t l) → Moment n (m .state) u k → (c d : ℕ)
-    → Contains (applied l c) (applied k d) ⊎ Contains (applied k d) (applied l c)
-comparable {n} {s₀} {t} {u} {l} {k} m m′ c d = go (naming n c) (naming n d)
+-- of every controller, what it has applied at a moment and what another has applied later
+abbrev pub Comparable : Ledger → Ledger → Type 0
+Comparable l k = (c d : ℕ) → Contains (applied l c) (applied k d) ⊎ Contains (applied k d) (applied l c)
+
+pub comparable : {n : ℕ} {s₀ : State} {t u : Table} {l k : Ledger} → Later n s₀ t u l k → Comparable l k
+comparable {n} {s₀} {t} {u} {l} {k} w c d = go (w .first) (w .second) (naming n c) (naming n d)
   where
-    go : Dec (Among n c) → Dec (Among n d) → Contains (applied l c) (applied k d) ⊎ Contains (applied k d) (applied l c)
-    go (no f) y = inr (λ x e. absurd (f (applied-named (m .recorded) c x e)))
-    go (yes x) (no f) = inl (λ x e. absurd (f (applied-named (m′ .recorded) d x e)))
-    go (yes x) (yes y) = elim (containment (system n) (m .state) (m′ .state) (m .related .all) (m′ .run) (c - 1) (d - 1)) [
+    go : (m : Moment n s₀ t l) → Moment n (m .state) u k → Dec (Among n c) → Dec (Among n d)
+        → Contains (applied l c) (applied k d) ⊎ Contains (applied k d) (applied l c)
+    go m m′ (no f) y = inr (λ x e. absurd (f (applied-named (m .recorded) c x e)))
+    go m m′ (yes x) (no f) = inl (λ x e. absurd (f (applied-named (m′ .recorded) d x e)))
+    go m m′ (yes x) (yes y) = elim (containment (system n) (m .state) (m′ .state) (m .related .all) (m′ .run) (c - 1) (d - 1)) [
       | inl w ↦ inr (subset-contains (m .related) (m .recorded) (m′ .related) (m′ .recorded) c d x y w)
       | inr w ↦ inl (subset-contains (m′ .related) (m′ .recorded) (m .related) (m .recorded) d c y x w)
     ]
+
+-- SNAPSHOTS, at a moment and later
+
+-- of every two controllers they are in order; and where two stamps are the same, so are the values
+abbrev pub InOrder : Ledger → Ledger → Type 0
+InOrder l k = (c d : ℕ) → NoLater (registerAt l c) (registerAt k d) ⊎ NoLater (registerAt k d) (registerAt l c)
+
+abbrev pub OneValue : Ledger → Ledger → Type 0
+OneValue l k = (c d r : ℕ) → registerAt l c r .stamp ≡ registerAt k d r .stamp → registerAt l c r .value ≡ registerAt k d r .value
+
+module _ {n : ℕ} {s₀ : State} {t u : Table} {l k : Ledger} (m : Later n s₀ t u l k) where
+  abbrev q : Recorded n u k
+  q = m .second .recorded
+
+  by-later : (c r : ℕ) → registerAt l c r ≡ newest r (k .sent) (applied l c)
+  by-later = register-later (m .first .recorded) q (m .grown)
+
+  pub snapshots : InOrder l k
+  snapshots c d = elim (comparable m c d) [
+    | inl w ↦ inr (λ r. rw (by-later c r) (fewer-no-later q (applied k d) (applied l c) w r))
+    | inr w ↦ inl (λ r. rw (by-later c r) (fewer-no-later q (applied l c) (applied k d) w r))
+  ]
+
+  pub values : OneValue l k
+  values c d r e =
+      ap (λ (y : Register). y .value)
+      (by-later c r ∙ same-stamp-same-register q r (applied l c) (applied k d) (ap (λ (y : Register). y .stamp) (sym (by-later c r)) ∙ e))
 
 -- ORDER
 

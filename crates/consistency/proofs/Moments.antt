@@ -25,6 +25,7 @@ use Rattle.consistency.proofs.Bridge.{top, system, Related}
 use Rattle.consistency.proofs.BridgeNext.{fresh-related, next-related}
 use Rattle.consistency.proofs.Reader.{written, written-set}
 use Rattle.consistency.proofs.Ledger.{Recorded, start-recorded}
+use Rattle.consistency.proofs.Registers.{Grown, grown}
 use Rattle.consistency.proofs.LedgerNext.{Legal, record-legal, next-recorded}
 
 -- COURSES: P holds at each element of a list, with the state that those before it leave, and the last leaves u
@@ -188,5 +189,15 @@ moment-after m [] p = rw (← p) m
 moment-after m (x ∷ xs) p = moment-after (step-moment m x (p .0)) xs (p .1)
 
 -- the same moment as a start of its own
-pub restarted : {n : ℕ} {s₀ : State} {t : Table} {l : Ledger} (m : Moment n s₀ t l) → Moment n (m .state) t l
+restarted : {n : ℕ} {s₀ : State} {t : Table} {l : Ledger} (m : Moment n s₀ t l) → Moment n (m .state) t l
 restarted m = record { state = m .state; run = stays; related = m .related; recorded = m .recorded }
+
+-- a moment, and a later one that a run from its state reaches
+pub record Later (n : ℕ) (s₀ : State) (t u : Table) (l k : Ledger) : Type 0 where
+  pub first : Moment n s₀ t l
+  pub second : Moment n (first .state) u k
+  pub grown : Grown l k
+
+pub moment-later : {n : ℕ} {s₀ : State} {t u : Table} {l : Ledger} → Moment n s₀ t l → (xs : List Step) → Course stepped Takes t xs u
+    → Later n s₀ t u l (foldl moved l xs)
+moment-later {l = l} m xs p = record { first = m; second = moment-after (restarted m) xs p; grown = grown l xs }

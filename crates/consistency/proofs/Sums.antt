@@ -1,5 +1,5 @@
--- Sums over names: of any weight of a message they depend on the members alone, and what a panel shows is that of what was applied, for
--- each part of a fair amount is what the payload keeps of it. Assumes nothing.
+-- Sums over names: of any weight of a message they depend on the members alone; and what a panel shows, its registers too, is that of what was
+-- applied, for each part of a fair amount is what the payload keeps of it. Assumes nothing.
 use mathlib.Core.Path.{_≡_, refl, sym, ap, ap₂, subst, fun-ext, _∙_}
 use mathlib.Core.Bool.{Bool, true, false, cond, Bool·not-not}
 use mathlib.Core.Logic.{_⊎_, inl, inr}
@@ -15,13 +15,15 @@ use Rattle.lists.proofs.Tests.{and-left, refuted, contradiction, or-false, cond
 use Rattle.lists.proofs.Below.{sum-ext, sum-plus}
 use Rattle.lists.proofs.Grow.{tabulate-suc, map-tabulate}
 use Rattle.lists.proofs.Clipped.{sum-none}
-use Rattle.model.specs.Tables.{classCount, at, message}
+use Rattle.model.specs.Tables.{classCount, registerCount, at, message}
+use Rattle.model.specs.Registers.{registers}
 use Rattle.model.specs.Events.{weigh, sums, ofClass as classOf, classSums, shown, panelOf}
 use Rattle.model.specs.WellFormed.{fairAmount, inLog}
 use Rattle.model.specs.declared.Name.{Name}
 use Rattle.model.specs.declared.Message.{Message}
 use Rattle.model.specs.declared.Payload.{Payload}
 use Rattle.model.specs.declared.Sums.{Sums}
+use Rattle.model.specs.declared.Register.{Register}
 use Rattle.model.specs.declared.Panel.{Panel}
 use Rattle.model.specs.declared.Table.{Table}
 use Rattle.model.specs.Facts.{Among}
@@ -30,6 +32,7 @@ use Rattle.consistency.specs.Demand3.{same, has, Distinct, Sent, Ledger,
 use Rattle.consistency.proofs.Names.{same-true, same-sym, has-tabulate-at, has-less, distinct-less}
 use Rattle.consistency.proofs.SlotNames.{nameAt, slots-differ}
 use Rattle.consistency.proofs.Ledger.{balance, sentOf, sentAt, senderAt, Slot, Recorded, slot-sent, sent-slot, distinct-sent}
+use Rattle.consistency.proofs.Registers.{register-held, same-members-same-register}
 
 -- WEIGHTS
 
@@ -109,11 +112,15 @@ inClass k w = record {
   agree = λ m e. ap (λ x. cond (eqb (m .payload .class) k) x 0) (w .agree m e);
 }
 
--- the panel that shows a number of each weight
-abbrev panel : (Weight → ℕ) → Panel
-panel f =
-    let both : (Weight → Weight) → Sums = λ g. record { added = f (g added); withdrawn = f (g withdrawn) } in
-    record { sums = both (λ w. w); classes = tabulate classCount (λ k. both (inClass k)) }
+-- the panel that shows a number of each weight, and these registers
+abbrev panel : (Weight → ℕ) → (ℕ → Register) → Panel
+panel f g =
+    let both : (Weight → Weight) → Sums = λ v. record { added = f (v added); withdrawn = f (v withdrawn) } in
+    record {
+      sums = both (λ w. w);
+      classes = tabulate classCount (λ k. both (inClass k));
+      registers = tabulate registerCount (λ i. g (suc i));
+    }
 
 -- SUMS OF THE LEDGER
 
@@ -138,11 +145,12 @@ module _ {n : ℕ} {t : Table} {l : Ledger} (k : Recorded n t l) where
       ∙ sum-ext (t .count) _ _ (λ j _. ap (λ x. cond x (w (sentAt t j)) 0) (f (nameAt t j)))
       ∙ sym (weights-members w ks e)
 
-  -- a panel shows the sums of whatever has the members that were applied
+  -- a panel shows the sums and the registers of whatever has the members that were applied
   panel-members : (c : ℕ) → Among n c → (ms : List Name) → Distinct ms → Exactly (applied l c) ms → panelOf t c ≡ showing (l .sent) ms
-  unfolding panelOf shown sums classSums showing added withdrawn inClass
+  unfolding panelOf shown sums classSums registers showing added withdrawn inClass
   panel-members c h ms d f =
-      ap panel (fun-ext (λ w. sym (weights-weigh w c h) ∙ same-members-same-weights (w .of) (applied l c) ms (k .once c) d f))
+      ap₂ panel (fun-ext (λ w. sym (weights-weigh w c h) ∙ same-members-same-weights (w .of) (applied l c) ms (k .once c) d f))
+      (fun-ext (λ r. sym (register-held k c h r) ∙ same-members-same-register k r (applied l c) ms f))
 
   -- what a panel shows
   pub panel-applied : (c : ℕ) → Among n c → panelOf t c ≡ showing (l .sent) (applied l c)

@@ -1,6 +1,6 @@
 -- Demand 3: the claim holds of every list, whichever head it has and whatever the calls. Assumes nothing.
 use mathlib.Core.Path.{_≡_, refl, sym, ap, _∙_}
-use mathlib.Core.Logic.{_≢_, _⊎_, inl, inr}
+use mathlib.Core.Logic.{_≢_, inl, inr, ⊎-swap}
 use mathlib.Core.Bool.{true}
 use mathlib.Core.List.{List, [], _∷_, _++_, foldl, foldl-append, append-assoc, cons-ne-nil}
 use Prim.Native.Nat.{ℕ, suc, _+_, _-_}
@@ -22,12 +22,13 @@ use Rattle.model.proofs.Tested.{tested}
 use Rattle.model.proofs.Steps.{step-number, event-number-step}
 use Rattle.invariant.proofs.Refusals.{step-number-range}
 use Rattle.broadcast.specs.State.{fresh as freshState}
-use Rattle.consistency.specs.Demand3.{Call, singleEvent, panelLook, Entry, answered, looked, listed, entry, left, transcript, Said, Step, carried, did, Sent, start, moved, ledger, applied, sentNames, remaining, weights, Head, Heads, version, controllers, opening, given, entries, moment, Contains, Runs, ReadOut, readRecord, Consistent}
+use Rattle.consistency.specs.Demand3.{Call, singleEvent, panelLook, Entry, answered, looked, listed, entry, left, transcript, Said, Step, carried, did, Sent, Ledger, start, moved, ledger, applied, sentNames, remaining, weights, Head, Heads, version, controllers, opening, given, entries, moment, Contains, Runs, ReadOut, readRecord, Consistent}
 use Rattle.consistency.proofs.Bridge.{top}
 use Rattle.consistency.proofs.Ledger.{names-sent}
+use Rattle.consistency.proofs.Registers.{stamps-differ}
 use Rattle.consistency.proofs.Sums.{of-payload, weights-weigh, same-members-same-weights, distinct-remaining}
-use Rattle.consistency.proofs.Moments.{Course, course-append, course-first, course-rest, stepped, Takes, Gives, told, entries-version, did-append, entries-taken, transcript-course, Moment, first-moment, moment-after, restarted}
-use Rattle.consistency.proofs.MomentFacts.{comparable, in-order, look-shows, read-gives, read-rests, moment-ending, ending-shows, ending-gives}
+use Rattle.consistency.proofs.Moments.{Course, course-append, course-first, course-rest, stepped, Takes, Gives, told, entries-version, did-append, entries-taken, transcript-course, Moment, first-moment, moment-after, Later, moment-later}
+use Rattle.consistency.proofs.MomentFacts.{Comparable, comparable, InOrder, OneValue, snapshots, values, in-order, look-shows, read-gives, read-rests, moment-ending, ending-shows, ending-gives}
 use Rattle.consistency.proofs.HandoverFacts.{line-sums, entry-finishes}
 use Rattle.consistency.proofs.Heads.{Begun, begun}
 
@@ -104,22 +105,19 @@ module _ (h : Head) (heads : Heads h) (calls : List Call) where
       rw (ap (foldl told (freshOf h)) p ∙ foldl-append told (freshOf h) (take i es) (e ∷ [])) at (moment-at (suc i))
 
   -- the later one is k entries on
-  ordered : (i k a d : ℕ)
-      → Contains (applied (moment h calls i) a) (applied (moment h calls (i + k)) d)
-      ⊎ Contains (applied (moment h calls (i + k)) d) (applied (moment h calls i) a)
-  ordered i k a d =
-      let m = moment-at i in
+  later-at : (i k : ℕ) → Later n (freshState top) (tableAt h calls i) (foldl told (tableAt h calls i) (take k (drop i es))) (moment h calls i) (moment h calls (i + k))
+  later-at i k =
       let xs = take k (drop i es) in
       let c = course-first told Gives (tableAt h calls i) xs (drop k (drop i es)) end (rw (take-append-drop k (drop i es)) (from i)) in
       rw (take-add i k es, did-append v (take i es) xs, foldl-append moved start (did v (take i es)) (did v xs))
-      (comparable m (moment-after (restarted m) (did v xs) (entries-taken _ (version-at i) xs _ c)) a d)
+      (moment-later (moment-at i) (did v xs) (entries-taken _ (version-at i) xs _ c))
 
-  contains : (i j a d : ℕ)
-      → Contains (applied (moment h calls i) a) (applied (moment h calls j) d)
-      ⊎ Contains (applied (moment h calls j) d) (applied (moment h calls i) a)
-  contains i j a d = elim (decLt j i) [
-    | no l ↦ let q : i + (j - i) ≡ j = omega arith in rw q at (ordered i (j - i) a d)
-    | yes l ↦ let q : j + (i - j) ≡ i = omega arith in elim (ordered j (i - j) d a) [ inl w ↦ inr (rw q at w) | inr w ↦ inl (rw q at w) ]
+  -- what holds of a moment and a later one, and either way round, holds of any two
+  any-two : (P : Ledger → Ledger → Type 0) → ((t u : Table) (l k : Ledger) → Later n (freshState top) t u l k → P l k) → ((l k : Ledger) → P l k → P k l)
+      → (i j : ℕ) → P (moment h calls i) (moment h calls j)
+  any-two P f turned i j = elim (decLt j i) [
+    | no l ↦ let q : i + (j - i) ≡ j = omega arith in rw q at (f _ _ _ _ (later-at i (j - i)))
+    | yes l ↦ let q : j + (i - j) ≡ i = omega arith in turned _ _ (rw q at (f _ _ _ _ (later-at j (i - j))))
   ]
 
   sent : (before after : List Step) (s : Said) (e : Event) (ms : List Name) → did v es ≡ before ++ (carried s e ms ∷ after) → Contains (sentNames (ledger before)) ms
@@ -146,7 +144,7 @@ list-extended h calls x = ap (λ es. opening h ++ es) (extended (given h) calls 
 pub demand-3 : (h : Head) → Heads h → (calls : List Call) → Consistent h calls
 unfolding entry
 demand-3 h heads calls = record {
-  contains = contains h heads calls;
+  contains = any-two h heads calls Comparable (λ t u l k. comparable) (λ l k f c d. ⊎-swap (f d c));
   sent = sent h heads calls;
   once = λ i c. moment-at h heads calls i .recorded .once c;
   looks = λ i c a after q. look-shows (moment-at h heads calls i) c a (unfold Gives in (gives-at h heads calls i (looked c a) after q));
@@ -161,6 +159,9 @@ demand-3 h heads calls = record {
       line-sums (m .related .formed) r o q (x ∷ ms) s z (gives-at h heads calls i (listed s z) after p) (rw (version-at h heads calls i) is)
       (moment-behind h heads calls i (listed s z) after p .recorded) (cons-ne-nil x ms);
   in-order = λ i. in-order (moment-at h heads calls i);
+  stamps = λ i. stamps-differ (moment-at h heads calls i .recorded);
+  snapshots = any-two h heads calls InOrder (λ t u l k. snapshots) (λ l k f c d. ⊎-swap (f d c));
+  values = any-two h heads calls OneValue (λ t u l k. values) (λ l k f c d r e. sym (f d c r (sym e)));
   ending = λ i r e on. moment-ending (moment-at h heads calls i) e r on;
   ending-look = λ i r e on.
       let now = take i calls in

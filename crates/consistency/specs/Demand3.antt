@@ -166,8 +166,7 @@ writes r x = eqb (x .said .kind) 6 && eqb (x .said .reg) r
 abbrev pub written : Sent → Register
 written x = record { value = x .said .value; stamp = record { date = x .date; writer = x .name .sender } }
 
--- register r by those of the messages sent that are in ms: the write with the greatest stamp, dates before writers; 0 and 0, 0 if there is
--- none
+-- register r by those messages sent that are in ms: the write with the greatest stamp, dates before writers; if none, 0 with stamp 0, 0
 unfoldable pub newest : ℕ → List Sent → List Name → Register
 newest r xs ms = foldl (λ y x. cond (has (x .name) ms && writes r x) (wins (written x) y) y) noRegister xs
 

@@ -1,0 +1,161 @@
+-- Registers: those that the ledger gives are those that the table holds, and so no two writes of one have the same stamp, fewer messages give
+-- none a later stamp, and a stamp has one value; and a later ledger still gives those of an earlier one. Assumes nothing.
+use mathlib.Core.Path.{_≡_, refl, sym, ap, _∙_}
+use mathlib.Core.Bool.{Bool, true, _&&_, cond}
+use mathlib.Core.List.{List, [], _∷_, _++_, map, map-append, append-nil, append-assoc, foldl, foldl-append}
+use Prim.Native.Nat.{ℕ, zero, suc, _+_, _<_}
+use native.Mathlib.Omega.{arith}
+use lib.ListN.{length, length-append}
+use lib.Seq.{getD-at}
+use lib.Dec.{eqb}
+use borrow.Author.Tests.{eqb-true}
+use Rattle.lists.specs.Build.{tabulateFrom, tabulate}
+use Rattle.lists.proofs.Tests.{and-left, and-right, or-left, or-false, refuted, contradiction}
+use Rattle.lists.proofs.Build.{length-tabulate, getD-tabulate}
+use Rattle.lists.proofs.Grow.{tabulate-suc}
+use Rattle.model.specs.Tables.{noRegister, at, message}
+use Rattle.model.specs.Registers.{wins, writes as writesOf, newest as newestIn, registerOf, dateOf}
+use Rattle.model.specs.declared.Name.{Name}
+use Rattle.model.specs.declared.Payload.{Payload}
+use Rattle.model.specs.declared.Stamp.{Stamp}
+use Rattle.model.specs.declared.Register.{Register}
+use Rattle.model.specs.declared.Table.{Table}
+use Rattle.model.specs.declared.Event.the-variants.{Send, Handover, Stop}
+use Rattle.model.specs.Facts.{Among}
+use Rattle.model.proofs.Registers.{NoLater as StampNoLater, no-later, zero-first, Held, none, some, newest-held, newest-most, newest-ext, same-stamp-same}
+use Rattle.consistency.specs.Demand3.{same, has, Step, carried, Sent, Ledger, applied, writes, written, newest, registerAt, dateFor, moved, sentNames, Contains, Exactly, NoLater}
+use Rattle.consistency.proofs.Names.{same-self, Apart, apart-of}
+use Rattle.consistency.proofs.SlotNames.{nameAt}
+use Rattle.consistency.proofs.Ledger.{saidOf, sentAt, Recorded, slot-sent, distinct-sent}
+
+-- BY SLOTS
+
+-- the slots of messages
+abbrev among : Table → List Name → ℕ → Bool
+among t ms j = has (nameAt t j) ms
+
+-- one message more
+newest-last : (r : ℕ) (ms : List Name) (xs : List Sent) (x : Sent)
+    → let y = newest r xs ms in
+    newest r (xs ++ (x ∷ [])) ms ≡ cond (has (x .name) ms && writes r x) (wins (written x) y) y
+unfolding newest
+newest-last r ms xs x = foldl-append _ noRegister xs (x ∷ [])
+
+newest-slots : (t : Table) (r : ℕ) (ms : List Name) (k : ℕ) → newest r (tabulate k (sentAt t)) ms ≡ newestIn k t (among t ms) r
+unfolding newest newestIn writes writesOf tabulate tabulateFrom
+newest-slots t r ms zero = refl
+newest-slots t r ms (suc k) =
+    ap (λ (xs : List Sent). newest r xs ms) (tabulate-suc (sentAt t) k)
+    ∙ newest-last r ms (tabulate k (sentAt t)) (sentAt t k)
+    ∙ ap (λ (y : Register). cond (among t ms k && writes r (sentAt t k)) (wins (written (sentAt t k)) y) y) (newest-slots t r ms k)
+
+module _ {n : ℕ} {t : Table} {l : Ledger} (p : Recorded n t l) where
+  newest-has : (r : ℕ) (ms : List Name) → newest r (l .sent) ms ≡ newestIn (t .count) t (among t ms) r
+  newest-has r ms = ap (λ (xs : List Sent). newest r xs ms) (p .sent) ∙ newest-slots t r ms (t .count)
+
+  pub register-held : (c : ℕ) → Among n c → (r : ℕ) → registerAt l c r ≡ registerOf t (at t c) r
+  unfolding registerOf
+  register-held c h r = newest-has r (applied l c) ∙ newest-ext t r (t .count) _ _ (p .applies c h)
+
+  -- the date that a write gets
+  pub date-known : (c : ℕ) → Among n c → (q : Payload) → dateFor l c (saidOf q) ≡ dateOf t (at t c) q
+  unfolding dateFor dateOf
+  date-known c h q = ap (λ (y : Register). cond (eqb (q .kind) 6) (y .stamp .date + 1) 0) (register-held c h (q .reg))
+
+  -- the same members, the same registers
+  pub same-members-same-register : (r : ℕ) (ms ks : List Name) → Exactly ms ks → newest r (l .sent) ms ≡ newest r (l .sent) ks
+  same-members-same-register r ms ks f = newest-has r ms ∙ newest-ext t r (t .count) _ _ (λ j _. f (nameAt t j)) ∙ sym (newest-has r ks)
+
+  -- BY TWO SETS OF MESSAGES
+
+  -- one within the other
+  pub fewer-no-later : (ms ks : List Name) → Contains ks ms → NoLater (λ r. newest r (l .sent) ms) (λ r. newest r (l .sent) ks)
+  fewer-no-later ms ks w r = rw (newest-has r ms, newest-has r ks) (no-later _ _ (go (newest-held t (among t ms) r (t .count))))
+    where
+      go : {y : Register} → Held (t .count) t (among t ms) r y
+          → StampNoLater (y .stamp) (newestIn (t .count) t (among t ks) r .stamp)
+      go (none e) = rw e (zero-first _)
+      go (some s b f q e) = rw e (newest-most t (among t ks) r (t .count) s b (w (nameAt t s) f) q)
+
+  -- any two
+  pub same-stamp-same-register : (r : ℕ) (ms ks : List Name) → newest r (l .sent) ms .stamp ≡ newest r (l .sent) ks .stamp
+      → newest r (l .sent) ms ≡ newest r (l .sent) ks
+  same-stamp-same-register r ms ks =
+      rw (newest-has r ms, newest-has r ks)
+      (same-stamp-same t (p .formed) (newest-held t (among t ms) r (t .count)) (newest-held t (among t ks) r (t .count)))
+
+  -- DIFFERENT STAMPS
+
+  -- a message sent has the slot of its place
+  placed : (xs : List Sent) (x : Sent) (ys : List Sent) → l .sent ≡ xs ++ (x ∷ ys) → (length xs < t .count) × (sentAt t (length xs) ≡ x)
+  placed xs x ys e =
+      let q : tabulate (t .count) (sentAt t) ≡ xs ++ (x ∷ ys) = sym (p .sent) ∙ e in
+      let b : length xs < t .count = omega (arith, length-append xs (x ∷ ys), ap length q, length-tabulate (t .count) (sentAt t)) in
+      (b, sym (getD-tabulate (t .count) (sentAt t) x (length xs) b) ∙ rw q (getD-at xs x ys x (length xs) refl))
+
+  same-stamp-same-slot : (r i j : ℕ) → i < t .count → j < t .count → writes r (sentAt t i) ≡ true → writes r (sentAt t j) ≡ true
+      → written (sentAt t i) .stamp ≡ written (sentAt t j) .stamp → i ≡ j
+  unfolding writes
+  same-stamp-same-slot r i j hi hj wi wj e =
+      p .formed .stamps i j hi hj (eqb-true (message t i .payload .kind) 6 (and-left _ _ wi)) (eqb-true (message t j .payload .kind) 6 (and-left _ _ wj))
+      (ap (λ (a : Stamp). a .writer) e) (writes-of i wi ∙ sym (writes-of j wj)) (ap (λ (a : Stamp). a .date) e)
+    where
+      writes-of : (s : ℕ) → (eqb (message t s .payload .kind) 6 && eqb (message t s .payload .reg) r) ≡ true → message t s .payload .reg ≡ r
+      writes-of s w = eqb-true (message t s .payload .reg) r (and-right (eqb (message t s .payload .kind) 6) _ w)
+
+  pub stamps-differ : (r : ℕ) (x y : Sent) (before between after : List Sent) → l .sent ≡ before ++ (x ∷ between ++ (y ∷ after))
+      → writes r x ≡ true → writes r y ≡ true → written x .stamp ≡ written y .stamp → ⊥
+  stamps-differ r x y before between after e wx wy s =
+      let i = placed before x (between ++ (y ∷ after)) e in
+      let j = placed (before ++ (x ∷ between)) y after (e ∙ sym (append-assoc before (x ∷ between) (y ∷ after))) in
+      let stamp : Sent → Stamp = λ z. written z .stamp in
+      omega (
+        arith,
+        length-append before (x ∷ between),
+        same-stamp-same-slot r (length before) (length (before ++ (x ∷ between))) (i .0) (j .0) (ap (writes r) (i .1) ∙ wx) (ap (writes r) (j .1) ∙ wy)
+            (ap stamp (i .1) ∙ (s ∙ sym (ap stamp (j .1)))),
+      )
+
+-- A LATER LEDGER
+
+-- it has what was sent, and perhaps more
+pub record Grown (l k : Ledger) : Type 0 where
+  pub more : List Sent
+  pub is : k .sent ≡ l .sent ++ more
+
+moved-grown : (l : Ledger) (x : Step) → Grown l (moved l x)
+unfolding moved
+moved-grown l (carried s (Send c p) ms) = record { more = _ ∷ []; is = refl }
+moved-grown l (carried s (Handover r o) ms) = record { more = []; is = sym (append-nil (l .sent)) }
+moved-grown l (carried s (Stop c k) ms) = record { more = []; is = sym (append-nil (l .sent)) }
+
+pub grown : (l : Ledger) (xs : List Step) → Grown l (foldl moved l xs)
+grown l [] = record { more = []; is = sym (append-nil (l .sent)) }
+grown l (x ∷ xs) =
+    let a = moved-grown l x in
+    let b = grown (moved l x) xs in
+    record { more = a .more ++ b .more; is = b .is ∙ (ap (λ (ys : List Sent). ys ++ b .more) (a .is) ∙ append-assoc (l .sent) (a .more) (b .more)) }
+
+abbrev names : List Sent → List Name
+names xs = map (λ x. x .name) xs
+
+-- messages that are not among ms change no register
+newest-skips : (r : ℕ) (ms : List Name) (xs ys : List Sent) → Apart ms (names ys) → newest r (xs ++ ys) ms ≡ newest r xs ms
+unfolding has
+newest-skips r ms xs [] a = rw append-nil
+newest-skips r ms xs (y ∷ ys) a =
+    ap (λ (zs : List Sent). newest r zs ms) (sym (append-assoc xs (y ∷ []) ys))
+    ∙ newest-skips r ms (xs ++ (y ∷ [])) ys (λ m e. or-false (same m (y .name)) _ (a m e) .1)
+    ∙ newest-last r ms xs y
+    ∙ rw (refuted (has (y .name) ms) (λ e. contradiction (or-left _ (same-self (y .name))) (a (y .name) e)))
+
+-- the registers of the first, by what was applied then
+pub register-later : {n : ℕ} {t u : Table} {l k : Ledger} → Recorded n t l → Recorded n u k → Grown l k → (c r : ℕ)
+    → registerAt l c r ≡ newest r (k .sent) (applied l c)
+register-later {l = l} {k = k} p q g c r = sym (rw (g .is) (newest-skips r (applied l c) (l .sent) (g .more) new))
+  where
+    sent : sentNames k ≡ sentNames l ++ names (g .more)
+    sent = ap names (g .is) ∙ map-append (λ (x : Sent). x .name) (l .sent) (g .more)
+
+    new : Apart (applied l c) (names (g .more))
+    new m e = apart-of (sentNames l) _ (rw sent at (distinct-sent q)) m (slot-sent p m (p .applied-sent c m e))
