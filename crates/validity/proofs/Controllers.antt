@@ -15,7 +15,7 @@ use Rattle.lists.proofs.Tests.{and-left, and-right}
 use Rattle.lists.proofs.Below.{all-at}
 use Rattle.lists.proofs.Build.{getD-tabulate}
 use Rattle.model.specs.Tables.{none, noController, at, message, yes?, slotAt, place, held, applied, highest}
-use Rattle.model.specs.WellFormed.{inLog, greatestApplied, known, inRange, named, goodMark, goodMessage, goodMessages, goodLog, goodPlaces, goodMarks, goodBuffer, goodHighest, goodRunning, goodController, wellFormed}
+use Rattle.model.specs.WellFormed.{inLog, greatestApplied, known, inRange, named, fairDate, keptWrite, goodMark, goodMessage, goodMessages, goodWrites, goodLog, goodPlaces, goodMarks, goodBuffer, goodHighest, goodRunning, goodController, wellFormed}
 use Rattle.model.specs.declared.Message.{Message}
 use Rattle.model.specs.declared.Controller.{Controller}
 use Rattle.model.specs.declared.Table.{Table}
@@ -23,7 +23,7 @@ use Rattle.validity.specs.declared.LogRead.{LogRead}
 use Rattle.validity.specs.declared.BufferRead.{BufferRead}
 use Rattle.model.specs.Parts.{part, whole}
 use Rattle.validity.specs.Parts.{goodAlone}
-use Rattle.validity.specs.Flags.{Seated, taken, goodEntries, ReadsLog, ReadsBuffer, goodSlot, slotTest, greatestOf}
+use Rattle.validity.specs.Flags.{AllBounded, taken, goodEntries, ReadsLog, ReadsBuffer, goodSlot, slotTest, greatestOf}
 use Rattle.validity.proofs.Buffers.{slot, slots-are}
 use Rattle.validity.proofs.Numbers.{long-enough}
 
@@ -126,7 +126,7 @@ pub record Tested (n k : ℕ) (M : List Message) (C : List Controller) (ends sen
   pub reached : i ≤ n
   pub few : n ≤ 7
   pub fits : k ≤ 64
-  pub seats : Seated k M
+  pub seats : AllBounded k M
   pub ends-are : ends ≡ logEnds C
   pub sent-are : sent ≡ tabulate 8 (greatestOf k M (replicate 64 1))
   pub allowed-are : allowed ≡ tabulate 256 goodMark
@@ -162,14 +162,18 @@ module _ (t : Table) where
     fits = leb-true (t .count) 64 (and-right (leb (t .n) 7) _ sizes)
 
     whole-messages : goodMessages (part (t .version) (t .n) (t .count) (t .messages)) ≡ goodMessages t
-    unfolding goodMessages goodMessage named message
+    unfolding goodMessages goodMessage named fairDate message
     whole-messages = refl
 
     pub bad-messages : goodMessages (part (t .version) (t .n) (t .count) (t .messages)) ≡ false → false ≡ wellFormed t
     unfolding wellFormed inRange
     bad-messages m = rw (not-false inBounds e, sym whole-messages ∙ m)
 
-    -- no clause of a controller reads the version
+    -- no clause of a write reads the version or n, and none of a controller the version
+    whole-writes : goodWrites (whole 0 0 (t .count) (t .messages) (t .controllers)) ≡ goodWrites t
+    unfolding goodWrites keptWrite at message
+    whole-writes = refl
+
     abbrev unversioned : Table
     unversioned = whole 0 (t .n) (t .count) (t .messages) (t .controllers)
 
@@ -177,7 +181,12 @@ module _ (t : Table) where
     unfolding goodController goodLog goodPlaces goodMarks goodBuffer goodHighest goodRunning greatestApplied at message
     all-alike = refl
 
-    pub tested : goodMessages (part (t .version) (t .n) (t .count) (t .messages)) ≡ true → (controllers : Bool)
-        → controllers ≡ all (t .n) (λ i. goodController unversioned (suc i) (at unversioned (suc i))) → controllers ≡ wellFormed t
-    unfolding wellFormed inRange
-    tested m controllers c = rw (not-false inBounds e, sym whole-messages ∙ m) (c ∙ all-alike)
+    module _ (m : goodMessages (part (t .version) (t .n) (t .count) (t .messages)) ≡ true) where
+      pub bad-writes : goodWrites (whole 0 0 (t .count) (t .messages) (t .controllers)) ≡ false → false ≡ wellFormed t
+      unfolding wellFormed inRange
+      bad-writes w = rw (not-false inBounds e, sym whole-messages ∙ m, sym whole-writes ∙ w)
+
+      pub tested : goodWrites (whole 0 0 (t .count) (t .messages) (t .controllers)) ≡ true → (controllers : Bool)
+          → controllers ≡ all (t .n) (λ i. goodController unversioned (suc i) (at unversioned (suc i))) → controllers ≡ wellFormed t
+      unfolding wellFormed inRange
+      tested w controllers c = rw (not-false inBounds e, sym whole-messages ∙ m, sym whole-writes ∙ w) (c ∙ all-alike)

@@ -1,5 +1,6 @@
 pub mod Flags
 pub mod Messages
+pub mod Writes
 pub mod Logs
 pub mod Marks
 pub mod Buffers

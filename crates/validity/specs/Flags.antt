@@ -15,18 +15,17 @@ use Rattle.model.specs.declared.Pending.{Pending}
 use Rattle.validity.specs.declared.LogRead.{LogRead}
 use Rattle.validity.specs.declared.BufferRead.{BufferRead}
 
--- no sender of the first k messages is above 7
-abbrev pub Seated : ℕ → List Message → Type 0
-Seated k M = (s : ℕ) → s < k → getD M s noMessage .sender ≤ 7
-
--- the senders, registers and dates of the first k messages that are writes are in range
-pub record GoodStamp (m : Message) : Type 0 where
-  pub sender : (0 < m .sender) × (m .sender ≤ 7)
+-- a message whose sender, number, register and date are in range
+pub record Bounded (m : Message) : Type 0 where
+  pub low : 0 < m .sender
+  pub sender : m .sender ≤ 7
+  pub number : m .number .0 ≤ 64
   pub reg : m .payload .reg ≤ 8
   pub date : m .date ≤ 64
 
-abbrev pub Stamped : ℕ → List Message → Type 0
-Stamped k M = (s : ℕ) → s < k → GoodStamp (getD M s noMessage)
+-- so are the first k messages
+abbrev pub AllBounded : ℕ → List Message → Type 0
+AllBounded k M = (s : ℕ) → s < k → Bounded (getD M s noMessage)
 
 -- f takes the value j below k
 unfoldable pub taken : (ℕ → ℕ) → ℕ → ℕ → Bool

@@ -3,16 +3,16 @@
 ghost use mathlib.Core.Path.{_≡_};
 ghost use mathlib.Core.Bool.{not, _||_, cond};
 ghost use mathlib.Core.List.{[]};
-ghost use Prim.Native.Nat.{suc, max, _+_, _≤_, _<_};
+ghost use Prim.Native.Nat.{suc, _+_, _≤_, _<_};
 ghost use lib.ListN.{getD};
 ghost use lib.Dec.{eqb, leb};
-ghost use Rattle.lists.specs.Below.{all, distinct};
+ghost use Rattle.lists.specs.Below.{all};
 ghost use Rattle.lists.specs.Build.{tabulate};
-ghost use Rattle.model.specs.Tables.{none, noMessage, noController, at, yes?, held, applied};
-ghost use Rattle.model.specs.WellFormed.{fairDate, sameStamp, keptWrite, goodMessage, goodMessages, goodMark, goodController, wellFormed};
+ghost use Rattle.model.specs.Tables.{none, noController, at, yes?, held, applied};
+ghost use Rattle.model.specs.WellFormed.{fairDate, goodMessage, goodMessages, goodWrites, goodMark, goodController, wellFormed};
 ghost use Rattle.model.specs.Parts.{part, whole};
 ghost use Rattle.validity.specs.Parts.{goodAlone};
-ghost use Rattle.validity.specs.Flags.{Seated, Stamped, ReadsLog, goodEntry, ReadsBuffer, goodSlot, slotTest, greatestOf};
+ghost use Rattle.validity.specs.Flags.{AllBounded, ReadsLog, goodEntry, ReadsBuffer, goodSlot, slotTest, greatestOf};
 use model::Controller;
 use model::ForwardNumber;
 use model::Message;
@@ -81,27 +81,6 @@ const REGISTERS: usize = Panel::REGISTERS + 1;
 // A write's sender, register and date have a code of their own, below this.
 const STAMPS: usize = SENDERS * REGISTERS * NUMBERS;
 
-// Whether no two writes of one sender and register have the same date.
-fn distinct_stamps(count: usize, messages: [Message; 64]) -> bool
-    requires { ⌜ (count ≤ 64) × Stamped count messages ⌝ }
-    ensures { λ r. ⌜ r ≡ distinct count (λ i j. sameStamp (getD messages i noMessage) (getD messages j noMessage)) ⌝ }
-{
-    let mut seen = [false; STAMPS];
-    for s in 0..count {
-        let m = messages[s];
-        if m.payload.kind != Payload::WRITE {
-            continue;
-        }
-        let code = ((m.sender as usize) * REGISTERS + (m.payload.reg as usize)) * NUMBERS
-            + (m.date as usize);
-        if seen[code] {
-            return false;
-        }
-        seen[code] = true;
-    }
-    true
-}
-
 // Whether a controller that runs has a slot pending or applied.
 fn keeps(c: Controller, s: usize) -> bool
     requires { ⌜ s < 64 ⌝ }
@@ -109,24 +88,32 @@ fn keeps(c: Controller, s: usize) -> bool
 {
     let held = c.pending[s].held;
     let done = c.applied[s];
-    let running = c.running;
-    (running == 0) | ((0 < held) | (0 < done))
+    let running = 0 < c.running;
+    !running | ((0 < held) | (0 < done))
 }
 
-// Whether each running controller has the writes that it sent pending or applied.
-fn kept_writes(count: usize, messages: [Message; 64], controllers: [Controller; 7]) -> bool
-    requires { ⌜ (count ≤ 64) × Stamped count messages ⌝ }
-    ensures { λ r. ⌜ r ≡ all count (keptWrite (whole 0 0 count messages controllers)) ⌝ }
+// No two writes of one sender and register have the same date, and a running controller has those that it sent pending or applied.
+fn good_writes(count: usize, messages: [Message; 64], controllers: [Controller; 7]) -> bool
+    requires { ⌜ (count ≤ 64) × AllBounded count messages ⌝ }
+    ensures { λ r. ⌜ r ≡ goodWrites (whole 0 0 count messages controllers) ⌝ }
 {
+    let mut seen = [false; STAMPS];
     for s in 0..count {
         let m = messages[s];
-        if m.payload.kind != Payload::WRITE {
+        let kind = m.payload.kind;
+        if kind != Payload::WRITE {
             continue;
         }
         let i = m.sender as usize - 1;
         if !keeps(controllers[i], s) {
             return false;
         }
+        let set = (m.sender as usize) * REGISTERS + (m.payload.reg as usize);
+        let code = set * NUMBERS + (m.date as usize);
+        if seen[code] {
+            return false;
+        }
+        seen[code] = true;
     }
     true
 }
@@ -268,7 +255,7 @@ fn number_if(flag: u8, m: Message) -> u8
 
 // For each sender the greatest number among the messages that are flagged.
 fn greatest_numbers(count: usize, messages: [Message; 64], flags: [u8; 64]) -> [u8; 8]
-    requires { ⌜ (count ≤ 64) × Seated count messages ⌝ }
+    requires { ⌜ (count ≤ 64) × AllBounded count messages ⌝ }
     ensures { λ r. ⌜ r ≡ tabulate 8 (greatestOf count messages flags) ⌝ }
 {
     let mut greatest: [u8; 8] = [0; SENDERS];
@@ -304,7 +291,7 @@ fn good_controller(
     sent: u8,
     c: Controller,
 ) -> bool
-    requires { ⌜ (n ≤ 7) × (count ≤ 64) × Seated count messages × (now allowed ≡ tabulate 256 goodMark) ⌝ }
+    requires { ⌜ (n ≤ 7) × (count ≤ 64) × AllBounded count messages × (now allowed ≡ tabulate 256 goodMark) ⌝ }
     ensures { λ r. ⌜ r ≡ goodAlone (part 0 n count messages) sent c ⌝ }
 {
     let length = c.length;
@@ -346,7 +333,7 @@ fn each_controller(
     messages: [Message; 64],
     controllers: [Controller; 7],
 ) -> bool
-    requires { ⌜ (n ≤ 7) × (count ≤ 64) × Seated count messages ⌝ }
+    requires { ⌜ (n ≤ 7) × (count ≤ 64) × AllBounded count messages ⌝ }
     ensures { λ r. ⌜ r ≡ all n (λ i. goodController (whole 0 n count messages controllers) (suc i) (at (whole 0 n count messages controllers) (suc i))) ⌝ }
 {
     let ends = lengths(controllers);
@@ -380,7 +367,7 @@ pub fn well_formed(t: Table) -> bool
         return false;
     }
     let controllers = t.controllers;
-    if !(distinct_stamps(count, messages) & kept_writes(count, messages, controllers)) {
+    if !good_writes(count, messages, controllers) {
         return false;
     }
     each_controller(n, count, messages, controllers)

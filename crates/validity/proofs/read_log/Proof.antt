@@ -1,13 +1,13 @@
 -- `read_log` reads a log once. Assumes nothing.
 use Prim.Native.Nat.{_-_, _≤_}
 use native.Mathlib.Omega.{arith}
-use Rattle.validity.proofs.Logs.{Read, none-read, next-read, slot-twice, slot-outside, refused, accepted}
+use Rattle.validity.proofs.Logs.{EntriesRead, nothing-read, slot-read, slot-twice, slot-outside, refused, accepted}
 use borrow.Author.Needs.{needs}
 use Rattle.validity.proofs.read_log.Statement.{statement}
 use Rattle.validity.proofs.read_log.Tie as tie
 
 abbrev Inv-loop : tie.InvT-loop
-Inv-loop count length log named₀ k₀ named k = (k ≤ length) × (count ≤ 64) × (length ≤ 64) × Read count log k named
+Inv-loop count length log named₀ k₀ named k = (k ≤ length) × (count ≤ 64) × (length ≤ 64) × EntriesRead count log k named
 
 abbrev μ-loop : tie.MeasureT-loop
 μ-loop count length log named₀ k₀ named k = length - k
@@ -17,7 +17,7 @@ abbrev turn : tie.Else1 Inv-loop μ-loop → tie.At-loop Inv-loop μ-loop
 turn c = c .before .before
 
 loop-holds : tie.Need-loop-holds Inv-loop μ-loop
-loop-holds c = (search needs, search needs, search needs, none-read _ _)
+loop-holds c = (search needs, search needs, search needs, nothing-read _ _)
 
 array-read-slot : tie.Need-array-read-slot Inv-loop μ-loop
 array-read-slot c = search needs
@@ -48,7 +48,7 @@ loop-less c = search needs
 loop-again : tie.Need-loop-again Inv-loop μ-loop
 loop-again c =
     let t = turn (c .before) in
-    (search needs, search needs, search needs, next-read _ _ (t .loop .inv .1) _ _ (t .loop .inv .3) (c .before .if1 .left) (c .if2 .left))
+    (search needs, search needs, search needs, slot-read _ _ (t .loop .inv .1) _ _ (t .loop .inv .3) (c .before .if1 .left) (c .if2 .left))
 
 returns-3 : tie.Need-returns-3 Inv-loop μ-loop
 returns-3 c = accepted _ _ _ _ _ (omega arith) (c .before .loop .inv .3)

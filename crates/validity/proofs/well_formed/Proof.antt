@@ -6,10 +6,18 @@ use borrow.Author.Tests.{not-true, not-false}
 use Rattle.model.specs.WellFormed.{goodMessages}
 use Rattle.model.specs.declared.Table.{Table}
 use Rattle.model.specs.Parts.{part}
-use Rattle.validity.proofs.Messages.{seated}
-use Rattle.validity.proofs.Controllers.{inBounds, out-of-range, few, fits, bad-messages, tested}
+use Rattle.validity.specs.Flags.{AllBounded}
+use Rattle.validity.proofs.Messages.{all-bounded}
+use Rattle.validity.proofs.Controllers.{inBounds, out-of-range, few, fits, bad-messages, bad-writes, tested}
 use Rattle.validity.proofs.well_formed.Statement.{statement}
 use Rattle.validity.proofs.well_formed.Tie as tie
+
+-- from behind the test of the messages to the messages, and from behind that of the writes to behind the former
+abbrev read : tie.Else2 → tie.After-messages
+read c = c .before .before
+
+abbrev told : tie.After-good-writes → tie.Else2
+told c = c .before .before
 
 -- the table, its ranges, and its messages once they are tested
 abbrev table : tie.After-messages → Table
@@ -18,8 +26,11 @@ table c = c .before .before .before .args .t
 ranged : (c : tie.After-messages) → not (inBounds (table c)) ≡ false
 ranged c = rw (c .before .before .known .ensures) at (c .before .if1 .left)
 
-good : (c : tie.Else2) → let t = table (c .before .before) in goodMessages (part (t .version) (t .n) (t .count) (t .messages)) ≡ true
+good : (c : tie.Else2) → let t = table (read c) in goodMessages (part (t .version) (t .n) (t .count) (t .messages)) ≡ true
 good c = sym (c .before .good-messages .ensures) ∙ not-false _ (c .if2 .left)
+
+bounded : (c : tie.Else2) → AllBounded (table (read c) .count) (table (read c) .messages)
+bounded c = let r = ranged (read c) in all-bounded _ _ _ _ (few (table (read c)) r) (fits (table (read c)) r) (good c)
 
 known-requires : tie.Need-known-requires
 known-requires c κs = search needs
@@ -33,13 +44,34 @@ good-messages-requires c κs = (few (table c) (ranged c), fits (table c) (ranged
 returns-2 : tie.Need-returns-2
 returns-2 c = bad-messages _ (ranged (c .before .before)) (sym (c .before .good-messages .ensures) ∙ not-true _ (c .if2 .taken))
 
-each-controller-requires : tie.Need-each-controller-requires
-each-controller-requires c κs =
-    let m = c .before .before .before in
-    (few (table m) (ranged m), fits (table m) (ranged m), seated _ _ _ _ (few (table m) (ranged m)) (good (c .before)))
+good-writes-requires : tie.Need-good-writes-requires
+good-writes-requires c κs = let m = c .before in (fits (table (read m)) (ranged (read m)), bounded m)
 
 returns-3 : tie.Need-returns-3
-returns-3 c = tested _ (ranged (c .before .before .before .before)) (good (c .before .before)) _ (c .each-controller .ensures)
+returns-3 c =
+    let m = told (c .before) in
+    bad-writes _ (ranged (read m)) (good m) (sym (c .before .good-writes .ensures) ∙ not-true _ (c .if3 .taken))
+
+each-controller-requires : tie.Need-each-controller-requires
+each-controller-requires c κs =
+    let m = told (c .before) in
+    (few (table (read m)) (ranged (read m)), fits (table (read m)) (ranged (read m)), bounded m)
+
+returns-4 : tie.Need-returns-4
+returns-4 c =
+    let w = c .before in
+    let m = told (w .before) in
+    tested _ (ranged (read m)) (good m) (sym (w .before .good-writes .ensures) ∙ not-false _ (w .if3 .left)) _ (c .each-controller .ensures)
 
 pub well-formed-spec : {M : Type 1} → statement M
-well-formed-spec = tie.close (tie.spec known-requires returns good-messages-requires returns-2 each-controller-requires returns-3)
+well-formed-spec =
+    tie.close
+    (tie.spec
+    known-requires
+    returns
+    good-messages-requires
+    returns-2
+    good-writes-requires
+    returns-3
+    each-controller-requires
+    returns-4)
