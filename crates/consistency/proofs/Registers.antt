@@ -8,9 +8,8 @@ use native.Mathlib.Omega.{arith}
 use lib.ListN.{length, length-append}
 use lib.Seq.{getD-at}
 use lib.Dec.{eqb}
-use borrow.Author.Tests.{eqb-true}
 use Rattle.lists.specs.Build.{tabulateFrom, tabulate}
-use Rattle.lists.proofs.Tests.{and-left, and-right, or-left, or-false, refuted, contradiction}
+use Rattle.lists.proofs.Tests.{or-left, or-false, refuted, contradiction}
 use Rattle.lists.proofs.Build.{length-tabulate, getD-tabulate}
 use Rattle.lists.proofs.Grow.{tabulate-suc}
 use Rattle.model.specs.Tables.{noRegister, at, message}
@@ -22,7 +21,7 @@ use Rattle.model.specs.declared.Register.{Register}
 use Rattle.model.specs.declared.Table.{Table}
 use Rattle.model.specs.declared.Event.the-variants.{Send, Handover, Stop}
 use Rattle.model.specs.Facts.{Among}
-use Rattle.model.proofs.Registers.{NoLater as StampNoLater, no-later, zero-first, Held, none, some, newest-held, newest-most, newest-ext, same-stamp-same}
+use Rattle.model.proofs.Registers.{no-later, newest-held, held-most, held-within, newest-ext, same-stamp-slot, same-stamp-same}
 use Rattle.consistency.specs.Demand3.{same, has, Step, carried, Sent, Ledger, applied, writes, written, newest, registerAt, dateFor, moved, sentNames, Contains, Exactly, NoLater}
 use Rattle.consistency.proofs.Names.{same-self, Apart, apart-of}
 use Rattle.consistency.proofs.SlotNames.{nameAt}
@@ -70,12 +69,9 @@ module _ {n : ℕ} {t : Table} {l : Ledger} (p : Recorded n t l) where
 
   -- one within the other
   pub fewer-no-later : (ms ks : List Name) → Contains ks ms → NoLater (λ r. newest r (l .sent) ms) (λ r. newest r (l .sent) ks)
-  fewer-no-later ms ks w r = rw (newest-has r ms, newest-has r ks) (no-later _ _ (go (newest-held t (among t ms) r (t .count))))
-    where
-      go : {y : Register} → Held (t .count) t (among t ms) r y
-          → StampNoLater (y .stamp) (newestIn (t .count) t (among t ks) r .stamp)
-      go (none e) = rw e (zero-first _)
-      go (some s b f q e) = rw e (newest-most t (among t ks) r (t .count) s b (w (nameAt t s) f) q)
+  fewer-no-later ms ks w r =
+      rw (newest-has r ms, newest-has r ks)
+      (no-later _ _ (held-most (held-within (λ s _. w (nameAt t s)) (newest-held t (among t ms) r (t .count)))))
 
   -- any two
   pub same-stamp-same-register : (r : ℕ) (ms ks : List Name) → newest r (l .sent) ms .stamp ≡ newest r (l .sent) ks .stamp
@@ -93,18 +89,9 @@ module _ {n : ℕ} {t : Table} {l : Ledger} (p : Recorded n t l) where
       let b : length xs < t .count = omega (arith, length-append xs (x ∷ ys), ap length q, length-tabulate (t .count) (sentAt t)) in
       (b, sym (getD-tabulate (t .count) (sentAt t) x (length xs) b) ∙ rw q (getD-at xs x ys x (length xs) refl))
 
-  same-stamp-same-slot : (r i j : ℕ) → i < t .count → j < t .count → writes r (sentAt t i) ≡ true → writes r (sentAt t j) ≡ true
-      → written (sentAt t i) .stamp ≡ written (sentAt t j) .stamp → i ≡ j
-  unfolding writes
-  same-stamp-same-slot r i j hi hj wi wj e =
-      p .formed .stamps i j hi hj (eqb-true (message t i .payload .kind) 6 (and-left _ _ wi)) (eqb-true (message t j .payload .kind) 6 (and-left _ _ wj))
-      (ap (λ (a : Stamp). a .writer) e) (writes-of i wi ∙ sym (writes-of j wj)) (ap (λ (a : Stamp). a .date) e)
-    where
-      writes-of : (s : ℕ) → (eqb (message t s .payload .kind) 6 && eqb (message t s .payload .reg) r) ≡ true → message t s .payload .reg ≡ r
-      writes-of s w = eqb-true (message t s .payload .reg) r (and-right (eqb (message t s .payload .kind) 6) _ w)
-
   pub stamps-differ : (r : ℕ) (x y : Sent) (before between after : List Sent) → l .sent ≡ before ++ (x ∷ between ++ (y ∷ after))
       → writes r x ≡ true → writes r y ≡ true → written x .stamp ≡ written y .stamp → ⊥
+  unfolding writes writesOf
   stamps-differ r x y before between after e wx wy s =
       let i = placed before x (between ++ (y ∷ after)) e in
       let j = placed (before ++ (x ∷ between)) y after (e ∙ sym (append-assoc before (x ∷ between) (y ∷ after))) in
@@ -112,7 +99,7 @@ module _ {n : ℕ} {t : Table} {l : Ledger} (p : Recorded n t l) where
       omega (
         arith,
         length-append before (x ∷ between),
-        same-stamp-same-slot r (length before) (length (before ++ (x ∷ between))) (i .0) (j .0) (ap (writes r) (i .1) ∙ wx) (ap (writes r) (j .1) ∙ wy)
+        same-stamp-slot t (p .formed) r (length before) (length (before ++ (x ∷ between))) (i .0) (j .0) (ap (writes r) (i .1) ∙ wx) (ap (writes r) (j .1) ∙ wy)
             (ap stamp (i .1) ∙ (s ∙ sym (ap stamp (j .1)))),
       )
 

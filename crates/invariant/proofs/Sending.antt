@@ -6,8 +6,8 @@ use Prim.Native.Nat.{ℕ, _+_, _≤_, _<_}
 use native.Mathlib.Omega.{arith}
 use native.Mathlib.Decide.{ℕ-discrete}
 use lib.Dec.{eqb, leb, ltb}
-use borrow.Author.Tests.{leb-true, eqb-true, eq-eqb, ne-eqb, lt-ltb, le-leb}
-use Rattle.lists.proofs.Tests.{and-left, and-right, both, or-cases, or-left, contradiction, cond-case}
+use borrow.Author.Tests.{leb-true, eq-eqb, lt-ltb, le-leb}
+use Rattle.lists.proofs.Tests.{and-left, and-right, both, or-cases, or-left, contradiction}
 use Rattle.lists.proofs.Below.{greatest-ext, greatest-last}
 use Rattle.model.specs.Tables.{capacity, yes?, at, message, held, applied, unheld, withController, withMessage, withEntry}
 use Rattle.model.specs.Registers.{writes, registerOf, dateOf}

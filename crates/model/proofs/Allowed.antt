@@ -1,6 +1,6 @@
 -- What a file, an event or a line that no question refuses may rely on: a record of facts for each kind of event. Assumes nothing.
 use mathlib.Core.Path.{_≡_, refl}
-use mathlib.Core.Bool.{Bool, true, false, not, _&&_, _||_, cond, true≢false}
+use mathlib.Core.Bool.{Bool, true, false, not, _&&_, cond, true≢false}
 use mathlib.Core.List.{List, [], _∷_, _++_}
 use Prim.Native.Nat.{ℕ, suc, _≤_, _<_}
 use native.Mathlib.Omega.{arith}
@@ -14,7 +14,7 @@ use Rattle.model.specs.Tables.{seats, capacity, sync, write, yes?, at, m
 use Rattle.model.specs.Events.{subject, controllerOf}
 use Rattle.model.specs.Records.{byte, kind, word, long, reportClass, reported, decode}
 use Rattle.model.specs.WellFormed.{named, fairAmount, fairClass, fairRegister, known}
-use Rattle.model.specs.Questions.{Question, ask, firstNo, freshQuestions, fileQuestions, kindQuestions, recordQuestions, ownPending, synced, unread, keepable, eventQuestions, commandQuestions, scratchRoom, stepQuestions, lineFits}
+use Rattle.model.specs.Questions.{Question, ask, firstNo, freshQuestions, fileQuestions, kindQuestions, recordQuestions, ownPending, unread, keepable, eventQuestions, commandQuestions, scratchRoom, stepQuestions, lineFits}
 use Rattle.model.specs.declared.Payload.{Payload}
 use Rattle.model.specs.declared.Table.{Table}
 use Rattle.model.specs.declared.Event.{Event}

@@ -443,6 +443,10 @@ table =
     -- P: two writers with one date: the greater writer's value, on both panels
     ∷ holds 1 2 rivals 1 rivalSets (noRegister ∷ noRegister ∷ stamped 500 1 2 ∷ noRegister ∷ noRegister ∷ noRegister ∷ noRegister ∷ noRegister ∷ [])
     ∷ holds 1 2 rivals 2 rivalSets (noRegister ∷ noRegister ∷ stamped 500 1 2 ∷ noRegister ∷ noRegister ∷ noRegister ∷ noRegister ∷ noRegister ∷ [])
+    -- P: the date decides before the writer: 1 writes after it has applied both
+    ∷ holds 1 2 (rivals ++ (sync 1 ∷ handover 2 1 ∷ handover 1 2 ∷ write 1 3 900 ∷ handover 2 2 ∷ handover 2 1 ∷ handover 2 2 ∷ [])) 2
+    (rivalSets ++ ([] ∷ [] ∷ (105 ∷ []) ∷ [] ∷ (105 ∷ []) ∷ [] ∷ (106 ∷ []) ∷ []))
+    (noRegister ∷ noRegister ∷ stamped 900 2 1 ∷ noRegister ∷ noRegister ∷ noRegister ∷ noRegister ∷ noRegister ∷ [])
     -- P: the run with classes, its sets and what both panels show of each class
     ∷ shows 2 2 graded 1 gradedSets (both 42 2) (noSums ∷ both 30 0 ∷ noSums ∷ both 12 0 ∷ both 0 2 ∷ [])
     ∷ shows 2 2 graded 2 gradedSets (both 42 2) (noSums ∷ both 30 0 ∷ noSums ∷ both 12 0 ∷ both 0 2 ∷ [])

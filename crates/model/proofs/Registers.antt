@@ -1,30 +1,29 @@
 -- Registers: stamps are in order, and a register is the write with the greatest stamp among those that count. Assumes nothing.
 use mathlib.Core.Path.{_≡_, refl, sym, ap, ap₂, _∙_}
 use mathlib.Core.Logic.{_⊎_, inl, inr}
-use mathlib.Core.Bool.{Bool, true, false, _&&_, _||_, cond}
+use mathlib.Core.Bool.{Bool, true, false, _&&_, _||_}
 use Prim.Native.Nat.{ℕ, zero, suc, _+_, _≤_, _<_}
 use native.Mathlib.Nat.{not-suc-le-zero}
 use native.Mathlib.Omega.{arith}
-use lib.Dec.{eqb, leb, ltb}
-use borrow.Author.Tests.{ltb-true, ltb-false, leb-true, eqb-true, le-ltb, eq-eqb}
-use Rattle.lists.proofs.Tests.{and-left, and-right, or-cases, or-false, or-left, or-right, refuted, contradiction, cond-case, below-suc}
-use Rattle.model.specs.Tables.{registerCount, noRegister, message}
+use lib.Dec.{eqb, ltb}
+use borrow.Author.Tests.{ltb-true, ltb-false, leb-true, eqb-true, eq-eqb}
+use Rattle.lists.proofs.Tests.{and-left, and-right, or-cases, or-false, or-left, or-right, refuted, cond-case, below-suc}
+use Rattle.model.specs.Tables.{noRegister, message}
 use Rattle.model.specs.Registers.{exceeds, wins, writes, written, newest}
-use Rattle.model.specs.WellFormed.{fairRegister, fairDate}
+use Rattle.model.specs.WellFormed.{fairDate}
 use Rattle.model.specs.Facts.{WellFormed}
 use Rattle.model.specs.declared.Stamp.{Stamp}
 use Rattle.model.specs.declared.Register.{Register}
-use Rattle.model.specs.declared.Message.{Message}
 use Rattle.model.specs.declared.Table.{Table}
 
 -- THE ORDER OF STAMPS
 
 -- no later: the date before the writer
-pub record NoLater (a b : Stamp) : Type 0 where
+pub record StampNoLater (a b : Stamp) : Type 0 where
   pub dates : a .date ≤ b .date
   pub writers : a .date ≡ b .date → a .writer ≤ b .writer
 
-pub not-exceeds : (a b : Stamp) → exceeds a b ≡ false → NoLater a b
+pub not-exceeds : (a b : Stamp) → exceeds a b ≡ false → StampNoLater a b
 unfolding exceeds
 not-exceeds a b e =
     let f = or-false (ltb (b .date) (a .date)) _ e in
@@ -33,7 +32,7 @@ not-exceeds a b e =
       writers = λ q. ltb-false (b .writer) (a .writer) (rw (eq-eqb (a .date) (b .date) q) at (f .1));
     }
 
-pub no-later : (a b : Stamp) → NoLater a b → exceeds a b ≡ false
+pub no-later : (a b : Stamp) → StampNoLater a b → exceeds a b ≡ false
 unfolding exceeds
 no-later a b h = refuted _ (λ e. go (or-cases (ltb (b .date) (a .date)) _ e))
   where
@@ -42,21 +41,21 @@ no-later a b h = refuted _ (λ e. go (or-cases (ltb (b .date) (a .date)) _ e))
     go (inr p) =
         omega (arith, ltb-true (b .writer) (a .writer) (and-right (eqb (a .date) (b .date)) _ p), h .writers (eqb-true (a .date) (b .date) (and-left _ _ p)))
 
-exceeded : (a b : Stamp) → exceeds a b ≡ true → NoLater b a
+exceeded : (a b : Stamp) → exceeds a b ≡ true → StampNoLater b a
 unfolding exceeds
 exceeded a b e = go (or-cases (ltb (b .date) (a .date)) _ e)
   where
-    go : (ltb (b .date) (a .date) ≡ true) ⊎ ((eqb (a .date) (b .date) && ltb (b .writer) (a .writer)) ≡ true) → NoLater b a
+    go : (ltb (b .date) (a .date) ≡ true) ⊎ ((eqb (a .date) (b .date) && ltb (b .writer) (a .writer)) ≡ true) → StampNoLater b a
     go (inl p) = let l = ltb-true (b .date) (a .date) p in record { dates = omega (arith, l); writers = λ q. absurd (omega (arith, l, q)) }
     go (inr p) =
         let q = eqb-true (a .date) (b .date) (and-left _ _ p) in
         let l = ltb-true (b .writer) (a .writer) (and-right (eqb (a .date) (b .date)) _ p) in
         record { dates = omega (arith, q); writers = λ _. omega (arith, l) }
 
-same-later : (a : Stamp) → NoLater a a
+same-later : (a : Stamp) → StampNoLater a a
 same-later a = record { dates = omega arith; writers = λ _. omega arith }
 
-later-trans : {a b c : Stamp} → NoLater a b → NoLater b c → NoLater a c
+later-trans : {a b c : Stamp} → StampNoLater a b → StampNoLater b c → StampNoLater a c
 later-trans {a} {b} {c} h k = record {
   dates = omega (arith, h .dates, k .dates);
   writers = λ q.
@@ -65,26 +64,26 @@ later-trans {a} {b} {c} h k = record {
 }
 
 -- two stamps of which neither is later are the same
-pub later-antisym : (a b : Stamp) → NoLater a b → NoLater b a → a ≡ b
+pub later-antisym : (a b : Stamp) → StampNoLater a b → StampNoLater b a → a ≡ b
 later-antisym a b h k =
     let d : a .date ≡ b .date = omega (arith, h .dates, k .dates) in
     let w : a .writer ≡ b .writer = omega (arith, h .writers d, k .writers (sym d)) in
     ap₂ (λ x y. record { date = x; writer = y }) d w
 
 -- no stamp comes before 0, 0
-pub zero-first : (a : Stamp) → NoLater (noRegister .stamp) a
+pub zero-first : (a : Stamp) → StampNoLater (noRegister .stamp) a
 zero-first a = record { dates = omega arith; writers = λ _. omega arith }
 
 -- THE GREATER OF TWO
 
-wins-case : (P : Register → Type 0) (w y : Register) → (NoLater (y .stamp) (w .stamp) → P w) → (NoLater (w .stamp) (y .stamp) → P y) → P (wins w y)
+wins-case : (P : Register → Type 0) (w y : Register) → (StampNoLater (y .stamp) (w .stamp) → P w) → (StampNoLater (w .stamp) (y .stamp) → P y) → P (wins w y)
 unfolding wins
 wins-case P w y f g =
     cond-case P (exceeds (w .stamp) (y .stamp)) w y (λ e. f (exceeded (w .stamp) (y .stamp) e)) (λ e. g (not-exceeds (w .stamp) (y .stamp) e))
 
-pub wins-most : (w y : Register) → NoLater (w .stamp) (wins w y .stamp) × NoLater (y .stamp) (wins w y .stamp)
+pub wins-most : (w y : Register) → StampNoLater (w .stamp) (wins w y .stamp) × StampNoLater (y .stamp) (wins w y .stamp)
 wins-most w y =
-    wins-case (λ z. NoLater (w .stamp) (z .stamp) × NoLater (y .stamp) (z .stamp)) w y
+    wins-case (λ z. StampNoLater (w .stamp) (z .stamp) × StampNoLater (y .stamp) (z .stamp)) w y
     (λ h. (same-later (w .stamp), h)) (λ h. (h, same-later (y .stamp)))
 
 -- THE NEWEST WRITE
@@ -108,18 +107,23 @@ module _ (t : Table) (f : ℕ → Bool) (r : ℕ) where
       (λ _. held-suc (newest-held k))
 
   -- no write that counts is later
-  pub newest-most : (k s : ℕ) → s < k → f s ≡ true → writes r (message t s) ≡ true → NoLater (written (message t s) .stamp) (newest k t f r .stamp)
+  pub newest-most : (k s : ℕ) → s < k → f s ≡ true → writes r (message t s) ≡ true → StampNoLater (written (message t s) .stamp) (newest k t f r .stamp)
   unfolding newest
   newest-most zero s h = absurd (not-suc-le-zero h)
   newest-most (suc k) s h =
-      below-suc (λ s. f s ≡ true → writes r (message t s) ≡ true → NoLater (written (message t s) .stamp) (newest (suc k) t f r .stamp)) k
+      below-suc (λ s. f s ≡ true → writes r (message t s) ≡ true → StampNoLater (written (message t s) .stamp) (newest (suc k) t f r .stamp)) k
       (λ p q. rw (p, q) (wins-most (written (message t k)) (newest k t f r) .0))
       (λ s b p q. later-trans (newest-most k s b p q) grown) s h
     where
-      grown : NoLater (newest k t f r .stamp) (newest (suc k) t f r .stamp)
+      grown : StampNoLater (newest k t f r .stamp) (newest (suc k) t f r .stamp)
       grown =
-          cond-case (λ (y : Register). NoLater (newest k t f r .stamp) (y .stamp)) (f k && writes r (message t k)) _ _
+          cond-case (λ (y : Register). StampNoLater (newest k t f r .stamp) (y .stamp)) (f k && writes r (message t k)) _ _
           (λ _. wins-most (written (message t k)) (newest k t f r) .1) (λ _. same-later (newest k t f r .stamp))
+
+-- it is not later than the newest
+pub held-most : {k : ℕ} {t : Table} {f : ℕ → Bool} {r : ℕ} {y : Register} → Held k t f r y → StampNoLater (y .stamp) (newest k t f r .stamp)
+held-most (none e) = rw e (zero-first _)
+held-most {k} {t} {f} {r} (some s h p q e) = rw e (newest-most t f r k s h p q)
 
 -- by more slots
 pub held-within : {k : ℕ} {t : Table} {f g : ℕ → Bool} {r : ℕ} {y : Register} → ((s : ℕ) → s < k → f s ≡ true → g s ≡ true) → Held k t f r y → Held k t g r y
@@ -173,25 +177,24 @@ module _ (t : Table) (w : WellFormed t) where
       (λ _ e. leb-true (message t s .date) (t .count) (and-right (ltb 0 (message t s .date)) _ e))
       (λ _ e. omega (arith, eqb-true (message t s .date) 0 e)) (w .dates s h)
 
-  -- writes of one register have different stamps, and none is 0, 0: with its stamp a register has its value
+  -- writes of one register have different stamps
+  pub same-stamp-slot : (r i j : ℕ) → i < t .count → j < t .count → writes r (message t i) ≡ true → writes r (message t j) ≡ true
+      → written (message t i) .stamp ≡ written (message t j) .stamp → i ≡ j
+  same-stamp-slot r i j hi hj wi wj e =
+      w .stamps i j hi hj (write-kind r i wi) (write-kind r j wj) (ap (λ (a : Stamp). a .writer) e) (register-of r i wi ∙ sym (register-of r j wj)) (ap (λ (a : Stamp). a .date) e)
+
+  -- and none is 0, 0: with its stamp a register has its value
   pub same-stamp-same : {f g : ℕ → Bool} {r : ℕ} {y z : Register} → Held (t .count) t f r y → Held (t .count) t g r z → y .stamp ≡ z .stamp → y ≡ z
   same-stamp-same (none e) (none d) q = e ∙ sym d
   same-stamp-same {r = r} (none e) (some s h p v d) q = absurd (omega (arith, write-date r s h v .0, ap (λ (x : Stamp). x .date) (rw (e, d) at q)))
   same-stamp-same {r = r} (some s h p v e) (none d) q = absurd (omega (arith, write-date r s h v .0, ap (λ (x : Stamp). x .date) (rw (e, d) at q)))
-  same-stamp-same {r = r} (some s h p v e) (some i j u x d) q =
-      e ∙ ap (λ k. written (message t k)) slots ∙ sym d
-    where
-      stamps : written (message t s) .stamp ≡ written (message t i) .stamp
-      stamps = rw (e, d) at q
-
-      slots : s ≡ i
-      slots = w .stamps s i h j (write-kind r s v) (write-kind r i x) (ap (λ (a : Stamp). a .writer) stamps) (register-of r s v ∙ sym (register-of r i x)) (ap (λ (a : Stamp). a .date) stamps)
+  same-stamp-same {r = r} (some s h p v e) (some i j u x d) q = e ∙ ap (λ k. written (message t k)) (same-stamp-slot r s i h j v x (rw (e, d) at q)) ∙ sym d
 
   -- of two sets together: that of the first wins, if its stamp exceeds that of the second
   pub newest-joined : (f g h : ℕ → Bool) (r : ℕ) → ((s : ℕ) → s < t .count → h s ≡ (f s || g s))
       → newest (t .count) t h r ≡ wins (newest (t .count) t f r) (newest (t .count) t g r)
   newest-joined f g h r e =
-      same-stamp-same all joined (later-antisym (newest (t .count) t h r .stamp) (wins (newest (t .count) t f r) (newest (t .count) t g r) .stamp) (up all) (down joined))
+      same-stamp-same all joined (later-antisym (newest (t .count) t h r .stamp) (wins (newest (t .count) t f r) (newest (t .count) t g r) .stamp) (up all) (held-most joined))
     where
       all : Held (t .count) t h r (newest (t .count) t h r)
       all = newest-held t h r (t .count)
@@ -202,17 +205,13 @@ module _ (t : Table) (w : WellFormed t) where
           (λ _. held-within (λ s b p. rw (e s b) (or-left (g s) p)) (newest-held t f r (t .count)))
           (λ _. held-within (λ s b p. rw (e s b) (or-right (f s) p)) (newest-held t g r (t .count)))
 
-      most : NoLater (newest (t .count) t f r .stamp) (wins (newest (t .count) t f r) (newest (t .count) t g r) .stamp)
-          × NoLater (newest (t .count) t g r .stamp) (wins (newest (t .count) t f r) (newest (t .count) t g r) .stamp)
+      most : StampNoLater (newest (t .count) t f r .stamp) (wins (newest (t .count) t f r) (newest (t .count) t g r) .stamp)
+          × StampNoLater (newest (t .count) t g r .stamp) (wins (newest (t .count) t f r) (newest (t .count) t g r) .stamp)
       most = wins-most (newest (t .count) t f r) (newest (t .count) t g r)
 
-      up : {y : Register} → Held (t .count) t h r y → NoLater (y .stamp) (wins (newest (t .count) t f r) (newest (t .count) t g r) .stamp)
+      up : {y : Register} → Held (t .count) t h r y → StampNoLater (y .stamp) (wins (newest (t .count) t f r) (newest (t .count) t g r) .stamp)
       up (none q) = rw q (zero-first _)
       up (some s b p v q) = rw q (elim (or-cases (f s) (g s) (sym (e s b) ∙ p)) [
         | inl i ↦ later-trans (newest-most t f r (t .count) s b i v) (most .0)
         | inr i ↦ later-trans (newest-most t g r (t .count) s b i v) (most .1)
       ])
-
-      down : {y : Register} → Held (t .count) t h r y → NoLater (y .stamp) (newest (t .count) t h r .stamp)
-      down (none q) = rw q (zero-first _)
-      down (some s b p v q) = rw q (newest-most t h r (t .count) s b p v)

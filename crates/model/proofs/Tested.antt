@@ -200,8 +200,11 @@ tested t w =
     (not-both-of (eqb (message t i .payload .kind) 6) _ (λ k e.
     let e₁ = and-right (eqb (message t j .payload .kind) 6) _ e in
     let e₂ = and-right (eqb (message t i .sender) (message t j .sender)) _ e₁ in
-    omega (arith, w .stamps i j hi (omega arith) (eqb-true _ _ k) (eqb-true _ _ (and-left _ _ e)) (eqb-true _ _ (and-left _ _ e₁))
-    (eqb-true _ _ (and-left _ _ e₂)) (eqb-true _ _ (and-right (eqb (message t i .payload .reg) (message t j .payload .reg)) _ e₂)))))))
+    omega (
+      arith,
+      w .stamps i j hi (omega arith) (eqb-true _ _ k) (eqb-true _ _ (and-left _ _ e)) (eqb-true _ _ (and-left _ _ e₁))
+          (eqb-true _ _ (and-left _ _ e₂)) (eqb-true _ _ (and-right (eqb (message t i .payload .reg) (message t j .payload .reg)) _ e₂)),
+    )))))
     (all-of (t .count) _ (λ s h. implies-of (eqb (message t s .payload .kind) 6) _ (λ k.
     implies-of (yes? (at t (message t s .sender) .running)) _ (λ r. w .kept s h (eqb-true _ _ k) r)))))
     (all-named-of (t .n) (λ i. goodController t i (at t i)) (λ c h. controller-tested t c (at t c) (w .controllers c h)))))

@@ -79,8 +79,7 @@ keepable t c k = leb k (at t c .length) && all (t .n) (λ r. leb (place (at t (s
 unfoldable pub eventQuestions : Table → Event → List Question
 eventQuestions t (Send c p) =
     ask 8 (named t c)
-    ∷ ask 9 (fairAmount p) ∷ ask 17 (fairClass (t .version) p) ∷ ask 19 (fairRegister p)
-    ∷ ask 10 (yes? (at t c .running))
+    ∷ ask 9 (fairAmount p) ∷ ask 17 (fairClass (t .version) p) ∷ ask 19 (fairRegister p) ∷ ask 10 (yes? (at t c .running))
     ∷ ask 11 (eqb (p .kind) 1 || not (ownPending t c))
     ∷ ask 12 (ltb (t .count) capacity)
     ∷ ask 20 (not (eqb (p .kind) 6) || synced t c)

@@ -288,10 +288,7 @@ impl Register {
     {
         Register {
             value: 0,
-            stamp: Stamp {
-                date: 0,
-                writer: 0,
-            },
+            stamp: Stamp { date: 0, writer: 0 },
         }
     }
 }

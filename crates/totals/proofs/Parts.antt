@@ -9,7 +9,6 @@ use Rattle.model.specs.Registers.{registerOf, registers}
 use Rattle.model.specs.Events.{weigh, sums, classSums, shown}
 use Rattle.model.specs.Parts.{part}
 use Rattle.model.specs.declared.Register.{Register}
-use Rattle.model.specs.declared.Panel.{Panel}
 use Rattle.model.specs.declared.Controller.{Controller}
 use Rattle.model.specs.declared.Table.{Table}
 use Rattle.model.proofs.Registers.{newest-same}

@@ -17,7 +17,6 @@ use Rattle.lists.proofs.Tests.{bool-eq}
 use Rattle.model.specs.Tables.{capacity, registerCount, yes?, noRegister, noMessage, message, applied}
 use Rattle.model.specs.Registers.{wins, writes, written, newest, registerOf, registers}
 use Rattle.model.specs.Parts.{part}
-use Rattle.model.specs.declared.Payload.{Payload}
 use Rattle.model.specs.declared.Message.{Message}
 use Rattle.model.specs.declared.Register.{Register}
 use Rattle.model.specs.declared.Table.{Table}

@@ -1,6 +1,6 @@
 -- `registers` has of each register the write with the greatest stamp over the slots; past the 64th none is applied. The loop's invariant:
 -- the registers so far. Assumes nothing.
-use mathlib.Core.Path.{_≡_, sym, _∙_}
+use mathlib.Core.Path.{_≡_}
 use Prim.Native.Nat.{_-_, _≤_}
 use native.Mathlib.Omega.{arith}
 use lib.ListN.{length}

@@ -1,5 +1,5 @@
 -- `date_of` is the date of a message: of a write one more than its register has, and 0 of any other. Assumes nothing.
-use mathlib.Core.Path.{_≡_, sym}
+use mathlib.Core.Path.{sym}
 use Prim.Native.Nat.{_≤_, _<_}
 use native.Mathlib.Omega.{arith}
 use borrow.Author.Needs.{needs}

@@ -22,7 +22,7 @@ fair-magnitude-requires-2 : tie.Need-fair-magnitude-requires-2
 fair-magnitude-requires-2 c κs = search needs
 
 fair-is : (p : Payload) (a w : Bool) → a ≡ fairMagnitude (p .added) → w ≡ fairMagnitude (p .withdrawn)
-    → (eqb (p .kind) 1 && (a && eqb (p .withdrawn) 0 || eqb (p .added) 0 && w) 
+    → (eqb (p .kind) 1 && (a && eqb (p .withdrawn) 0 || eqb (p .added) 0 && w)
     || (eqb (p .kind) 2 || eqb (p .kind) 6) && (eqb (p .added) 0 && eqb (p .withdrawn) 0))
     ≡ fairAmount p
 unfolding fairAmount
