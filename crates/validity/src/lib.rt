@@ -97,7 +97,7 @@ fn each_write(count: usize, messages: [Message; 64], controllers: [Controller; 7
     requires { ⌜ (count ≤ 64) × AllBounded count messages ⌝ }
     ensures { λ r. ⌜ r ≡ goodWrites (whole 0 0 count messages controllers) ⌝ }
 {
-    let mut seen = [false; STAMPS];
+    let mut stamps = [false; STAMPS];
     for s in 0..count {
         let m = messages[s];
         let kind = m.payload.kind;
@@ -108,12 +108,12 @@ fn each_write(count: usize, messages: [Message; 64], controllers: [Controller; 7
         if !keeps(controllers[i], s) {
             return false;
         }
-        let set = (m.sender as usize) * REGISTERS + (m.payload.reg as usize);
-        let code = set * NUMBERS + (m.date as usize);
-        if seen[code] {
+        let pair = (m.sender as usize) * REGISTERS + (m.payload.reg as usize);
+        let code = pair * NUMBERS + (m.date as usize);
+        if stamps[code] {
             return false;
         }
-        seen[code] = true;
+        stamps[code] = true;
     }
     true
 }

@@ -12,10 +12,10 @@ use Rattle.validity.proofs.each_write.Statement.{statement}
 use Rattle.validity.proofs.each_write.Tie as tie
 
 abbrev Inv-loop : tie.InvT-loop
-Inv-loop count messages controllers seen₀ s₀ seen s = (s ≤ count) × (count ≤ 64) × AllBounded count messages × WritesRead count messages controllers s seen
+Inv-loop count messages controllers stamps₀ s₀ stamps s = (s ≤ count) × (count ≤ 64) × AllBounded count messages × WritesRead count messages controllers s stamps
 
 abbrev μ-loop : tie.MeasureT-loop
-μ-loop count messages controllers seen₀ s₀ seen s = count - s
+μ-loop count messages controllers stamps₀ s₀ stamps s = count - s
 
 -- from behind the message that a turn reads to the turn; from behind the test of what is kept, and from behind the code, to the test of
 -- the kind
@@ -74,17 +74,17 @@ returns c =
     let w = written (c .before) in
     not-kept _ _ _ _ _ (turn (w .before) .loop .inv .3) (bounded (w .before)) (w .if1 .left) (search needs) (sym (c .before .keeps .ensures) ∙ not-true _ (c .if2 .taken))
 
-cast-set : tie.Need-cast-set Inv-loop μ-loop
-cast-set c = search needs
+cast-pair : tie.Need-cast-pair Inv-loop μ-loop
+cast-pair c = search needs
 
-mul-set : tie.Need-mul-set Inv-loop μ-loop
-mul-set c = search needs
+mul-pair : tie.Need-mul-pair Inv-loop μ-loop
+mul-pair c = search needs
 
-cast-set-2 : tie.Need-cast-set-2 Inv-loop μ-loop
-cast-set-2 c = search needs
+cast-pair-2 : tie.Need-cast-pair-2 Inv-loop μ-loop
+cast-pair-2 c = search needs
 
-add-set : tie.Need-add-set Inv-loop μ-loop
-add-set c = search needs
+add-pair : tie.Need-add-pair Inv-loop μ-loop
+add-pair c = search needs
 
 mul-code : tie.Need-mul-code Inv-loop μ-loop
 mul-code c = search needs
@@ -103,8 +103,8 @@ returns-2 c =
     let w = coded (c .before) in
     stamp-twice _ _ _ _ _ (turn (w .before) .loop .inv .3) (bounded (w .before)) (w .if1 .left) (search needs) (c .if3 .taken)
 
-array-write-seen : tie.Need-array-write-seen Inv-loop μ-loop
-array-write-seen c = stamp-small _ (bounded (coded (c .before) .before))
+array-write-stamps : tie.Need-array-write-stamps Inv-loop μ-loop
+array-write-stamps c = stamp-small _ (bounded (coded (c .before) .before))
 
 add-s-2 : tie.Need-add-s-2 Inv-loop μ-loop
 add-s-2 c = search needs
@@ -140,16 +140,16 @@ each-write-spec =
     array-copy-out-keeps
     keeps-requires
     returns
-    cast-set
-    mul-set
-    cast-set-2
-    add-set
+    cast-pair
+    mul-pair
+    cast-pair-2
+    add-pair
     mul-code
     cast-code
     add-code
     array-read-if3
     returns-2
-    array-write-seen
+    array-write-stamps
     add-s-2
     loop-less-2
     loop-again-2
