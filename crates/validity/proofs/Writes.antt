@@ -10,7 +10,7 @@ use lib.Dec.{eqb}
 use borrow.Author.Tests.{eqb-true, eq-eqb, ne-eqb}
 use Rattle.lists.specs.Below.{distinct}
 use Rattle.lists.proofs.Tests.{and-left, and-right, both, bool-eq}
-use Rattle.lists.proofs.Below.{all-of}
+use Rattle.lists.proofs.Below.{all-of, distinct-of}
 use Rattle.lists.proofs.Clipped.{all-failed}
 use Rattle.model.specs.Tables.{yes?, noMessage, noController, at, message, held, applied}
 use Rattle.model.specs.WellFormed.{sameStamp, keptWrite, goodWrites}
@@ -55,6 +55,15 @@ stamp-alike a b ha hb w = rw (eq-eqb (a .payload .kind) 6 w) (go (eqb (b .payloa
         let d′ = hb .date in
         both (eq-eqb (a .sender) (b .sender) (omega arith)) (both (eq-eqb (a .payload .reg) (b .payload .reg) (omega arith)) (eq-eqb (a .date) (b .date) (omega arith))))
     go false = sym (ne-eqb (stampCode a) 4680 (λ p. omega (arith, stamp-small a ha)))
+
+-- NO WRITE
+
+pub no-writes : (k : ℕ) (M : List Message) (C : List Controller) → ((s : ℕ) → s < k → getD M s noMessage .payload .kind ≢ 6) → true ≡ goodWrites (whole 0 0 k M C)
+unfolding goodWrites keptWrite sameStamp message
+no-writes k M C f =
+    sym
+    (both (distinct-of k _ (λ i j h l. rw (ne-eqb (getD M i noMessage .payload .kind) 6 (f i h))))
+    (all-of k _ (λ s h. rw (ne-eqb (getD M s noMessage .payload .kind) 6 (f s h)))))
 
 -- THE PASS
 

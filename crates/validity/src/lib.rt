@@ -93,11 +93,11 @@ fn keeps(c: Controller, s: usize) -> bool
 }
 
 // No two writes of one sender and register have the same date, and a running controller has those that it sent pending or applied.
-fn good_writes(count: usize, messages: [Message; 64], controllers: [Controller; 7]) -> bool
+fn each_write(count: usize, messages: [Message; 64], controllers: [Controller; 7]) -> bool
     requires { ⌜ (count ≤ 64) × AllBounded count messages ⌝ }
     ensures { λ r. ⌜ r ≡ goodWrites (whole 0 0 count messages controllers) ⌝ }
 {
-    let mut seen = [false; STAMPS];
+    let mut stamps = [false; STAMPS];
     for s in 0..count {
         let m = messages[s];
         let kind = m.payload.kind;
@@ -108,12 +108,27 @@ fn good_writes(count: usize, messages: [Message; 64], controllers: [Controller; 
         if !keeps(controllers[i], s) {
             return false;
         }
-        let set = (m.sender as usize) * REGISTERS + (m.payload.reg as usize);
-        let code = set * NUMBERS + (m.date as usize);
-        if seen[code] {
+        let pair = (m.sender as usize) * REGISTERS + (m.payload.reg as usize);
+        let code = pair * NUMBERS + (m.date as usize);
+        if stamps[code] {
             return false;
         }
-        seen[code] = true;
+        stamps[code] = true;
+    }
+    true
+}
+
+// The same, with flags and controllers looked at only where there is a write.
+fn good_writes(count: usize, messages: [Message; 64], controllers: [Controller; 7]) -> bool
+    requires { ⌜ (count ≤ 64) × AllBounded count messages ⌝ }
+    ensures { λ r. ⌜ r ≡ goodWrites (whole 0 0 count messages controllers) ⌝ }
+{
+    for s in 0..count {
+        let m = messages[s];
+        let kind = m.payload.kind;
+        if kind == Payload::WRITE {
+            return each_write(count, messages, controllers);
+        }
     }
     true
 }
@@ -351,7 +366,8 @@ fn each_controller(
     true
 }
 
-// Ranges first, so that no clause reads past an array.
+// Ranges first, so that no clause reads past an array. An array that is handed to two functions is copied once more, so the controllers
+// are taken out for each.
 pub fn well_formed(t: Table) -> bool
     ensures { λ r. ⌜ r ≡ wellFormed t ⌝ }
 {
@@ -366,9 +382,10 @@ pub fn well_formed(t: Table) -> bool
     if !good_messages(version, n, count, messages) {
         return false;
     }
-    let controllers = t.controllers;
-    if !good_writes(count, messages, controllers) {
+    let senders = t.controllers;
+    if !good_writes(count, messages, senders) {
         return false;
     }
+    let controllers = t.controllers;
     each_controller(n, count, messages, controllers)
 }

@@ -1,47 +1,41 @@
--- `good_writes` tests the writes of a run, each once. Assumes nothing.
-use mathlib.Core.Path.{_≡_, sym, _∙_}
-use Prim.Native.Nat.{_-_, _≤_}
+-- `good_writes` looks for a write. The loop's invariant: none before is. Assumes nothing.
+use mathlib.Core.Path.{_≡_}
+use mathlib.Core.Logic.{_≢_}
+use Prim.Native.Nat.{ℕ, _-_, _≤_, _<_}
+use native.Mathlib.Nat.{not-suc-le-zero}
 use native.Mathlib.Omega.{arith}
 use lib.ListN.{getD}
+use borrow.Author.Count.{below-more}
 use borrow.Author.Needs.{needs}
-use borrow.Author.Tests.{not-true, not-false}
 use Rattle.model.specs.Tables.{noMessage}
-use Rattle.validity.specs.Flags.{Bounded, AllBounded}
-use Rattle.validity.proofs.Writes.{WritesRead, stamp-small, no-write, all-read, other-read, not-kept, write-read, stamp-twice}
+use Rattle.validity.proofs.Writes.{no-writes}
 use Rattle.validity.proofs.good_writes.Statement.{statement}
 use Rattle.validity.proofs.good_writes.Tie as tie
 
 abbrev Inv-loop : tie.InvT-loop
-Inv-loop count messages controllers seen₀ s₀ seen s = (s ≤ count) × (count ≤ 64) × AllBounded count messages × WritesRead count messages controllers s seen
+Inv-loop count controllers messages s₀ s = (s ≤ count) × (count ≤ 64) × ((j : ℕ) → j < s → getD messages j noMessage .payload .kind ≢ 6)
 
 abbrev μ-loop : tie.MeasureT-loop
-μ-loop count messages controllers seen₀ s₀ seen s = count - s
+μ-loop count controllers messages s₀ s = count - s
 
--- from behind the message that a turn reads to the turn; from behind the test of what is kept, and from behind the code, to the test of
--- the kind
+-- from behind the message that a turn reads to the turn
 abbrev turn : tie.After-m Inv-loop μ-loop → tie.At-loop Inv-loop μ-loop
 turn c = c .before .before
 
-abbrev written : tie.After-keeps Inv-loop μ-loop → tie.Else1 Inv-loop μ-loop
-written c = c .before .before .before
-
-abbrev kept : tie.After-struct-known4 Inv-loop μ-loop → tie.Else2 Inv-loop μ-loop
-kept c = c .before .before .before
-
-abbrev coded : tie.After-struct-known4 Inv-loop μ-loop → tie.Else1 Inv-loop μ-loop
-coded c = written (kept c .before)
-
-bounded : (c : tie.After-m Inv-loop μ-loop) → Bounded (getD (turn c .before .args .t2) (turn c .loop .s) noMessage)
-bounded c = turn c .loop .inv .2 _ (c .before .loop-test .taken)
-
 loop-holds : tie.Need-loop-holds Inv-loop μ-loop
-loop-holds c = (search needs, search needs, c .pre .1, no-write _ _ _)
+loop-holds c = (search needs, search needs, λ j h. absurd (not-suc-le-zero h))
 
 mul-m : tie.Need-mul-m Inv-loop μ-loop
 mul-m c = search needs
 
 array-copy-out-m : tie.Need-array-copy-out-m Inv-loop μ-loop
 array-copy-out-m c = search needs
+
+each-write-requires : tie.Need-each-write-requires Inv-loop μ-loop
+each-write-requires c κs = turn (c .before) .before .pre
+
+returns : tie.Need-returns Inv-loop μ-loop
+returns c = c .each-write .ensures
 
 add-s : tie.Need-add-s Inv-loop μ-loop
 add-s c = search needs
@@ -50,77 +44,10 @@ loop-less : tie.Need-loop-less Inv-loop μ-loop
 loop-less c = search needs
 
 loop-again : tie.Need-loop-again Inv-loop μ-loop
-loop-again c =
-    let t = turn (c .before) .loop .inv in
-    (search needs, search needs, t .2, other-read _ _ _ _ _ (t .3) (bounded (c .before)) (c .if1 .taken))
-
-cast-i : tie.Need-cast-i Inv-loop μ-loop
-cast-i c = search needs
-
-sub-i : tie.Need-sub-i Inv-loop μ-loop
-sub-i c = bounded (c .before .before) .low
-
-mul-keeps : tie.Need-mul-keeps Inv-loop μ-loop
-mul-keeps c = search needs
-
-array-copy-out-keeps : tie.Need-array-copy-out-keeps Inv-loop μ-loop
-array-copy-out-keeps c = let b = bounded (c .before .before) in omega (arith, b .low, b .sender)
-
-keeps-requires : tie.Need-keeps-requires Inv-loop μ-loop
-keeps-requires c κs = search needs
-
-returns : tie.Need-returns Inv-loop μ-loop
-returns c =
-    let w = written (c .before) in
-    not-kept _ _ _ _ _ (turn (w .before) .loop .inv .3) (bounded (w .before)) (w .if1 .left) (search needs) (sym (c .before .keeps .ensures) ∙ not-true _ (c .if2 .taken))
-
-cast-set : tie.Need-cast-set Inv-loop μ-loop
-cast-set c = search needs
-
-mul-set : tie.Need-mul-set Inv-loop μ-loop
-mul-set c = search needs
-
-cast-set-2 : tie.Need-cast-set-2 Inv-loop μ-loop
-cast-set-2 c = search needs
-
-add-set : tie.Need-add-set Inv-loop μ-loop
-add-set c = search needs
-
-mul-code : tie.Need-mul-code Inv-loop μ-loop
-mul-code c = search needs
-
-cast-code : tie.Need-cast-code Inv-loop μ-loop
-cast-code c = search needs
-
-add-code : tie.Need-add-code Inv-loop μ-loop
-add-code c = search needs
-
-array-read-if3 : tie.Need-array-read-if3 Inv-loop μ-loop
-array-read-if3 c = stamp-small _ (bounded (coded c .before))
+loop-again c = (search needs, search needs, below-more _ _ (turn (c .before) .loop .inv .2) (c .if1 .left))
 
 returns-2 : tie.Need-returns-2 Inv-loop μ-loop
-returns-2 c =
-    let w = coded (c .before) in
-    stamp-twice _ _ _ _ _ (turn (w .before) .loop .inv .3) (bounded (w .before)) (w .if1 .left) (search needs) (c .if3 .taken)
-
-array-write-seen : tie.Need-array-write-seen Inv-loop μ-loop
-array-write-seen c = stamp-small _ (bounded (coded (c .before) .before))
-
-add-s-2 : tie.Need-add-s-2 Inv-loop μ-loop
-add-s-2 c = search needs
-
-loop-less-2 : tie.Need-loop-less-2 Inv-loop μ-loop
-loop-less-2 c = search needs
-
-loop-again-2 : tie.Need-loop-again-2 Inv-loop μ-loop
-loop-again-2 c =
-    let w = coded (c .before) in
-    let k = kept (c .before) in
-    let t = turn (w .before) .loop .inv in
-    (search needs, search needs, t .2, write-read _ _ _ _ _ (t .3) (bounded (w .before)) (w .if1 .left) (sym (k .before .keeps .ensures) ∙ not-false _ (k .if2 .left)) (c .if3 .left))
-
-returns-3 : tie.Need-returns-3 Inv-loop μ-loop
-returns-3 c = let e : c .before .loop .s ≡ c .before .before .args .count = omega arith in all-read _ _ _ _ (rw e at (c .before .loop .inv .3))
+returns-2 c = no-writes _ _ _ (λ j h. c .before .loop .inv .2 j (omega arith))
 
 pub good-writes-spec : {M : Type 1} → statement M
 good-writes-spec =
@@ -131,26 +58,9 @@ good-writes-spec =
     loop-holds
     mul-m
     array-copy-out-m
+    each-write-requires
+    returns
     add-s
     loop-less
     loop-again
-    cast-i
-    sub-i
-    mul-keeps
-    array-copy-out-keeps
-    keeps-requires
-    returns
-    cast-set
-    mul-set
-    cast-set-2
-    add-set
-    mul-code
-    cast-code
-    add-code
-    array-read-if3
-    returns-2
-    array-write-seen
-    add-s-2
-    loop-less-2
-    loop-again-2
-    returns-3)
+    returns-2)

@@ -54,12 +54,12 @@ returns-3 c =
 
 each-controller-requires : tie.Need-each-controller-requires
 each-controller-requires c κs =
-    let m = told (c .before) in
+    let m = told (c .before .before) in
     (few (table (read m)) (ranged (read m)), fits (table (read m)) (ranged (read m)), bounded m)
 
 returns-4 : tie.Need-returns-4
 returns-4 c =
-    let w = c .before in
+    let w = c .before .before in
     let m = told (w .before) in
     tested _ (ranged (read m)) (good m) (sym (w .before .good-writes .ensures) ∙ not-false _ (w .if3 .left)) _ (c .each-controller .ensures)
 
