@@ -1,5 +1,6 @@
 -- What a file, an event or a line that no question refuses may rely on: a record of facts for each kind of event. Assumes nothing.
 use mathlib.Core.Path.{_≡_, refl}
+use mathlib.Core.Logic.{_≢_}
 use mathlib.Core.Bool.{Bool, true, false, not, _&&_, cond, true≢false}
 use mathlib.Core.List.{List, [], _∷_, _++_}
 use Prim.Native.Nat.{ℕ, suc, _≤_, _<_}
@@ -245,3 +246,27 @@ unclassed-fair v s c p e f = go (eqb v 2) refl (send-record v s c p e)
     go false z (syncs q r) = rw (r, z) refl
     go true z (writes q r) = rw (r, z) refl
     go false z (writes q r) = rw (r, z) refl
+
+-- Question 19 refuses writes alone: any other message that a record sends has no register and no value, as it must.
+pub unwritten-fair : (v : ℕ) (s : List ℕ) (c : ℕ) (p : Payload) → decode v s ≡ Act (Send c p) → kind s ≢ 6 → fairRegister p ≡ true
+unfolding fairRegister reported
+unwritten-fair v s c p e n = go (send-record v s c p e)
+  where
+    go : SendRecord v s p → fairRegister p ≡ true
+    go (reports q r) = rw r (cond-case (λ (x : Payload). fairRegister x ≡ true) (ltb (word s 3) 32768) _ _ (λ _. refl) (λ _. refl))
+    go (syncs q r) = rw r refl
+    go (writes q r) = absurd (n q)
+
+-- Questions 9 and 17 refuse reports alone: a write that a record sends has no amount and no class, as it must.
+pub write-fair : (v : ℕ) (s : List ℕ) (c : ℕ) (p : Payload) → decode v s ≡ Act (Send c p) → kind s ≡ 6 → (fairAmount p ≡ true) × (fairClass v p ≡ true)
+unfolding fairAmount fairClass
+write-fair v s c p e k = go (send-record v s c p e)
+  where
+    class : (b : Bool) → cond (b && false) (ltb 0 0 && leb 0 4) true ≡ true
+    class true = refl
+    class false = refl
+
+    go : SendRecord v s p → (fairAmount p ≡ true) × (fairClass v p ≡ true)
+    go (reports q r) = absurd (omega (arith, k, q))
+    go (syncs q r) = absurd (omega (arith, k, q))
+    go (writes q r) = rw r (refl, class (eqb v 2))
