@@ -71,14 +71,17 @@ module _ (k : ℕ) (M : List Message) (C : List Controller) where
   abbrev table : Table
   table = whole 0 0 k M C
 
+  abbrev sent : ℕ → Message
+  sent s = getD M s noMessage
+
   abbrev code : ℕ → ℕ
-  code s = writeCode (getD M s noMessage)
+  code s = writeCode (sent s)
 
   abbrev alike : ℕ → ℕ → Bool
-  alike i j = sameStamp (getD M i noMessage) (getD M j noMessage)
+  alike i j = sameStamp (sent i) (sent j)
 
   abbrev Good : ℕ → Type 0
-  Good s = Bounded (getD M s noMessage) × (keptWrite table s ≡ true)
+  Good s = Bounded (sent s) × (keptWrite table s ≡ true)
 
   -- the first s messages were read
   unfoldable pub WritesRead : ℕ → List Bool → Type 0
@@ -92,43 +95,43 @@ module _ (k : ℕ) (M : List Message) (C : List Controller) where
   unfolding WritesRead goodWrites message
   all-read seen r = sym (both (r .apart) (all-of k _ (λ s h. r .good s h .1)))
 
-  module _ (s : ℕ) (seen : List Bool) (r : WritesRead s seen) (bounded : Bounded (getD M s noMessage)) where
-    pub other-read : getD M s noMessage .payload .kind ≢ 6 → WritesRead (s + 1) seen
+  module _ (s : ℕ) (seen : List Bool) (r : WritesRead s seen) (bounded : Bounded (sent s)) where
+    pub other-read : sent s .payload .kind ≢ 6 → WritesRead (s + 1) seen
     unfolding WritesRead keptWrite sameStamp message
     other-read w =
-        let e = ne-eqb (getD M s noMessage .payload .kind) 6 w in
+        let e = ne-eqb (sent s .payload .kind) 6 w in
         passed-over 4680 code alike Good s seen r (bounded, rw e) (rw e (omega arith)) (λ j h. rw e)
 
     -- a write of a controller that has it pending or applied while it runs, or not
-    module _ (w : getD M s noMessage .payload .kind ≡ 6) where
+    module _ (w : sent s .payload .kind ≡ 6) where
       abbrev sender : Controller
-      sender = getD C (getD M s noMessage .sender - 1) noController
+      sender = getD C (sent s .sender - 1) noController
 
       abbrev keeps : Bool
       keeps = not (yes? (sender .running)) || (held sender s || applied sender s)
 
       kept : keptWrite table s ≡ keeps
       unfolding keptWrite at message
-      kept = rw (eq-eqb (getD M s noMessage .payload .kind) 6 w)
+      kept = rw (eq-eqb (sent s .payload .kind) 6 w)
 
-      coded : code s ≡ stampCode (getD M s noMessage)
-      coded = rw (eq-eqb (getD M s noMessage .payload .kind) 6 w)
+      coded : code s ≡ stampCode (sent s)
+      coded = rw (eq-eqb (sent s .payload .kind) 6 w)
 
       told : (i : ℕ) → i < s → alike s i ≡ eqb (code s) (code i)
       unfolding WritesRead
-      told i h = stamp-alike (getD M s noMessage) (getD M i noMessage) bounded (r .good i h .0) w
+      told i h = stamp-alike (sent s) (sent i) bounded (r .good i h .0) w
 
       small : code s < 4680
-      small = rw coded (stamp-small (getD M s noMessage) bounded)
+      small = rw coded (stamp-small (sent s) bounded)
 
       pub not-kept : s < k → keeps ≡ false → false ≡ goodWrites table
       unfolding goodWrites message
       not-kept h e = rw (← all-failed k (keptWrite table) s h (rw kept e)) (sym (and-false (distinct k alike)))
 
-      pub write-read : keeps ≡ true → getD seen (stampCode (getD M s noMessage)) false ≡ false → WritesRead (s + 1) (set seen (stampCode (getD M s noMessage)) true)
+      pub write-read : keeps ≡ true → getD seen (stampCode (sent s)) false ≡ false → WritesRead (s + 1) (set seen (stampCode (sent s)) true)
       unfolding WritesRead
       write-read e f = rw (← coded) (next-read 4680 code alike Good s seen r small told (bounded, rw kept e) (rw coded f))
 
-      pub stamp-twice : s < k → getD seen (stampCode (getD M s noMessage)) false ≡ true → false ≡ goodWrites table
+      pub stamp-twice : s < k → getD seen (stampCode (sent s)) false ≡ true → false ≡ goodWrites table
       unfolding WritesRead goodWrites message
       stamp-twice h f = rw (read-twice 4680 code alike Good s seen r small told k h (rw coded f))

@@ -1,5 +1,5 @@
 // Question 4: whether a table is well formed. What a clause asks of every message, log entry or slot is read in one pass
-// into flags, so that no clause searches; a name, a log entry and a sender each have a flag or a number of their own.
+// into flags, so that no clause searches; a name, a stamp, a log entry and a sender each have a flag or a number of their own.
 ghost use mathlib.Core.Path.{_≡_};
 ghost use mathlib.Core.Bool.{not, _||_, cond};
 ghost use mathlib.Core.List.{[]};
