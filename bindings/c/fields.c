@@ -35,6 +35,10 @@ static void expect(uint8_t got, uint8_t wanted, const char *field, size_t i, siz
     exit(EXIT_FAILURE);
 }
 
+static void expect_register(furnacejade_register got, uint32_t value, uint16_t date, uint16_t writer, const char *field, size_t i, size_t j) {
+    expect((uint8_t)(got.value == value && got.stamp.date == date && got.stamp.writer == writer), 1, field, i, j);
+}
+
 static void expect_sums(furnacejade_sums got, furnacejade_sums wanted, const char *field, size_t i, size_t j) {
     expect((uint8_t)(got.added == wanted.added && got.withdrawn == wanted.withdrawn), 1, field, i, j);
 }
@@ -94,6 +98,9 @@ static void messages(void) {
         BREAKS(messages[s].payload.kind, 3, s, 0);
         BREAKS(messages[s].payload.added, 361, s, 0);
         BREAKS(messages[s].payload.withdrawn, 1, s, 0);
+        BREAKS(messages[s].payload.reg, 1, s, 0);
+        BREAKS(messages[s].payload.value, 1, s, 0);
+        BREAKS(messages[s].date, 1, s, 0);
     }
 }
 
@@ -131,7 +138,9 @@ static furnacejade_table full(int applied) {
         m->number.value = (uint8_t)(s + 1);
         m->payload.kind = 2;
         m->payload.weight_class = FURNACEJADE_CLASS_NONE;
-        m->payload.added = m->payload.withdrawn = 0;
+        m->payload.added = m->payload.withdrawn = m->payload.reg = 0;
+        m->payload.value = 0;
+        m->date = 0;
     }
     t.count = FURNACEJADE_MESSAGES;
     for (size_t c = 0; c < FURNACEJADE_CONTROLLERS; c++) {
@@ -160,6 +169,9 @@ static void arrays(void) {
         BREAKS(messages[s].payload.weight_class, FURNACEJADE_CLASS_XL, s, 0);
         BREAKS(messages[s].payload.added, 1, s, 0);
         BREAKS(messages[s].payload.withdrawn, 1, s, 0);
+        BREAKS(messages[s].payload.reg, 1, s, 0);
+        BREAKS(messages[s].payload.value, 1, s, 0);
+        BREAKS(messages[s].date, 1, s, 0);
     }
     for (size_t c = 0; c < FURNACEJADE_CONTROLLERS; c++)
         for (size_t s = 0; s < FURNACEJADE_MESSAGES; s++) {
@@ -170,6 +182,47 @@ static void arrays(void) {
     for (size_t c = 0; c < FURNACEJADE_CONTROLLERS; c++)
         for (size_t s = 0; s < FURNACEJADE_MESSAGES; s++)
             for (size_t f = 0; f < FURNACEJADE_CONTROLLERS; f++) BREAKS(controllers[c].pending[s].marks[f].value, 65, c * 64 + s, f);
+}
+
+/* 64 applied writes, eight of each register, with dates from 1: register, value and date are read where they stand, and what a
+ * panel shows is the last of each register. */
+static void writes(void) {
+    enum { EACH = FURNACEJADE_MESSAGES / FURNACEJADE_REGISTERS };
+    furnacejade_look_answer shown;
+    good = full(1);
+    for (size_t s = 0; s < FURNACEJADE_MESSAGES; s++) {
+        furnacejade_message *m = &good.messages[s];
+        m->payload.kind = 6;
+        m->payload.reg = (uint16_t)(1 + s % FURNACEJADE_REGISTERS);
+        m->payload.value = 0x01020300u + (uint32_t)s;
+        m->date = (uint16_t)(1 + s / FURNACEJADE_REGISTERS);
+    }
+    FREE(version, 1, 0, 0);
+    FREE(version, 2, 0, 0);
+    for (size_t s = 0; s < FURNACEJADE_MESSAGES; s++) {
+        FREE(messages[s].payload.value, UINT32_MAX, s, 0);
+        FREE(messages[s].date, (uint16_t)(EACH + 1), s, 0);
+        FREE(messages[s].date, FURNACEJADE_MESSAGES, s, 0);
+        BREAKS(messages[s].date, 0, s, 0);
+        BREAKS(messages[s].date, FURNACEJADE_MESSAGES + 1, s, 0);
+        BREAKS(messages[s].date, (uint16_t)(good.messages[s].date + 256), s, 0);
+        BREAKS(messages[s].date, (uint16_t)(1 + good.messages[s].date % EACH), s, 0);
+        BREAKS(messages[s].payload.reg, (uint16_t)(1 + good.messages[s].payload.reg % FURNACEJADE_REGISTERS), s, 0);
+        BREAKS(messages[s].payload.reg, 0, s, 0);
+        BREAKS(messages[s].payload.reg, FURNACEJADE_REGISTERS + 1, s, 0);
+        BREAKS(messages[s].payload.reg, (uint16_t)(good.messages[s].payload.reg + 256), s, 0);
+        BREAKS(messages[s].payload.weight_class, FURNACEJADE_CLASS_XL, s, 0);
+        BREAKS(messages[s].payload.added, 1, s, 0);
+        BREAKS(messages[s].payload.withdrawn, 1, s, 0);
+        furnacejade_table t = good;
+        t.controllers[0].applied[s] = 0;
+        t.controllers[0].highest[0].value = (uint8_t)(s == FURNACEJADE_MESSAGES - 1 ? s : FURNACEJADE_MESSAGES);
+        t.controllers[0].running = 0;
+        expect(look(&t, 1), 0, "a write unknown at its stopped sender", s, 0);
+    }
+    furnacejade_look(&good, 1, &shown);
+    for (size_t r = 1; r <= FURNACEJADE_REGISTERS; r++)
+        expect_register(shown.panel.registers[r - 1], (uint32_t)(0x01020300u + FURNACEJADE_MESSAGES - FURNACEJADE_REGISTERS + r - 1), EACH, 1, "look.registers", r, 0);
 }
 
 /* Of two controllers: what stands above n, behind the count and behind a log's end is neither tested nor used. */
@@ -204,15 +257,17 @@ static void unused(void) {
 /* This writer, lent one byte too few, writes nothing. */
 #define NO_ROOM(call)                                            \
     do {                                                         \
-        uint8_t small[5];                                        \
+        uint8_t small[7];                                        \
         memset(small, 0xA5, sizeof small);                       \
         expect((uint8_t)furnacejade_put_##call, 0, #call, 0, 0); \
         expect(small[0], 0xA5, #call, 0, 1);                     \
     } while (0)
 
 /* The same run in both versions. */
-static const uint8_t plain[] = {1, 3, 4, 1, 1, 0xFE, 0x98, 3, 3, 2, 1, 3, 3, 2, 2, 2, 2, 3, 3, 3, 1, 2, 4, 4, 2, 0, 1, 3, 3, 1, 3, 2, 5, 1};
-static const uint8_t classed[] = {2, 3, 5, 1, 1, 0xFE, 0x98, 4, 3, 3, 2, 1, 3, 3, 2, 2, 2, 2, 3, 3, 3, 1, 2, 4, 4, 2, 0, 1, 3, 3, 1, 3, 2, 5, 1};
+static const uint8_t plain[] = {1, 3, 4, 1, 1, 0xFE, 0x98, 3, 3, 2, 1, 3, 3, 2, 2, 2, 2, 3, 3, 3, 1, 2, 4, 4, 2, 0, 1, 3, 3, 1, 3, 2, 5, 1,
+                                3, 3, 3, 1, 3, 3, 3, 1, 3, 3, 3, 3, 3, 3, 3, 3, 7, 6, 3, 8, 0xA1, 0xB2, 0xC3, 0xD4};
+static const uint8_t classed[] = {2, 3, 5, 1, 1, 0xFE, 0x98, 4, 3, 3, 2, 1, 3, 3, 2, 2, 2, 2, 3, 3, 3, 1, 2, 4, 4, 2, 0, 1, 3, 3, 1, 3, 2, 5, 1,
+                                  3, 3, 3, 1, 3, 3, 3, 1, 3, 3, 3, 3, 3, 3, 3, 3, 7, 6, 3, 8, 0xA1, 0xB2, 0xC3, 0xD4};
 
 /* The writers give that file, byte for byte. */
 static void written(uint8_t version, const uint8_t *file, size_t size) {
@@ -227,6 +282,9 @@ static void written(uint8_t version, const uint8_t *file, size_t size) {
     at += furnacejade_put_stop(out + at, sizeof out - at, 2, 1);
     at += furnacejade_put_handover(out + at, sizeof out - at, 1, 3);
     at += furnacejade_put_local_read(out + at, sizeof out - at, 1);
+    for (uint8_t owner = 1; owner <= 3; owner += 2)
+        for (int entry = 0; entry < 2; entry++) at += furnacejade_put_handover(out + at, sizeof out - at, 3, owner);
+    at += furnacejade_put_write(out + at, sizeof out - at, 3, 8, 0xA1B2C3D4);
     expect((uint8_t)at, (uint8_t)size, "written", version, 0);
     expect((uint8_t)(memcmp(out, file, size) == 0), 1, "written", version, 1);
 }
@@ -242,6 +300,7 @@ static void writers(void) {
     NO_ROOM(handover(small, 3, 1, 1));
     NO_ROOM(stop(small, 4, 1, 1));
     NO_ROOM(local_read(small, 2, 1));
+    NO_ROOM(write(small, 7, 1, 1, 1));
     expect((uint8_t)strcmp(furnacejade_question(FURNACEJADE_FULL), "Has the run fewer than 64 messages?"), 0, "question", 12, 0);
     expect((uint8_t)strcmp(furnacejade_question(255), "no such number"), 0, "question", 255, 0);
 }
@@ -399,6 +458,42 @@ static void class_sums(void) {
     }
 }
 
+/* What a look shows of each register: controller 1, alone, sets each to its own value and then register 8 once more. A write
+ * without a sync right before it is refused, and a refused look shows no register. */
+static void registers(void) {
+    static const uint8_t handover[] = {3, 3, 1, 1}, sync[] = {2, 2, 1};
+    static furnacejade_fresh_answer fresh;
+    static furnacejade_answer answer;
+    furnacejade_look_answer shown;
+    uint8_t record[8];
+    furnacejade_fresh(1, 1, &fresh);
+    for (uint8_t i = 0; i <= FURNACEJADE_REGISTERS; i++) {
+        uint8_t r = i < FURNACEJADE_REGISTERS ? (uint8_t)(i + 1) : FURNACEJADE_REGISTERS;
+        size_t length = furnacejade_put_write(record, sizeof record, 1, r, UINT32_MAX - i);
+        expect(event(&fresh.table, record, length, &answer), FURNACEJADE_NOT_SYNCED, "write without a sync", i, 0);
+        expect(event(&fresh.table, sync, sizeof sync, &answer), 0, "sync before a write", i, 0);
+        expect(event(&fresh.table, record, length, &answer), FURNACEJADE_OWN_PENDING, "write before the sync is applied", i, 0);
+        expect(event(&fresh.table, handover, sizeof handover, &answer), 0, "handover before a write", i, 0);
+        expect(event(&fresh.table, record, length, &answer), 0, "write", i, 0);
+        expect((uint8_t)answer.size, 0, "write's size", i, 0);
+        expect(event(&fresh.table, handover, sizeof handover, &answer), 0, "handover after a write", i, 0);
+        expect(answer.finished, 0, "write's finished", i, 0);
+    }
+    for (uint8_t r = 0; r <= FURNACEJADE_REGISTERS + 1; r += FURNACEJADE_REGISTERS + 1) {
+        size_t length = furnacejade_put_write(record, sizeof record, 1, r, 1);
+        expect(event(&fresh.table, record, length, &answer), FURNACEJADE_REGISTER, "register", r, 0);
+    }
+    for (size_t c = 1; c <= 2; c++) {
+        memset(&shown, 0xA5, sizeof shown);
+        furnacejade_look(&fresh.table, c, &shown);
+        expect(shown.number, c == 1 ? FURNACEJADE_ACCEPTED : FURNACEJADE_CONTROLLER, "look", c, 0);
+        expect_sums(shown.panel.sums, zero_sums, "look.sums", c, 0);
+        for (size_t r = 1; r < FURNACEJADE_REGISTERS; r++)
+            expect_register(shown.panel.registers[r - 1], c == 1 ? (uint32_t)(UINT32_MAX - (r - 1)) : 0, c == 1, c == 1, "look.registers", c, r);
+        expect_register(shown.panel.registers[FURNACEJADE_REGISTERS - 1], c == 1 ? UINT32_MAX - FURNACEJADE_REGISTERS : 0, c == 1 ? 2 : 0, c == 1, "look.registers", c, FURNACEJADE_REGISTERS);
+    }
+}
+
 static void random_tables(void) {
     uint64_t state = 1;
     for (int i = 0; i < 20000; i++) {
@@ -430,6 +525,7 @@ int main(void) {
         local_reads(version);
     }
     arrays();
+    writes();
     unused();
     writers();
     bytes(plain, sizeof plain);
@@ -437,6 +533,7 @@ int main(void) {
     zeros();
     answers();
     class_sums();
+    registers();
     random_tables();
     printf("%u fields and tables as expected\n", tests);
     return EXIT_SUCCESS;

@@ -38,12 +38,13 @@ enum {
     FURNACEJADE_CONTROLLERS = 7, /* at most so many controllers */
     FURNACEJADE_MESSAGES = 64,   /* at most so many messages in a run */
     FURNACEJADE_CLASSES = 5,     /* a panel shows the sums of so many classes, of none among them */
+    FURNACEJADE_REGISTERS = 8,   /* a panel shows so many registers */
     FURNACEJADE_SCRATCH = 4096,  /* an event asks for so many bytes of scratch */
     FURNACEJADE_LISTING = 16384, /* no run file fills so many bytes of listing */
     FURNACEJADE_ABSENT = 255     /* the mark of a controller that is not known to have forwarded a message */
 };
 
-/* Weight classes. A report of version 2 names one of the four; a report of version 1, and every sync, has none. */
+/* Weight classes. A report of version 2 names one of the four; a report of version 1, and every sync and write, has none. */
 enum {
     FURNACEJADE_CLASS_NONE = 0,
     FURNACEJADE_CLASS_XL = 1,
@@ -61,19 +62,21 @@ enum {
     X(3, COUNT, "Is the number of controllers from 1 to 7?")                                       \
     X(4, TABLE, "Is the table well formed?")                                                       \
     X(5, RECORD, "Are the length byte and all the bytes it counts there?")                         \
-    X(6, KIND, "Is there a kind, from 1 to 5?")                                                    \
+    X(6, KIND, "Is there a kind, from 1 to 6?")                                                    \
     X(7, LENGTH, "Is the length that of the kind?")                                                \
     X(8, CONTROLLER, "Is every controller named from 1 to n?")                                     \
     X(9, AMOUNT, "Is a report's amount from -360 to 360 and not 0?")                               \
     X(10, STOPPED, "Is the sender, receiver, or controller to be stopped or read still running?")  \
-    X(11, OWN_PENDING, "Has the sender of a sync no message of its own pending?")                  \
+    X(11, OWN_PENDING, "Has the sender of a sync or write no message of its own pending?")         \
     X(12, FULL, "Has the run fewer than 64 messages?")                                             \
     X(13, NO_ENTRY, "Does the log have an entry that the receiver has not read?")                  \
     X(14, KEPT, "Is the length kept at most the log's, and at least every read position in it?")   \
     X(15, SCRATCH_LENGTH, "Has the scratch area 4,096 bytes or more?")                             \
     X(16, LISTING_LENGTH, "Does the line fit in what is left of the listing?")                     \
     X(17, CLASS, "Is the class of a report of version 2 from 1 to 4?")                             \
-    X(18, READ_PENDING, "Has the controller of a local read no message of its own pending?")
+    X(18, READ_PENDING, "Has the controller of a local read no message of its own pending?")       \
+    X(19, REGISTER, "Is the register of a write from 1 to 8?")                                     \
+    X(20, NOT_SYNCED, "Is the latest message of a write's sender a sync that it has applied?")
 
 enum {
 #define FURNACEJADE_NUMBER(number, name, question) FURNACEJADE_##name = number,
@@ -102,18 +105,21 @@ typedef struct { uint8_t value; } furnacejade_forward_number;
 /* The number that a sender gives its message, 1 to 64; 0 is none. */
 typedef struct { uint8_t value; } furnacejade_message_number;
 
-/* What a message says. (The rules say class, which is a word of C++.) */
+/* What a message says. (The rules say class, which is a word of C++, and register, which is one of C.) */
 typedef struct {
-    uint8_t kind;         /* 1 report, 2 sync */
+    uint8_t kind;         /* 1 report, 2 sync, 6 write */
     uint8_t weight_class; /* of a report of version 2: FURNACEJADE_CLASS_XL to _S; else FURNACEJADE_CLASS_NONE */
     uint16_t added;       /* the amount if positive, else 0 */
     uint16_t withdrawn;   /* its magnitude if negative, else 0 */
+    uint16_t reg;         /* the register that a write sets, 1 to 8; else 0 */
+    uint32_t value;       /* what it sets it to; else 0 */
 } furnacejade_payload;
 
 /* A message; its index in the table is its slot. */
 typedef struct {
     uint8_t sender;                    /* 1 to n */
     furnacejade_message_number number; /* its place in its sender's log */
+    uint16_t date;                     /* of a write: one more than its register's date at its sender; else 0 */
     furnacejade_payload payload;
 } furnacejade_message;
 
@@ -155,10 +161,24 @@ typedef struct {
     uint32_t withdrawn; /* of those below 0, with the sign dropped */
 } furnacejade_sums;
 
+/* The stamp of a write. Of two writes of a register the one with the greater date wins, and of two with one date that of
+ * the greater writer. */
+typedef struct {
+    uint16_t date;   /* 1 or more; 0 if the register was not written */
+    uint16_t writer; /* the controller that sent it; 0 if the register was not written */
+} furnacejade_stamp;
+
+/* A register as a panel shows it: the write with the greatest stamp among those that its controller has applied. */
+typedef struct {
+    uint32_t value;          /* 0 if the register was not written */
+    furnacejade_stamp stamp; /* that of the write */
+} furnacejade_register;
+
 /* What a panel shows. */
 typedef struct {
-    furnacejade_sums sums;                         /* over what its controller has applied */
-    furnacejade_sums classes[FURNACEJADE_CLASSES]; /* those of each class, from FURNACEJADE_CLASS_NONE on; they add up to sums */
+    furnacejade_sums sums;                                 /* over what its controller has applied */
+    furnacejade_sums classes[FURNACEJADE_CLASSES];         /* those of each class, from FURNACEJADE_CLASS_NONE on; they add up to sums */
+    furnacejade_register registers[FURNACEJADE_REGISTERS]; /* register r at r - 1 */
 } furnacejade_panel;
 
 /* What furnacejade_event answers. */
@@ -198,15 +218,18 @@ typedef struct {
 #define FURNACEJADE_FULLY(type, sum) FURNACEJADE_ASSERT(sizeof(type) == (sum), "padding in " #type)
 FURNACEJADE_BYTES(furnacejade_forward_number, 1);
 FURNACEJADE_BYTES(furnacejade_message_number, 1);
-FURNACEJADE_BYTES(furnacejade_payload, 6);
+FURNACEJADE_BYTES(furnacejade_payload, 12);
 FURNACEJADE_AT(furnacejade_payload, kind, 0);
 FURNACEJADE_AT(furnacejade_payload, weight_class, 1);
 FURNACEJADE_AT(furnacejade_payload, added, 2);
 FURNACEJADE_AT(furnacejade_payload, withdrawn, 4);
-FURNACEJADE_BYTES(furnacejade_message, 8);
+FURNACEJADE_AT(furnacejade_payload, reg, 6);
+FURNACEJADE_AT(furnacejade_payload, value, 8);
+FURNACEJADE_BYTES(furnacejade_message, 16);
 FURNACEJADE_AT(furnacejade_message, sender, 0);
 FURNACEJADE_AT(furnacejade_message, number, 1);
-FURNACEJADE_AT(furnacejade_message, payload, 2);
+FURNACEJADE_AT(furnacejade_message, date, 2);
+FURNACEJADE_AT(furnacejade_message, payload, 4);
 FURNACEJADE_BYTES(furnacejade_name, 2);
 FURNACEJADE_AT(furnacejade_name, sender, 0);
 FURNACEJADE_AT(furnacejade_name, number, 1);
@@ -221,31 +244,38 @@ FURNACEJADE_AT(furnacejade_controller, pending, 128);
 FURNACEJADE_AT(furnacejade_controller, applied, 640);
 FURNACEJADE_AT(furnacejade_controller, highest, 704);
 FURNACEJADE_AT(furnacejade_controller, running, 711);
-FURNACEJADE_BYTES(furnacejade_table, 5520);
+FURNACEJADE_BYTES(furnacejade_table, 6032);
 FURNACEJADE_AT(furnacejade_table, version, 0);
 FURNACEJADE_AT(furnacejade_table, n, 8);
 FURNACEJADE_AT(furnacejade_table, count, 16);
 FURNACEJADE_AT(furnacejade_table, messages, 24);
-FURNACEJADE_AT(furnacejade_table, controllers, 536);
+FURNACEJADE_AT(furnacejade_table, controllers, 1048);
 FURNACEJADE_BYTES(furnacejade_sums, 8);
 FURNACEJADE_AT(furnacejade_sums, added, 0);
 FURNACEJADE_AT(furnacejade_sums, withdrawn, 4);
-FURNACEJADE_BYTES(furnacejade_panel, 48);
+FURNACEJADE_BYTES(furnacejade_stamp, 4);
+FURNACEJADE_AT(furnacejade_stamp, date, 0);
+FURNACEJADE_AT(furnacejade_stamp, writer, 2);
+FURNACEJADE_BYTES(furnacejade_register, 8);
+FURNACEJADE_AT(furnacejade_register, value, 0);
+FURNACEJADE_AT(furnacejade_register, stamp, 4);
+FURNACEJADE_BYTES(furnacejade_panel, 112);
 FURNACEJADE_AT(furnacejade_panel, sums, 0);
 FURNACEJADE_AT(furnacejade_panel, classes, 8);
+FURNACEJADE_AT(furnacejade_panel, registers, 48);
 FURNACEJADE_BYTES(furnacejade_answer, 152);
 FURNACEJADE_AT(furnacejade_answer, number, 0);
 FURNACEJADE_AT(furnacejade_answer, finished, 1);
 FURNACEJADE_AT(furnacejade_answer, sums, 4);
 FURNACEJADE_AT(furnacejade_answer, size, 16);
 FURNACEJADE_AT(furnacejade_answer, names, 24);
-FURNACEJADE_BYTES(furnacejade_fresh_answer, 5528);
+FURNACEJADE_BYTES(furnacejade_fresh_answer, 6040);
 FURNACEJADE_AT(furnacejade_fresh_answer, number, 0);
 FURNACEJADE_AT(furnacejade_fresh_answer, table, 8);
-FURNACEJADE_BYTES(furnacejade_look_answer, 52);
+FURNACEJADE_BYTES(furnacejade_look_answer, 116);
 FURNACEJADE_AT(furnacejade_look_answer, number, 0);
 FURNACEJADE_AT(furnacejade_look_answer, panel, 4);
-FURNACEJADE_BYTES(furnacejade_run_answer, 5544);
+FURNACEJADE_BYTES(furnacejade_run_answer, 6056);
 FURNACEJADE_AT(furnacejade_run_answer, number, 0);
 FURNACEJADE_AT(furnacejade_run_answer, events, 8);
 FURNACEJADE_AT(furnacejade_run_answer, written, 16);
@@ -254,10 +284,11 @@ FURNACEJADE_AT(furnacejade_run_answer, table, 24);
 /* No padding, so that a table's bytes are its fields and nothing else. */
 FURNACEJADE_FULLY(furnacejade_payload,
                   FURNACEJADE_OF(furnacejade_payload, kind) + FURNACEJADE_OF(furnacejade_payload, weight_class)
-                      + FURNACEJADE_OF(furnacejade_payload, added) + FURNACEJADE_OF(furnacejade_payload, withdrawn));
+                      + FURNACEJADE_OF(furnacejade_payload, added) + FURNACEJADE_OF(furnacejade_payload, withdrawn)
+                      + FURNACEJADE_OF(furnacejade_payload, reg) + FURNACEJADE_OF(furnacejade_payload, value));
 FURNACEJADE_FULLY(furnacejade_message,
                   FURNACEJADE_OF(furnacejade_message, sender) + FURNACEJADE_OF(furnacejade_message, number)
-                      + FURNACEJADE_OF(furnacejade_message, payload));
+                      + FURNACEJADE_OF(furnacejade_message, date) + FURNACEJADE_OF(furnacejade_message, payload));
 FURNACEJADE_FULLY(furnacejade_pending, FURNACEJADE_OF(furnacejade_pending, held) + FURNACEJADE_OF(furnacejade_pending, marks));
 FURNACEJADE_FULLY(furnacejade_controller,
                   FURNACEJADE_OF(furnacejade_controller, length) + FURNACEJADE_OF(furnacejade_controller, log)
@@ -354,6 +385,22 @@ static inline size_t furnacejade_put_local_read(uint8_t *out, size_t room, uint8
     return 3;
 }
 
+/* Kind 6: a write of a register, 1 to 8, by its sender, 8 bytes. Its sender's latest message is a sync that the sender has
+ * applied: right behind a finished sync the write is accepted, and else refused (20), or (11) while a message of the
+ * sender's own is pending. */
+static inline size_t furnacejade_put_write(uint8_t *out, size_t room, uint8_t sender, uint8_t reg, uint32_t value) {
+    if (room < 8) return 0;
+    out[0] = 7;
+    out[1] = 6;
+    out[2] = sender;
+    out[3] = reg;
+    out[4] = (uint8_t)(value >> 24);
+    out[5] = (uint8_t)(value >> 16 & 255);
+    out[6] = (uint8_t)(value >> 8 & 255);
+    out[7] = (uint8_t)(value & 255);
+    return 8;
+}
+
 /* A fresh table of n controllers, 1 to 7: all run, nothing was sent. Its version, 1 or 2, says whether its reports name a
  * class, and stays. Questions 2 and 3 are put. Takes 4 KB of stack.
  *
@@ -364,11 +411,12 @@ static inline size_t furnacejade_put_local_read(uint8_t *out, size_t room, uint8
 void furnacejade_fresh(size_t version, size_t n, furnacejade_fresh_answer *answer);
 
 /* One event: bytes is the rest of a file from a record on, and the record with which it begins is carried out. The table's
- * version says how long a report is. Questions 4 to 15 are put: 9 and 12 to reports, 11 and 12 to syncs, 13 to handovers, 14
- * to stops, the others to all; and to a report of version 2 question 17, behind 9, to a local read 18, behind 10. Returns how
- * many bytes are left: the unread rest is the last so many of bytes. An accepted event leaves the table as the rules say and
- * the first 4,096 scratch bytes zero. A refused one leaves table and scratch as they were, and the record in the rest: a loop
- * that goes on must step over it, by 1 + its length byte. Takes 20 KB of stack.
+ * version says how long a report is. Questions 4 to 15 are put: 9 and 12 to reports, 11 and 12 to syncs and writes, 13 to
+ * handovers, 14 to stops, the others to all; and to a report of version 2 question 17, behind 9, to a local read 18, behind
+ * 10, to a write 19, behind 8, and 20, behind 12. Returns how many bytes are left: the unread rest is the last so many of
+ * bytes. An accepted event leaves the table as the rules say and the first 4,096 scratch bytes zero. A refused one leaves
+ * table and scratch as they were, and the record in the rest: a loop that goes on must step over it, by 1 + its length byte.
+ * Takes 20 KB of stack.
  *
  *     uint8_t record[6];
  *     size_t length = furnacejade_put_classed_report(record, sizeof record, 1, 30, FURNACEJADE_CLASS_XL);
@@ -387,6 +435,8 @@ size_t furnacejade_event(furnacejade_table *t, const uint8_t *bytes, size_t byte
  *     const furnacejade_sums *whole = &look.panel.sums, *xl = &look.panel.classes[FURNACEJADE_CLASS_XL];
  *     if (look.number == FURNACEJADE_ACCEPTED)
  *         printf("panel 2 shows %u %u, of XL %u %u\n", whole->added, whole->withdrawn, xl->added, xl->withdrawn);
+ *     const furnacejade_register *belt = &look.panel.registers[0];
+ *     printf("register 1 is %u, set by %d\n", belt->value, belt->stamp.writer);
  */
 void furnacejade_look(const furnacejade_table *t, size_t c, furnacejade_look_answer *answer);
 

@@ -1,12 +1,12 @@
-/* Five lanes of one machine: trays, two of one lane under way at once, eggs taken back, local reads, a sync, a lane that stops,
- * and what is left when no majority runs. Records are written with the header's writers, everything that waits is handed over,
- * and refusals are printed in words. */
+/* Five lanes of one machine: trays, two of one lane under way at once, eggs taken back, local reads, a sync, a set point, a lane
+ * that stops, and what is left when no majority runs. Records are written with the header's writers, everything that waits is
+ * handed over, and refusals are printed in words. */
 #include <stdio.h>
 #include <stdlib.h>
 
 #include "furnacejade.h"
 
-enum { LANES = 5, LONGEST = 5 /* bytes of a record of version 1 */ };
+enum { LANES = 5, BELT_SPEED = 1 /* its register */, LONGEST = 8 /* bytes of a record of version 1 */ };
 
 static furnacejade_fresh_answer start;
 static furnacejade_table *const table = &start.table;
@@ -32,7 +32,7 @@ static furnacejade_sums shown(size_t lane) {
 /* What was added, and what was withdrawn. */
 static void print_sums(furnacejade_sums sums, const char *end) { printf("%u %u%s", sums.added, sums.withdrawn, end); }
 
-/* An accepted report or sync is the table's last message; its number is its place in its sender's log. */
+/* An accepted report, sync or write is the table's last message; its number is its place in its sender's log. */
 static void print_sent(void) {
     if (answer.number != FURNACEJADE_ACCEPTED) {
         print_refusal();
@@ -54,6 +54,21 @@ static void sync(uint8_t lane) {
     printf("lane %d syncs: ", lane);
     play(record, furnacejade_put_sync(record, sizeof record, lane));
     print_sent();
+}
+
+static void set_belt_speed(uint8_t lane, uint32_t value) {
+    uint8_t record[LONGEST];
+    printf("lane %d sets the belt speed to %u: ", lane, value);
+    play(record, furnacejade_put_write(record, sizeof record, lane, BELT_SPEED, value));
+    print_sent();
+}
+
+static void print_belt_speed(size_t lane) {
+    furnacejade_look_answer look;
+    furnacejade_look(table, lane, &look);
+    const furnacejade_register *speed = &look.panel.registers[BELT_SPEED - 1];
+    if (speed->stamp.date == 0) printf("panel %zu shows no belt speed yet\n", lane);
+    else printf("panel %zu shows the belt speed %u, set by lane %d\n", lane, speed->value, speed->stamp.writer);
 }
 
 static void local_read(uint8_t lane) {
@@ -125,8 +140,13 @@ int main(void) {
     local_read(5);  /* 10: its panel can still be looked at */
     report(2, 400);
     hand_over_all();
+    set_belt_speed(3, 1500); /* 20: a sync first */
     sync(3);
     hand_over_all();
+    set_belt_speed(3, 1500);
+    print_belt_speed(1);
+    hand_over_all();
+    print_belt_speed(1);
     stop(1, table->controllers[0].length);
     stop(2, table->controllers[1].length);
     report(3, 6); /* sent, but two of five are no majority */

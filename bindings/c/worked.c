@@ -1,6 +1,7 @@
 /* Plays a run file, read from standard input, event by event: the set applied, or what a local read gives, and then a look at
- * every panel; of a file of version 2 it prints in the end what each panel shows of each class. bindings/worked.run,
- * bindings/classes.run and bindings/underway.run are the runs of docs/RULES.md, sections 19, 25 and 26. */
+ * every panel. In the end it prints what each panel shows of each class, if the file is of version 2, and of the registers that
+ * were written. bindings/worked.run, bindings/classes.run, bindings/underway.run and bindings/settings.run are the runs of
+ * docs/RULES.md, sections 19, 25, 26 and 28. */
 #include <stdio.h>
 #include <stdlib.h>
 
@@ -31,6 +32,15 @@ static void print_classes(const furnacejade_table *table) {
     }
 }
 
+static void print_registers(const furnacejade_table *table) {
+    for (size_t c = 1; c <= table->n; c++)
+        for (size_t r = 1; r <= FURNACEJADE_REGISTERS; r++) {
+            furnacejade_register shows = shown(table, c).registers[r - 1];
+            if (shows.stamp.date == 0) continue;
+            printf("panel %zu: register %zu is %u, stamp %d, %d\n", c, r, shows.value, shows.stamp.date, shows.stamp.writer);
+        }
+}
+
 int main(void) {
     static uint8_t run[65535], scratch[FURNACEJADE_SCRATCH];
     size_t length = fread(run, 1, sizeof run, stdin);
@@ -59,5 +69,6 @@ int main(void) {
         printf("\n");
     }
     if (table->version == 2) print_classes(table);
+    print_registers(table);
     return EXIT_SUCCESS;
 }

@@ -5,7 +5,7 @@ use crate::edges::{by_log, dense_run, in_a_circle, under_way_run};
 use crate::engine::{Engine, Library, Reference};
 use crate::file_cases::legal_file;
 use crate::random::Random;
-use crate::records::{classed_report, file_of, handover, local_read, report, stop, sync};
+use crate::records::{classed_report, file_of, handover, local_read, report, stop, sync, write};
 use crate::reference::{run_file, State, LISTING, MAX_MESSAGES, SCRATCH};
 use crate::runs::{drain, follow, legal_run, Policy};
 use crate::stack::needed;
@@ -49,7 +49,7 @@ fn pending_table(n: usize, held: usize, chain: bool) -> Table {
     for slot in 0..=held {
         let (sender, number) = if slot == held { (2, held + 1) } else { (1 + slot % n, slot / n + 1) };
         let payload = Payload { kind: 1, added: 1, ..Payload::BLANK };
-        t.messages[slot] = Message { sender: sender as u8, number: MessageNumber(number as u8), payload };
+        t.messages[slot] = Message { sender: sender as u8, number: MessageNumber(number as u8), date: 0, payload };
     }
     for c in &mut t.controllers[..n] {
         c.length = held + 1;
@@ -186,7 +186,7 @@ fn rows_under_way() {
     }
     row("n = 7: 64 of one sender under way, 3,200 events, each", |e| runs(e, std::slice::from_ref(&of_one)));
     row("n = 7: 64 of seven under way, 3,200 events, each", |e| runs(e, std::slice::from_ref(&of_seven)));
-    let files = random_files(1, Policy::random);
+    let files = random_files(1, Policy::under_way);
     row("a hundred random files with reports under way, each", |e| runs(e, &files));
 }
 
@@ -223,6 +223,46 @@ fn rows_with_classes() {
     row("version 2: a hundred random files, for each event", |e| runs(e, &files));
 }
 
+/// The state of seven controllers after so many messages of controller 1, syncs and writes of each register in turn, each
+/// applied everywhere; and the records.
+fn with_writes(messages: usize) -> (State, Vec<Vec<u8>>) {
+    let (mut state, mut random, mut records) = (State::fresh(1, 7), Random(4), vec![]);
+    for i in 0..messages {
+        let record = if i % 2 == 0 { sync(1) } else { write(1, 1 + i / 2 % 8, 1500) };
+        assert_eq!(follow(&mut state, &record, SCRATCH), 0);
+        records.push(record);
+        records.extend(drain(&mut random, &mut state));
+    }
+    (state, records)
+}
+
+/// The handover to controller 1 by which it applies its 32nd write, the 64th message, and the table before it.
+fn applying_write() -> (Table, Vec<u8>) {
+    let (mut state, _) = with_writes(MAX_MESSAGES - 1);
+    let records = [handover(2, 1), handover(3, 1), handover(4, 1), handover(1, 2), handover(1, 3)];
+    for record in [vec![write(1, 8, 1500)], records.to_vec()].concat() {
+        follow(&mut state, &record, SCRATCH);
+    }
+    let table = to_table(&state);
+    let (answer, _) = state.event(&handover(1, 4), &mut [0; SCRATCH]);
+    assert_eq!(answer.set.len(), 1, "the handover applies the write");
+    (table, handover(1, 4))
+}
+
+fn rows_with_registers() {
+    let fresh = to_table(&State::fresh(1, 7));
+    let [synced, last, full] = [1, MAX_MESSAGES - 1, MAX_MESSAGES].map(|messages| to_table(&with_writes(messages).0));
+    let (applying, handover) = applying_write();
+    let file = file_of(1, 7, &with_writes(MAX_MESSAGES).1);
+    row("n = 7: write behind the first sync", |e| event(e, &synced, &write(1, 1, 1500)));
+    row("n = 7: write as the 64th message", |e| event(e, &last, &write(1, 1, 1500)));
+    row("n = 7: write refused by question 19", |e| event(e, &last, &write(1, 9, 1500)));
+    row("n = 7: write refused by question 20, nothing sent", |e| event(e, &fresh, &write(1, 1, 1500)));
+    row("n = 7: handover that applies a write, 64 messages", |e| event(e, &applying, &handover));
+    row("n = 7: look at eight registers, 32 writes", |e| mean(|| timed(|| e.look(&full, 1))));
+    row("n = 7: 32 syncs and 32 writes, 3,200 events, each", |e| runs(e, std::slice::from_ref(&file)));
+}
+
 fn times() {
     println!(
         "nanoseconds for each call, the least of {ROUNDS} means of {CALLS}; scratch is dirty before each single call,
@@ -246,6 +286,7 @@ and a file run gets scratch and listing as the run before left them"
     row("n = 7: file of 21,844 local reads, for each", |e| runs(e, std::slice::from_ref(&reads)));
     rows_with_classes();
     rows_under_way();
+    rows_with_registers();
 }
 
 // ---------- stack ----------
@@ -285,12 +326,16 @@ fn stacks() {
     tables.extend([2, 63].into_iter().flat_map(|held| [false, true].map(|chain| pending_table(7, held, chain))));
     let under_way = [under_way_run(1, 7, 1, by_log), under_way_run(1, 7, 7, in_a_circle)];
     tables.extend([of_sixty_four(&under_way[0], 1).0, of_sixty_four(&under_way[1], MAX_MESSAGES).0]);
+    tables.extend([1, MAX_MESSAGES - 1, MAX_MESSAGES].map(|messages| to_table(&with_writes(messages).0)));
+    tables.push(applying_write().0);
     let mut records = vec![vec![], report(1, 5), report(1, 0), classed_report(1, 5, 4), classed_report(1, 5, 5)];
     records.extend([sync(1), handover(1, 2), handover(2, 1), stop(1, 64), stop(9, 0), local_read(1), local_read(9)]);
+    records.extend([handover(1, 4), write(1, 1, 1500), write(1, 9, 1500), write(9, 1, 1500)]);
     let events = tables.iter().flat_map(|t| records.iter().map(|record| event_stack(t, record))).max();
     let looks = tables.iter().map(look_stack).max();
     let mut files = vec![dense, running, dense_2, running_2, run_table(3).1, vec![1], vec![3, 3], vec![1, 9]];
-    files.extend(under_way.into_iter().chain([file_of_reads(7), file_of_reads(1)]));
+    let written = file_of(1, 7, &with_writes(MAX_MESSAGES).1);
+    files.extend(under_way.into_iter().chain([file_of_reads(7), file_of_reads(1), written]));
     let runs = files.iter().map(|file| run_stack(file)).max();
     println!("\nbytes of stack that a call of the library needs, the most of what was tried");
     for (name, most) in [("event", events), ("look", looks), ("fresh", Some(fresh_stack())), ("run", runs)] {

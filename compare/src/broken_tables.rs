@@ -2,7 +2,7 @@
 
 use crate::case::{Case, Head};
 use crate::random::Random;
-use crate::table_cases::{any_count, blind_calls, fair_class, good_table, set_highest};
+use crate::table_cases::{any_count, blind_calls, fair_class, good_table, may_be_write, set_highest};
 use furnacejade::{Class, Controller, ForwardNumber, Message, Payload, Pending, Table};
 
 /// A table that is to be broken, and where: at a controller, at a slot, at a message that is pending there, or at one
@@ -44,7 +44,59 @@ impl<'a> Break<'a> {
     fn payload(&mut self, kind: u8, added: &[u16], withdrawn: &[u16]) {
         let (added, withdrawn) = (self.random.pick(added), self.random.pick(withdrawn));
         let class = if kind == Payload::REPORT { fair_class(self.random, self.t.version) } else { Class::NONE };
-        self.message().payload = Payload { kind, class, added, withdrawn };
+        let payload = Payload { kind, class, added, withdrawn, ..Payload::BLANK };
+        *self.message() = Message { date: 0, payload, ..*self.message() };
+    }
+
+    /// Some slot of the messages that are so, if there is one.
+    fn slot_with(&mut self, so: impl Fn(&Table, usize) -> bool) -> Option<usize> {
+        let slots: Vec<usize> = (0..self.t.count).filter(|slot| so(self.t, *slot)).collect();
+        (!slots.is_empty()).then(|| self.random.pick(&slots))
+    }
+
+    /// A message of the kind given, if there is one.
+    fn of_kind(&mut self, kind: u8) -> Option<&mut Message> {
+        let slot = self.slot_with(|t, slot| t.messages[slot].payload.kind == kind)?;
+        Some(&mut self.t.messages[slot])
+    }
+
+    /// A message of the kind given, if there is one, gets a number that no message of its kind has there.
+    fn wrong(&mut self, kind: u8, wrong: &[u32], set: fn(&mut Message, u32)) {
+        let number = self.random.pick(wrong);
+        if let Some(m) = self.of_kind(kind) {
+            set(m, number);
+        }
+    }
+
+    /// A message that is no write, if there is one, gets something that only a write has.
+    fn as_of_write(&mut self, numbers: &[u32], set: fn(&mut Message, u32)) {
+        let kind = self.random.pick(&[Payload::REPORT, Payload::SYNC]);
+        self.wrong(kind, numbers, set);
+    }
+
+    /// Another message of a write's sender becomes a write with its stamp.
+    fn stamp_twice(&mut self) {
+        let Some(one) = self.slot_with(|t, slot| t.messages[slot].payload.kind == Payload::WRITE) else { return };
+        let Message { sender, date, payload, .. } = self.t.messages[one];
+        let may =
+            |t: &Table, slot: usize| slot != one && t.messages[slot].sender == sender && may_be_write(t, sender, slot);
+        if let Some(other) = self.slot_with(may) {
+            self.t.messages[other] = Message { date, payload, ..self.t.messages[other] };
+        }
+    }
+
+    /// A message that its running sender does not know becomes a write, with a stamp that no other has.
+    fn write_unknown(&mut self) {
+        let unknown = |t: &Table, slot: usize| !may_be_write(t, t.messages[slot].sender, slot);
+        if let Some(slot) = self.slot_with(unknown) {
+            let payload = Payload { kind: Payload::WRITE, reg: 8, value: 5, ..Payload::BLANK };
+            let sender = self.t.messages[slot].sender;
+            let taken = |t: &Table, date: u16| {
+                t.messages[..t.count].iter().any(|m| (m.sender, m.payload.reg, m.date) == (sender, 8, date))
+            };
+            let free = (1..=self.t.count as u16).find(|date| !taken(self.t, *date));
+            self.t.messages[slot] = Message { date: free.unwrap_or(1), payload, ..self.t.messages[slot] };
+        }
     }
 
     /// A message of the kind given, if there is one, gets a class that no message of its kind and version has.
@@ -54,9 +106,8 @@ impl<'a> Break<'a> {
             _ => &[1, 2, 3, 4, 5, 255],
         };
         let class = Class(self.random.pick(wrong));
-        let of_kind: Vec<usize> = (0..self.t.count).filter(|s| self.t.messages[*s].payload.kind == kind).collect();
-        if !of_kind.is_empty() {
-            self.t.messages[self.random.pick(&of_kind)].payload.class = class;
+        if let Some(m) = self.of_kind(kind) {
+            m.payload.class = class;
         }
     }
 
@@ -84,7 +135,7 @@ impl<'a> Break<'a> {
     fn name(&mut self) {
         if self.t.count > 1 {
             let other = self.t.messages[(self.slot + 1) % self.t.count];
-            *self.message() = Message { payload: self.message().payload, ..other };
+            *self.message() = Message { sender: other.sender, number: other.number, ..*self.message() };
         }
     }
 
@@ -183,6 +234,26 @@ impl<'a> Break<'a> {
     }
 }
 
+fn set_added(m: &mut Message, number: u32) {
+    m.payload.added = number as u16;
+}
+
+fn set_withdrawn(m: &mut Message, number: u32) {
+    m.payload.withdrawn = number as u16;
+}
+
+fn set_register(m: &mut Message, number: u32) {
+    m.payload.reg = number as u16;
+}
+
+fn set_value(m: &mut Message, number: u32) {
+    m.payload.value = number;
+}
+
+fn set_date(m: &mut Message, number: u32) {
+    m.date = number as u16;
+}
+
 /// A way to break a table, and whether the highest numbers are made to agree with what was applied afterwards.
 type Way = (fn(&mut Break), bool);
 
@@ -205,13 +276,28 @@ const WAYS: &[Way] = &[
     (|b| b.message().sender = b.t.n as u8 + 1, true),
     (|b| b.message().number.0 = 0, true),
     (|b| b.number(&[65, 66, 255]), true),
-    (|b| b.message().payload.kind = b.random.pick(&[0, 3, 255]), false),
+    (|b| b.message().payload.kind = b.random.pick(&[0, 3, 5, 7, 255]), false),
     (|b| b.payload(1, &[0], &[0]), false),
     (|b| b.payload(1, &[361, 616, 65_535], &[0]), false),
     (|b| b.payload(1, &[0], &[361, 616, 65_535]), false),
     (|b| b.payload(1, &[1, 360], &[1, 360]), false),
     (|b| b.payload(2, &[0, 1], &[1]), false),
     (|b| b.payload(2, &[1], &[0]), false),
+    (|b| b.wrong(Payload::WRITE, &[1, 360], set_added), false),
+    (|b| b.wrong(Payload::WRITE, &[1, 360], set_withdrawn), false),
+    (|b| b.class(Payload::WRITE), false),
+    (|b| b.wrong(Payload::WRITE, &[0], set_register), false),
+    (|b| b.wrong(Payload::WRITE, &[9, 255, 257, 65_535], set_register), false),
+    (|b| b.wrong(Payload::WRITE, &[0], set_date), false),
+    (|b| b.wrong(Payload::WRITE, &[b.t.count as u32 + 1], set_date), false),
+    (|b| b.wrong(Payload::WRITE, &[65, 257, 65_535], set_date), false),
+    (|b| b.as_of_write(&[1, 8, 256], set_register), false),
+    (|b| b.as_of_write(&[1, 256, 65_536, u32::MAX], set_value), false),
+    (|b| b.as_of_write(&[1, 64, 256], set_date), false),
+    (|b| b.stamp_twice(), false),
+    (|b| b.stamp_twice(), false),
+    (|b| b.write_unknown(), false),
+    (|b| b.write_unknown(), false),
     (|b| b.entry(&(b.t.count..64).collect::<Vec<_>>()), false),
     (|b| b.entry(&[64, 65, 128, 255]), false),
     (|b| b.entry_twice(), false),

@@ -30,7 +30,7 @@ pub struct Case {
 /// How many bytes are repeated eight times or more where these bytes begin, no more than a record has, and how often.
 fn repeated(bytes: &[u8]) -> Option<(usize, usize)> {
     let times = |size: usize| bytes.chunks_exact(size).take_while(|part| *part == &bytes[..size]).count();
-    (1..=6).map(|size| (size, times(size))).find(|(_, times)| *times >= 8)
+    (1..=8).map(|size| (size, times(size))).find(|(_, times)| *times >= 8)
 }
 
 pub fn hexadecimal(bytes: &[u8]) -> String {

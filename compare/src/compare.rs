@@ -6,7 +6,7 @@ use crate::engine::{Engine, DIRTY_SUMS};
 use crate::records::local_read;
 use crate::reference::SCRATCH;
 use crate::tables::{meaning, well_formed, LOCAL_READ};
-use furnacejade::{Answer, LookAnswer, MessageNumber, Name, Refusal, RunAnswer, Sums, Table};
+use furnacejade::{Answer, LookAnswer, MessageNumber, Name, Refusal, Register, RunAnswer, Sums, Table};
 
 const GUARD: usize = 64;
 
@@ -102,6 +102,10 @@ fn sums(sums: Sums) -> demand3::Sums {
     (sums.added as usize, sums.withdrawn as usize)
 }
 
+fn register(Register { value, stamp }: Register) -> demand3::Register {
+    ((stamp.date as usize, stamp.writer as usize), value)
+}
+
 /// One event on both sides.
 fn event(a: &mut Side, b: &mut Side, bytes: &[u8], scratch: usize) -> Result<(), String> {
     let before = b.table.clone();
@@ -129,6 +133,8 @@ fn look(a: &Side, b: &Side, c: usize) -> Result<(), String> {
     differ("look: number", right.number, found.number)?;
     differ("look: sums", right.panel.sums, found.panel.sums)?;
     differ("look: classes", &right.panel.classes, &found.panel.classes)?;
+    let shown = |answer: &LookAnswer| answer.panel.registers.map(register);
+    differ("look: registers", shown(&right), shown(&found))?;
     differ_plain("look: answer", right == found)?;
     differ_plain("look: table", before == b.table)
 }
@@ -194,7 +200,8 @@ pub fn demand3(case: &Case, engine: &dyn Engine) -> Result<(), String> {
     let mut side = Side { engine, table };
     let look = |ledger: &mut Ledger, t: &Table, c: usize| {
         let LookAnswer { number, panel } = engine.look(t, c);
-        ledger.look(c, number.number(), sums(panel.sums), panel.classes.map(sums));
+        let (classes, registers) = (panel.classes.map(sums), panel.registers.map(register));
+        ledger.look(c, number.number(), sums(panel.sums), classes, registers);
     };
     for step in 0..=case.calls.len() {
         for c in ledger.ended() {

@@ -15,11 +15,33 @@ pub struct Figures {
     pub sums: Sums,
 }
 
-/// The amount of a message, 0 if it is no report, and its class, 0 if it has none; and whether it is a sync.
+/// A stamp: the date, then the writer; 0, 0 where nothing was written.
+pub type Stamp = (usize, usize);
+
+/// What a panel shows of a register: the stamp, and the value.
+pub type Register = (Stamp, u32);
+
+/// A register's place among the registers 1 to 8, and what a write gives it.
+#[derive(Clone, Copy)]
+struct Written {
+    place: usize,
+    gives: Register,
+}
+
+/// What a message says: the amount, 0 if it is no report, and its class, 0 if it has none; whether it is a sync; and what
+/// a write writes.
+#[derive(Default)]
 struct Content {
     amount: i64,
     class: usize,
     sync: bool,
+    write: Option<Written>,
+}
+
+/// Whether no stamp of the one is later than the other's, or the other way round; and equal stamps have equal values.
+fn ordered(one: &[Register; 8], other: &[Register; 8]) -> bool {
+    let all = |holds: fn(&Register, &Register) -> bool| one.iter().zip(other).all(|(a, b)| holds(a, b));
+    all(|a, b| a.0 != b.0 || a.1 == b.1) && (all(|a, b| a.0 <= b.0) || all(|a, b| a.0 >= b.0))
 }
 
 /// A line of a listing behind its event's number.
@@ -52,6 +74,8 @@ pub struct Ledger {
     applied: Vec<BTreeSet<Name>>,
     /// What any controller had applied at any moment, each once.
     moments: BTreeSet<Vec<Name>>,
+    /// The eight registers that any controller held at any moment, each once.
+    snapshots: BTreeSet<[Register; 8]>,
     broken: Option<String>,
 }
 
@@ -67,6 +91,7 @@ impl Ledger {
             cut_off: BTreeSet::new(),
             applied: vec![BTreeSet::new(); n],
             moments: BTreeSet::from([vec![]]),
+            snapshots: BTreeSet::from([[((0, 0), 0); 8]]),
             broken: None,
         }
     }
@@ -89,7 +114,7 @@ impl Ledger {
             return;
         }
         let report = if self.version == 2 { 5 } else { 4 };
-        let length = bytes.get(1).and_then(|kind| [0, report, 2, 3, 4, 2].get(*kind as usize).copied());
+        let length = bytes.get(1).and_then(|kind| [0, report, 2, 3, 4, 2, 7].get(*kind as usize).copied());
         if length != bytes.first().copied() || bytes.len() <= bytes[0] as usize || bytes[0] == 0 {
             return self.expect(false, || "accepted bytes hold no record".into());
         }
@@ -101,12 +126,13 @@ impl Ledger {
             1 => {
                 let amount = i16::from_be_bytes([bytes[3], bytes[4]]) as i64;
                 let class = if self.version == 2 { bytes[5] as usize } else { 0 };
-                self.send(c, Content { amount, class, sync: false });
+                self.send(c, Content { amount, class, ..Content::default() });
             }
-            2 => self.send(c, Content { amount: 0, class: 0, sync: true }),
+            2 => self.send(c, Content { sync: true, ..Content::default() }),
             3 => self.handover(c, bytes[3] as usize, set, figures),
             4 => self.stop(c, u16::from_be_bytes([bytes[3], bytes[4]]) as usize),
             5 => self.local_read(c, figures.map(|figures| figures.sums)),
+            6 => self.write(c, bytes[3] as usize, u32::from_be_bytes([bytes[4], bytes[5], bytes[6], bytes[7]])),
             _ => return self.expect(false, || "accepted bytes have no kind".into()),
         }
         self.expect(bytes[1] == 3 || set.is_empty(), || "a set without a handover".into());
@@ -119,6 +145,40 @@ impl Ledger {
         let new = self.sent.insert(name, content).is_none();
         self.expect(new, || format!("{name:?} is sent twice"));
         (1..=self.n).for_each(|r| self.in_order(r));
+    }
+
+    /// A write of c: its date is one more than the greatest of its register among the writes that c has applied. No
+    /// other write of that register has its stamp.
+    fn write(&mut self, c: usize, register: usize, value: u32) {
+        if !(1..=8).contains(&register) {
+            return self.expect(false, || format!("an accepted write of register {register}"));
+        }
+        let place = register - 1;
+        let stamp = (self.registers(c)[place].0 .0 + 1, c);
+        let twice = self.sent.values().filter_map(|x| x.write).any(|x| (x.place, x.gives.0) == (place, stamp));
+        self.expect(!twice, || format!("two writes of register {register} have the stamp {stamp:?}"));
+        self.send(c, Content { write: Some(Written { place, gives: (stamp, value) }), ..Content::default() });
+    }
+
+    /// The eight registers of c: each has the greatest stamp among the writes that c has applied.
+    fn registers(&self, c: usize) -> [Register; 8] {
+        let applied = self.applied[c - 1].iter().filter_map(|name| self.sent.get(name)?.write);
+        let mut registers = [((0, 0), 0); 8];
+        for Written { place, gives } in applied {
+            registers[place] = gives.max(registers[place]);
+        }
+        registers
+    }
+
+    /// The registers of r now and those of any controller at any moment are in order.
+    fn snapshot(&mut self, r: usize) {
+        let now = self.registers(r);
+        let other = self.snapshots.iter().find(|then| !ordered(&now, then));
+        if let Some(then) = other {
+            let text = format!("{r} holds {now:?}, another at some moment {then:?}");
+            self.expect(false, || text);
+        }
+        self.snapshots.insert(now);
     }
 
     fn handover(&mut self, r: usize, o: usize, set: &[Name], figures: Option<Figures>) {
@@ -139,6 +199,7 @@ impl Ledger {
         if !set.is_empty() {
             self.contained(r);
             self.in_order(r);
+            self.snapshot(r);
         }
         if let Some(figures) = figures {
             self.finishing(r, set, figures);
@@ -242,7 +303,7 @@ impl Ledger {
     }
 
     /// A panel look with its answer. Where the ending speaks, the sums over what was applied are the ending's sums.
-    pub fn look(&mut self, c: usize, number: u8, sums: Sums, classes: [Sums; 5]) {
+    pub fn look(&mut self, c: usize, number: u8, sums: Sums, classes: [Sums; 5], registers: [Register; 8]) {
         if number != 0 {
             return self.expect(!self.ended().contains(&c), || format!("the ending: a look at {c} is refused"));
         }
@@ -254,6 +315,8 @@ impl Ledger {
             let right = self.sums(c, |x| x.class == class);
             self.expect(shown == right, || format!("{c} shows {shown:?} of class {class}, not {right:?}"));
         }
+        let right = self.registers(c);
+        self.expect(registers == right, || format!("{c} shows the registers {registers:?}, not {right:?}"));
         let all = classes.iter().fold((0, 0), |all, x| (all.0 + x.0, all.1 + x.1));
         self.expect(all == sums, || format!("the classes at {c} do not add up to its sums"));
     }

@@ -6,6 +6,7 @@ use crate::records::{classed_report, file_of, handover, local_read, report, repo
 use crate::reference::{State, LISTING, MAX_MESSAGES, SCRATCH};
 use crate::runs::follow;
 use crate::tables::meaning;
+use crate::write_edges::{self, WITH_SET_POINT};
 use furnacejade::{Answer, Class, Controller, ForwardNumber, Panel, Payload, Sums, Table};
 
 const WHOLE_RUN: &str =
@@ -23,7 +24,7 @@ const UNDER_WAY: &str =
 const UNDER_WAY_LISTING: &str = "4 2 30 0 1.1\n7 1 30 0 1.1\n8 1 50 0 1.2\n12 3 30 0 1.1\n13 3 50 0 1.2\n";
 
 /// What the program prints for each file.
-pub const PRINTED: [(&str, &str); 12] = [
+pub const PRINTED: [(&str, &str); 17] = [
     (WHOLE_RUN, "controllers 3\n4 1 30 0 1.1\n7 2 30 0 1.1\n8 2 30 2 3.1\n11 3 30 2 1.1 3.1\nend 11 0\n"),
     ("01", "end 0 1\n"),
     ("0103", "controllers 3\nend 0 0\n"),
@@ -34,8 +35,13 @@ pub const PRINTED: [(&str, &str); 12] = [
     ("0203050101000100", "controllers 3\nend 0 17\n"),
     (UNDER_WAY, "controllers 3\n4 2 30 0 1.1\n7 1 30 0 1.1\n8 1 50 0 1.2\n12 3 30 0 1.1\n13 3 50 0 1.2\nend 13 0\n"),
     ("0103020503020501", "controllers 3\nend 2 0\n"),
-    ("0203020503020601", "controllers 3\nend 1 6\n"),
+    ("0203020503020701", "controllers 3\nend 1 6\n"),
     ("0102020201020501", "controllers 2\nend 1 18\n"),
+    (WITH_SET_POINT, "controllers 3\n3 2 0 0 2.1\n6 1 0 0 2.1\n7 1 0 0 2.2\n8 2 0 0 2.2\nend 8 0\n"),
+    ("01010706010100000005", "controllers 1\nend 0 20\n"),
+    ("02010706010900000005", "controllers 1\nend 0 19\n"),
+    ("010102020107060101000005DC", "controllers 1\nend 1 11\n"),
+    ("0101020601", "controllers 1\nend 0 7\n"),
 ];
 
 pub fn bytes_of(hexadecimal: &str) -> Vec<u8> {
@@ -44,30 +50,37 @@ pub fn bytes_of(hexadecimal: &str) -> Vec<u8> {
 }
 
 /// An engine with a table, for short scripts.
-struct Script<'a> {
-    engine: &'a dyn Engine,
-    table: Table,
+pub struct Script<'a> {
+    pub engine: &'a dyn Engine,
+    pub table: Table,
 }
 
 impl Script<'_> {
-    fn fresh(engine: &dyn Engine, version: usize, n: usize) -> Script<'_> {
+    pub fn fresh(engine: &dyn Engine, version: usize, n: usize) -> Script<'_> {
         Script { engine, table: engine.fresh(version, n).table }
     }
 
-    fn answer(&mut self, bytes: &[u8], scratch: usize) -> Answer {
+    pub fn answer(&mut self, bytes: &[u8], scratch: usize) -> Answer {
         let mut answer = Answer::BLANK;
         self.engine.event(&mut self.table, bytes, &mut vec![1; scratch], &mut answer);
         answer
     }
 
     /// The number, and the names of the set.
-    fn event(&mut self, bytes: Vec<u8>) -> (u8, Vec<(u8, u8)>) {
+    pub fn event(&mut self, bytes: Vec<u8>) -> (u8, Vec<(u8, u8)>) {
         let answer = self.answer(&bytes, SCRATCH);
         (answer.number.number(), answer.applied().iter().map(|x| (x.sender, x.number.0)).collect())
     }
 
-    fn number(&mut self, bytes: Vec<u8>) -> u8 {
+    pub fn number(&mut self, bytes: Vec<u8>) -> u8 {
         self.event(bytes).0
+    }
+
+    /// Every handover that is accepted, until none is.
+    pub fn hand_over_all(&mut self) {
+        let n = self.table.n;
+        let mut pair = |r: usize| (1..=n).filter(|o| self.number(handover(r, *o)) == 0).count();
+        while (1..=n).map(&mut pair).sum::<usize>() > 0 {}
     }
 }
 
@@ -80,7 +93,7 @@ fn sums((added, withdrawn): Both) -> Sums {
 
 /// A panel by its sums and those of each class.
 fn panel(whole: Both, classes: [Both; 5]) -> Panel {
-    Panel { sums: sums(whole), classes: classes.map(sums) }
+    Panel { sums: sums(whole), classes: classes.map(sums), ..Panel::BLANK }
 }
 
 /// A panel that shows something of one class alone.
@@ -88,7 +101,7 @@ fn panel_of(class: usize, whole: Both) -> Panel {
     panel(whole, std::array::from_fn(|k| if k == class { whole } else { (0, 0) }))
 }
 
-fn expect(holds: bool, edge: &str) -> Result<(), String> {
+pub fn expect(holds: bool, edge: &str) -> Result<(), String> {
     if holds {
         Ok(())
     } else {
@@ -448,7 +461,7 @@ fn local_reads(engine: &dyn Engine) -> Result<(), String> {
             let (before, answer) = (s.table.clone(), s.answer(&local_read(c), SCRATCH));
             answer == Answer { sums: sums(both), ..Answer::BLANK } && before == s.table
         };
-        for (record, number) in [([2, 6, 1], 6), ([1, 5, 1], 7), ([0, 5, 1], 6), ([3, 5, 1], 5), ([2, 5, 0], 8)] {
+        for (record, number) in [([2, 7, 1], 6), ([1, 5, 1], 7), ([0, 5, 1], 6), ([3, 5, 1], 5), ([2, 5, 0], 8)] {
             expect(s.number(record.to_vec()) == number, "a local read that 5 to 8 refuse")?;
         }
         expect(s.number(vec![3, 5, 1, 0]) == 7 && s.number(local_read(3)) == 8, "a local read that 7 and 8 refuse")?;
@@ -583,6 +596,7 @@ pub fn check(engine: &dyn Engine) -> Result<(), String> {
     stored_classes(engine)?;
     reports_under_way(engine)?;
     local_reads(engine)?;
+    write_edges::check(engine)?;
     sixty_four_under_way(engine)?;
     many_local_reads(engine)?;
     lengths_kept(engine)?;

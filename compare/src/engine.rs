@@ -3,7 +3,8 @@
 
 use crate::stack::on_painted;
 use crate::{faults, tables};
-use furnacejade::{calls, Answer, FreshAnswer, LookAnswer, Panel, Refusal, RunAnswer, Sums, Table, CLASSES};
+use furnacejade::{calls, Answer, FreshAnswer, LookAnswer, Panel, Refusal, Register, RunAnswer, Stamp, Sums, Table};
+use furnacejade::{CLASSES, REGISTERS};
 use std::mem::size_of;
 
 pub trait Engine {
@@ -56,6 +57,9 @@ impl Engine for Faulty {
 /// Sums that no table gives.
 pub const DIRTY_SUMS: Sums = Sums { added: 0xA5A5_A5A5, withdrawn: 0xA5A5_A5A5 };
 
+/// A register that no panel shows.
+const DIRTY_REGISTER: Register = Register { value: 0xA5A5_A5A5, stamp: Stamp { date: 0xA5A5, writer: 0xA5A5 } };
+
 /// A table in which every byte is dirt.
 fn dirty_table() -> Table {
     Table::from_bytes(&[0xA5; size_of::<Table>()])
@@ -102,7 +106,8 @@ impl Engine for Library {
         }
     }
     fn look(&self, t: &Table, c: usize) -> LookAnswer {
-        let panel = Panel { sums: DIRTY_SUMS, classes: [DIRTY_SUMS; CLASSES] };
+        let registers = [DIRTY_REGISTER; REGISTERS];
+        let panel = Panel { sums: DIRTY_SUMS, classes: [DIRTY_SUMS; CLASSES], registers };
         let mut answer = LookAnswer { number: Refusal::from(0xA5), panel };
         calls::look(t, c, &mut answer);
         if self.twice {

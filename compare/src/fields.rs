@@ -8,6 +8,7 @@ use furnacejade::{Controller, Message, Payload, Pending, Table};
 enum Place<'a> {
     Byte(&'a mut u8),
     Short(&'a mut u16),
+    Word(&'a mut u32),
     Long(&'a mut usize),
 }
 
@@ -16,6 +17,7 @@ impl Place<'_> {
         match self {
             Place::Byte(x) => **x as usize,
             Place::Short(x) => **x as usize,
+            Place::Word(x) => **x as usize,
             Place::Long(x) => **x,
         }
     }
@@ -24,6 +26,7 @@ impl Place<'_> {
         match self {
             Place::Byte(x) => **x = value.try_into().expect("a number below 256"),
             Place::Short(x) => **x = value.try_into().expect("a number below 65,536"),
+            Place::Word(x) => **x = value.try_into().expect("a number below 4,294,967,296"),
             Place::Long(x) => **x = value,
         }
     }
@@ -39,13 +42,17 @@ fn visit(t: &mut Table, mut see: impl FnMut(Field, Place)) {
     see((0, "version"), Place::Long(version));
     see((0, "n"), Place::Long(n));
     see((0, "count"), Place::Long(count));
-    for Message { sender, number, payload: Payload { kind, class, added, withdrawn } } in messages {
+    for Message { sender, number, date, payload } in messages {
+        let Payload { kind, class, added, withdrawn, reg, value } = payload;
         see((0, "messages.sender"), Place::Byte(sender));
         see((0, "messages.number"), Place::Byte(&mut number.0));
+        see((0, "messages.date"), Place::Short(date));
         see((0, "messages.kind"), Place::Byte(kind));
         see((0, "messages.class"), Place::Byte(&mut class.0));
         see((0, "messages.added"), Place::Short(added));
         see((0, "messages.withdrawn"), Place::Short(withdrawn));
+        see((0, "messages.reg"), Place::Short(reg));
+        see((0, "messages.value"), Place::Word(value));
     }
     for (c, controller) in (1..).zip(controllers) {
         let Controller { length, log, read, pending, applied, highest, running } = controller;

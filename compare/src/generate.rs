@@ -3,14 +3,14 @@
 use crate::broken_tables::table_broken;
 use crate::case::Case;
 use crate::file_cases::{file_limits, file_long, file_mangled, file_questions};
-use crate::list_cases::{boundaries, cut_off, drained, fresh_any, full, list, under_way};
+use crate::list_cases::{boundaries, cut_off, drained, fresh_any, full, list, rivals, set_points, under_way};
 use crate::random::Random;
 use crate::table_cases::{table_flipped, table_good, table_random};
 
 /// A kind of case: its name, and how to make one.
 pub type CaseKind = (&'static str, fn(&mut Random) -> Case);
 
-pub const KINDS: [CaseKind; 20] = [
+pub const KINDS: [CaseKind; 22] = [
     ("list", list),
     ("table", table_good),
     ("broken table", table_broken),
@@ -21,12 +21,14 @@ pub const KINDS: [CaseKind; 20] = [
     ("table", table_good),
     ("reports under way", under_way),
     ("boundaries", boundaries),
+    ("set points", set_points),
     ("broken table", table_broken),
     ("file questions", file_questions),
     ("flipped table", table_flipped),
     ("messages cut off", cut_off),
     ("fresh", fresh_any),
     ("full list", full),
+    ("rival writers", rivals),
     ("long file", file_long),
     ("list", list),
     ("table", table_good),

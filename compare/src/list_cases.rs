@@ -1,11 +1,11 @@
 //! Random lists of calls from a fresh table, some drained at the end so that demand 3's ending speaks.
 
 use crate::case::{Call, Case, Head};
-use crate::odd::{any_calls, any_number, any_version, as_calls};
+use crate::odd::{any_calls, any_number, any_version, as_calls, boundary_write};
 use crate::random::Random;
-use crate::records::{handover, local_read, report_in, stop, sync};
+use crate::records::{handover, local_read, report_in, stop, sync, write};
 use crate::reference::{State, MAX_MESSAGES, SCRATCH};
-use crate::runs::{drain, follow, highest_read, legal_run, Policy};
+use crate::runs::{any_value, drain, follow, highest_read, legal_run, with_none_pending, Policy};
 
 pub fn list(random: &mut Random) -> Case {
     let (version, n) = (any_version(random), random.between(1, 7));
@@ -47,7 +47,7 @@ pub fn full(random: &mut Random) -> Case {
         calls.extend(as_calls(legal_run(random, &mut state, &policy, 1)));
     }
     for c in 1..=n {
-        calls.extend(as_calls(vec![report_in(version, c, 5), sync(c), local_read(c)]));
+        calls.extend(as_calls(vec![report_in(version, c, 5), sync(c), write(c, 1, 5), local_read(c)]));
     }
     calls.extend(any_calls(random, &mut state, 30, 4));
     Case { head: Head::Fresh { version, n }, calls }
@@ -90,6 +90,21 @@ impl Making {
         }
     }
 
+    fn looks(&mut self) {
+        self.calls.extend((1..=self.state.n).map(Call::Look));
+    }
+
+    fn hand_over_all(&mut self, random: &mut Random) {
+        let run = drain(random, &mut self.state);
+        self.calls.extend(as_calls(run));
+    }
+
+    /// So many legal events of such a policy.
+    fn some(&mut self, random: &mut Random, policy: &Policy, events: usize) {
+        let run = legal_run(random, &mut self.state, policy, events);
+        self.calls.extend(as_calls(run));
+    }
+
     fn case(self) -> Case {
         Case { head: Head::Fresh { version: self.version, n: self.state.n }, calls: self.calls }
     }
@@ -109,12 +124,10 @@ pub fn under_way(random: &mut Random) -> Case {
     }
     let mut policy = Policy::random(random);
     (policy.send, policy.stop) = (random.pick(&[20, usize::MAX]), random.pick(&[40, usize::MAX, usize::MAX]));
-    let run = legal_run(random, &mut making.state, &policy, 40);
-    making.calls.extend(as_calls(run));
+    making.some(random, &policy, 40);
     making.reads();
     if most <= 12 {
-        let run = drain(random, &mut making.state);
-        making.calls.extend(as_calls(run));
+        making.hand_over_all(random);
         making.reads();
     }
     making.case()
@@ -140,9 +153,65 @@ pub fn cut_off(random: &mut Random) -> Case {
     let (low, high) = (highest_read(&making.state, sender), making.state.controllers[sender - 1].log.len());
     making.event(stop(sender, random.between(low, high)));
     making.reads();
-    let run = drain(random, &mut making.state);
-    making.calls.extend(as_calls(run));
+    making.hand_over_all(random);
     making.reads();
+    making.case()
+}
+
+/// Runs in which most sends are syncs and writes, with looks at all panels in between.
+pub fn set_points(random: &mut Random) -> Case {
+    let mut making = Making::fresh(any_version(random), random.pick(&[1, 1, 2, 2, 3, 3, 4, 5, 7]));
+    let mut policy = Policy::random(random);
+    (policy.send, policy.sync, policy.write) = (random.pick(&[2, 3, 5]), random.pick(&[1, 1, 2]), 1);
+    for _ in 0..random.between(1, 4) {
+        let events = random.pick(&[10, 20, 40]);
+        making.some(random, &policy, events);
+        making.looks();
+    }
+    if random.one_in(2) {
+        making.hand_over_all(random);
+        making.looks();
+    }
+    making.case()
+}
+
+/// Several writers race for one or two registers: all sync, all is handed over but for a little, and those that may
+/// write; some a second time, without a sync or with a report in between.
+pub fn rivals(random: &mut Random) -> Case {
+    let mut making = Making::fresh(any_version(random), random.pick(&[2, 2, 3, 3, 4, 5]));
+    let n = making.state.n;
+    let first = random.between(1, 8);
+    let registers = [first, first, 1 + first % 8];
+    let mut policy = Policy::random(random);
+    (policy.send, policy.read, policy.stop) = (usize::MAX, usize::MAX, random.pick(&[50, usize::MAX]));
+    for _ in 0..random.between(1, 3) {
+        for c in 1..=n {
+            making.event(sync(c));
+        }
+        if random.one_in(4) {
+            let events = random.between(n * n, 2 * n * n);
+            making.some(random, &policy, events);
+        } else {
+            making.hand_over_all(random);
+        }
+        for c in with_none_pending(&making.state) {
+            let again = random.below(6);
+            if again == 0 {
+                making.event(report_in(making.version, c, 3));
+            }
+            if again == 1 {
+                making.event(boundary_write(random, c));
+            }
+            making.event(write(c, random.pick(&registers), any_value(random)));
+            let events = random.pick(&[0, 0, 1, 4]);
+            making.some(random, &policy, events);
+        }
+        let events = random.pick(&[0, n * n, 3 * n * n]);
+        making.some(random, &policy, events);
+        making.looks();
+    }
+    making.hand_over_all(random);
+    making.looks();
     making.case()
 }
 

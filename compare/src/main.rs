@@ -37,6 +37,7 @@ mod stack;
 mod subsets;
 mod table_cases;
 mod tables;
+mod write_edges;
 
 use std::io::{Read, Write};
 

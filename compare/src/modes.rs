@@ -5,7 +5,7 @@ use crate::check::{demand3_failure, failure, kept_cases, report_and_exit, smalle
 use crate::engine::{Engine, Faulty, Library, Reference};
 use crate::reference::{self, State, LISTING, SCRATCH};
 use crate::{edges, faults, generate, minimise, subsets, tables};
-use furnacejade::{Answer, Controller, Refusal, Sums, Table};
+use furnacejade::{Answer, Controller, Message, Payload, Refusal, Stamp, Sums, Table};
 use std::io::Write;
 use std::process::{exit, Command, Stdio};
 use std::time::Duration;
@@ -109,7 +109,9 @@ pub fn faults(by: &str, folder: Option<&String>, only: Option<&String>) {
         let (kind, case) = generate::case(2021, index);
         (format!("case {index} ({kind})"), case)
     });
-    let kept = if by.is_empty() { kept_cases() } else { vec![] };
+    let mut kept = if by.is_empty() { kept_cases() } else { vec![] };
+    // Short cases are quick, and find most faults.
+    kept.sort_by_key(|(_, case)| file_bytes(case).len() + case.calls.len());
     let most = if by == "demand3" { 400 } else { 3200 };
     let cases: Vec<(String, Case)> = kept.into_iter().chain(random).take(most).collect();
     // What is found must be the fault's doing: while all sleep, the copy is the reference.
@@ -168,6 +170,18 @@ struct Counts {
     most_own: usize,
     local_reads: usize,
     both: BothSums,
+    set: SetPoints,
+}
+
+/// How many writes were accepted, and how many of them with a date that another write of the register has; how many
+/// looks show a register, several, and one that was written again.
+#[derive(Default)]
+struct SetPoints {
+    writes: usize,
+    rivals: usize,
+    looks: usize,
+    several: usize,
+    again: usize,
 }
 
 /// How often both sums were above 0.
@@ -205,6 +219,9 @@ impl Counts {
         let pending = |c: &Controller| c.pending.iter().filter(|p| p.held != 0).count();
         self.both.syncs += answer.sync_answer().map_or(0, has_both);
         if answer.number == Refusal::ACCEPTED {
+            if bytes[1] == Payload::WRITE {
+                self.write(table);
+            }
             let own = |c: usize, slot: usize| table.messages[slot].sender as usize == c + 1;
             let waits = |c: usize, slot: usize| own(c, slot) && table.controllers[c].pending[slot].held != 0;
             let own_at = |c: usize| (0..table.count).filter(|slot| waits(c, *slot)).count();
@@ -221,10 +238,23 @@ impl Counts {
         }
     }
 
+    /// A write that was accepted is the table's last message.
+    fn write(&mut self, table: &Table) {
+        let Some((last, before)) = table.messages[..table.count].split_last() else { return };
+        let rivals = |m: &Message| (m.payload.reg, m.date) == (last.payload.reg, last.date);
+        self.set.writes += 1;
+        self.set.rivals += before.iter().any(rivals) as usize;
+    }
+
     fn look(&mut self, table: &Table, c: usize) {
         let answer = tables::look(table, c);
         self.looks[answer.number.number() as usize] += 1;
         self.both.looks += has_both(answer.panel.sums);
+        let written = |from: Stamp| answer.panel.registers.iter().filter(move |x| x.stamp > from).count();
+        let (any, again) = (written(Stamp::BLANK), written(Stamp { date: 1, writer: u16::MAX }));
+        self.set.looks += (any > 0) as usize;
+        self.set.several += (any > 1) as usize;
+        self.set.again += (again > 0) as usize;
         self.both.classes += answer.panel.classes[1..].iter().map(|sums| has_both(*sums)).sum::<usize>();
     }
 }
@@ -242,6 +272,7 @@ pub fn count(cases: usize, seed: u64) {
         most_own: 0,
         local_reads: 0,
         both: BothSums::default(),
+        set: SetPoints::default(),
     };
     for (_, case) in (0..cases).map(|index| generate::case(seed, index)) {
         let mut table = counts.head(&case.head);
@@ -252,7 +283,7 @@ pub fn count(cases: usize, seed: u64) {
             }
         }
     }
-    let Counts { events, looks, files, sizes, most_pending, kept_pending, most_own, local_reads, both } = counts;
+    let Counts { events, looks, files, sizes, most_pending, kept_pending, most_own, local_reads, both, set } = counts;
     println!("events by number {events:?}\nlooks by number {looks:?}\nfiles by number {files:?}");
     println!("sets by size {sizes:?}");
     println!("most pending at a set {most_pending}; sets that left others pending {kept_pending}");
@@ -261,6 +292,9 @@ pub fn count(cases: usize, seed: u64) {
     println!(
         "both sums above 0: finished syncs {syncs}, local reads {local_reads}, looks {looks}, weight classes {classes}"
     );
+    let SetPoints { writes, rivals, looks, several, again } = set;
+    println!("writes accepted {writes}, of them with the date of a rival {rivals}");
+    println!("looks that show a register {looks}, several {several}, one that was written again {again}");
 }
 
 /// Runs the executable on one input.

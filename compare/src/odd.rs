@@ -2,9 +2,9 @@
 
 use crate::case::Call;
 use crate::random::Random;
-use crate::records::{classed_report, handover, local_read, report, stop, sync};
+use crate::records::{classed_report, handover, local_read, report, stop, sync, write};
 use crate::reference::{State, SCRATCH};
-use crate::runs::{follow, highest_read, legal_event, Policy};
+use crate::runs::{any_value, follow, highest_read, legal_event, with_none_pending, Policy};
 
 pub fn any_scratch(random: &mut Random) -> usize {
     match random.below(12) {
@@ -47,14 +47,20 @@ fn boundary_report(random: &mut Random, state: &State, c: usize) -> Vec<u8> {
     }
 }
 
+/// A write of a register in range or at the edges of its range.
+pub fn boundary_write(random: &mut Random, c: usize) -> Vec<u8> {
+    write(c, random.pick(&[0, 1, 1, 2, 7, 8, 8, 9, 128, 255]), any_value(random))
+}
+
 /// A record with fields at the boundaries of their questions, several of which may say no.
 fn boundary_record(random: &mut Random, state: &State) -> Vec<u8> {
     let c = odd_controller(random, state.n);
-    match random.below(5) {
+    match random.below(6) {
         0 => boundary_report(random, state, c),
         1 => sync(c),
         2 => local_read(c),
         3 => handover(c, odd_controller(random, state.n)),
+        4 => boundary_write(random, c),
         _ => {
             let (read, length) = match (1..=state.n).contains(&c) {
                 true => (highest_read(state, c), state.controllers[c - 1].log.len()),
@@ -73,8 +79,8 @@ pub fn mangle(random: &mut Random, bytes: &mut Vec<u8>) {
     match random.below(9) {
         0 => bytes.truncate(at),
         1 if at < bytes.len() => bytes[at] ^= 1 << random.below(8),
-        2 if !bytes.is_empty() => bytes[0] = random.pick(&[0, 1, 2, 3, 4, 5, 6, 255]),
-        3 if bytes.len() > 1 => bytes[1] = random.pick(&[0, 1, 2, 3, 4, 5, 6, 255]),
+        2 if !bytes.is_empty() => bytes[0] = random.pick(&[0, 1, 2, 3, 4, 5, 6, 7, 8, 255]),
+        3 if bytes.len() > 1 => bytes[1] = random.pick(&[0, 1, 2, 3, 4, 5, 6, 7, 255]),
         4 => bytes.insert(at, random.byte()),
         5 if at < bytes.len() => drop(bytes.remove(at)),
         6 if !bytes.is_empty() => bytes[0] = bytes[0].wrapping_add(random.pick(&[1, 255])),
@@ -117,6 +123,17 @@ pub fn any_calls(random: &mut Random, state: &mut State, count: usize, odd: usiz
         let scratch = if random.one_in(odd) { any_scratch(random) } else { SCRATCH };
         follow(state, &bytes, scratch);
         calls.push(Call::Event { bytes, scratch });
+    }
+    calls
+}
+
+/// A write of each controller that has no message of its own pending: most are left to question 20.
+pub fn writes_of_all(random: &mut Random, state: &mut State) -> Vec<Call> {
+    let mut calls = vec![];
+    for c in with_none_pending(state) {
+        let bytes = write(c, random.between(1, 8), any_value(random));
+        follow(state, &bytes, SCRATCH);
+        calls.push(Call::Event { bytes, scratch: SCRATCH });
     }
     calls
 }

@@ -36,6 +36,10 @@ pub fn local_read(controller: usize) -> Vec<u8> {
     Record::LocalRead { controller: controller as u8 }.bytes()
 }
 
+pub fn write(sender: usize, register: usize, value: u32) -> Vec<u8> {
+    Record::Write { sender: sender as u8, register: register as u8, value }.bytes()
+}
+
 pub fn file_of(version: usize, n: usize, run: &[Vec<u8>]) -> Vec<u8> {
     [furnacejade::file_of(version as u8, n as u8, &[]), run.concat()].concat()
 }

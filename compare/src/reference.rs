@@ -7,6 +7,7 @@ pub const MAX_CONTROLLERS: usize = 7;
 pub const MAX_MESSAGES: usize = 64;
 /// The weight classes 1 to 4, and 0 for none.
 pub const CLASSES: usize = 5;
+pub const REGISTERS: usize = 8;
 pub const SCRATCH: usize = 4096;
 pub const LISTING: usize = 16_384;
 
@@ -24,12 +25,29 @@ pub struct Name {
 pub enum Payload {
     Report { amount: i32, class: usize },
     Sync,
+    Write { register: usize, value: u32 },
 }
 
+/// A message; a write has a date, and any other 0.
 #[derive(Clone, Copy, PartialEq, Eq, Debug)]
 pub struct Message {
     pub name: Name,
     pub payload: Payload,
+    pub date: usize,
+}
+
+/// The stamp of a write. The order is by date and then by writer, and before all is 0, 0.
+#[derive(Clone, Copy, PartialEq, Eq, PartialOrd, Ord, Debug, Default)]
+pub struct Stamp {
+    pub date: usize,
+    pub writer: usize,
+}
+
+/// A register: its value, and the stamp of the write that gave it.
+#[derive(Clone, Copy, PartialEq, Eq, Debug, Default)]
+pub struct Register {
+    pub value: u32,
+    pub stamp: Stamp,
 }
 
 /// One forward number for each controller, or absent.
@@ -45,6 +63,8 @@ pub struct Controller {
     pub applied: BTreeSet<Name>,
     /// For each sender, the highest message number applied; 0 is none.
     pub highest: Vec<usize>,
+    /// Register r stands at `registers[r - 1]`.
+    pub registers: [Register; REGISTERS],
 }
 
 /// Controller c stands at `controllers[c - 1]`; messages stand in the order sent.
@@ -79,11 +99,12 @@ impl Sums {
     }
 }
 
-/// What a panel shows: the sums, and those of each class.
+/// What a panel shows: the sums, those of each class, and the registers.
 #[derive(Clone, PartialEq, Eq, Debug)]
 pub struct Shown {
     pub sums: Sums,
     pub classes: [Sums; CLASSES],
+    pub registers: [Register; REGISTERS],
 }
 
 /// The answer to an event. The sums are what a finished sync answers, or what a local read gives, and otherwise zeros.
@@ -117,19 +138,20 @@ fn cut(bytes: &[u8]) -> Result<(&[u8], &[u8]), u8> {
 /// Question 6: the kind of a record.
 fn kind_of(record: &[u8]) -> Result<u8, u8> {
     let kind = *record.first().ok_or(6)?;
-    if !(1..=5).contains(&kind) {
+    if !(1..=6).contains(&kind) {
         return Err(6);
     }
     Ok(kind)
 }
 
-/// Questions 6 to 9 and 17 on the bytes of one record.
+/// Questions 6 to 9, 17 and 19 on the bytes of one record.
 fn decode(record: &[u8], version: usize, n: usize) -> Result<Event, u8> {
     let kind = kind_of(record)?;
     let length = match kind {
         1 if version == 2 => 5,
         1 | 4 => 4,
         2 | 5 => 2,
+        6 => 7,
         _ => 3,
     };
     if record.len() != length {
@@ -145,9 +167,13 @@ fn decode(record: &[u8], version: usize, n: usize) -> Result<Event, u8> {
         2 => Event::Send { sender: first, payload: Payload::Sync },
         3 => Event::Handover { receiver: first, owner: record[2] as usize },
         4 => Event::Stop { controller: first, kept: u16::from_be_bytes([record[2], record[3]]) as usize },
-        _ => Event::Read { controller: first },
+        5 => Event::Read { controller: first },
+        _ => {
+            let value = u32::from_be_bytes([record[3], record[4], record[5], record[6]]);
+            Event::Send { sender: first, payload: Payload::Write { register: record[2] as usize, value } }
+        }
     };
-    first_no(&[(8, named(&event, n)), (9, fair(&event)), (17, classed(&event, version))])?;
+    first_no(&[(8, named(&event, n)), (9, fair(&event)), (17, classed(&event, version)), (19, registered(&event))])?;
     Ok(event)
 }
 
@@ -173,6 +199,14 @@ fn fair(event: &Event) -> bool {
 fn classed(event: &Event, version: usize) -> bool {
     match *event {
         Event::Send { payload: Payload::Report { class, .. }, .. } if version == 2 => (1..=4).contains(&class),
+        _ => true,
+    }
+}
+
+/// Question 19: is the register of a write from 1 to 8?
+fn registered(event: &Event) -> bool {
+    match *event {
+        Event::Send { payload: Payload::Write { register, .. }, .. } => (1..=REGISTERS).contains(&register),
         _ => true,
     }
 }
@@ -238,6 +272,7 @@ impl State {
             pending: BTreeMap::new(),
             applied: BTreeSet::new(),
             highest: vec![0; n],
+            registers: [Register::default(); REGISTERS],
         };
         State { version, n, messages: vec![], controllers: vec![controller; n] }
     }
@@ -250,14 +285,14 @@ impl State {
     fn amount(&self, name: &Name) -> i32 {
         match self.payload(name) {
             Payload::Report { amount, .. } => amount,
-            Payload::Sync => 0,
+            Payload::Sync | Payload::Write { .. } => 0,
         }
     }
 
     fn class(&self, name: &Name) -> usize {
         match self.payload(name) {
             Payload::Report { class, .. } => class,
-            Payload::Sync => 0,
+            Payload::Sync | Payload::Write { .. } => 0,
         }
     }
 
@@ -276,11 +311,11 @@ impl State {
         self.sums_of(self.controllers[c - 1].applied.iter().filter(|x| self.class(x) == class))
     }
 
-    /// A panel look: question 8, then the sums, and those of each class.
+    /// A panel look: question 8, then the sums, those of each class, and the registers that the controller holds.
     pub fn look(&self, c: usize) -> Result<Shown, u8> {
         first_no(&[(8, (1..=self.n).contains(&c))])?;
         let classes = std::array::from_fn(|class| self.class_sums(c, class));
-        Ok(Shown { sums: self.sums(c), classes })
+        Ok(Shown { sums: self.sums(c), classes, registers: self.controllers[c - 1].registers })
     }
 
     /// Has controller c a message of its own pending?
@@ -288,13 +323,21 @@ impl State {
         self.controllers[c - 1].pending.keys().any(|name| name.sender == c)
     }
 
-    /// Questions 10 to 15 and 18 in order, with their answers. A report may follow on pending messages of its sender.
+    /// Question 20: is the latest message of controller c a sync that it has applied?
+    pub fn synced(&self, c: usize) -> bool {
+        let own = self.messages.iter().filter(|x| x.name.sender == c);
+        let latest = own.max_by_key(|x| x.name.number);
+        latest.is_some_and(|x| x.payload == Payload::Sync && self.controllers[c - 1].applied.contains(&x.name))
+    }
+
+    /// Questions 10 to 15, 18 and 20 in order, with their answers. A report may follow on pending messages of its sender.
     fn questions(&self, event: &Event, scratch: usize) -> Vec<(u8, bool)> {
         let mut asked = match *event {
             Event::Send { sender, payload } => {
                 let s = &self.controllers[sender - 1];
-                let waits = payload == Payload::Sync && self.own_pending(sender);
-                vec![(10, s.running), (11, !waits), (12, self.messages.len() < MAX_MESSAGES)]
+                let waits = !matches!(payload, Payload::Report { .. }) && self.own_pending(sender);
+                let early = matches!(payload, Payload::Write { .. }) && !self.synced(sender);
+                vec![(10, s.running), (11, !waits), (12, self.messages.len() < MAX_MESSAGES), (20, !early)]
             }
             Event::Handover { receiver, owner } => {
                 let (r, o) = (&self.controllers[receiver - 1], &self.controllers[owner - 1]);
@@ -313,7 +356,7 @@ impl State {
         asked
     }
 
-    /// Questions 5 to 15, 17 and 18: the event, and the bytes behind its record.
+    /// Questions 5 to 15 and 17 to 20: the event, and the bytes behind its record.
     fn accept<'a>(&self, bytes: &'a [u8], scratch: usize) -> Result<(Event, &'a [u8]), u8> {
         let (record, rest) = cut(bytes)?;
         let event = decode(record, self.version, self.n)?;
@@ -321,8 +364,17 @@ impl State {
         Ok((event, rest))
     }
 
-    /// A report or sync: nothing is applied.
+    /// The date of what controller c sends: of a write, the date that c knows of its register, plus one (Algorithm 3).
+    fn date(&self, c: usize, payload: Payload) -> usize {
+        match payload {
+            Payload::Write { register, .. } => self.controllers[c - 1].registers[register - 1].stamp.date + 1,
+            _ => 0,
+        }
+    }
+
+    /// A report, sync or write: nothing is applied.
     fn send(&mut self, sender: usize, payload: Payload) -> BTreeSet<Name> {
+        let date = self.date(sender, payload);
         let s = &mut self.controllers[sender - 1];
         let place = s.log.len() + 1;
         let name = Name { sender, number: place };
@@ -330,7 +382,7 @@ impl State {
         marks[sender - 1] = Some(place);
         s.pending.insert(name, marks);
         s.log.push(name);
-        self.messages.push(Message { name, payload });
+        self.messages.push(Message { name, payload, date });
         BTreeSet::new()
     }
 
@@ -356,7 +408,20 @@ impl State {
             let highest = &mut r.highest[name.sender - 1];
             *highest = name.number.max(*highest);
         }
+        self.hold(receiver, &set);
         set
+    }
+
+    /// Algorithm 3 on a set that controller c applies: a write is held from then on if its stamp exceeds the one held.
+    pub fn hold(&mut self, c: usize, set: &BTreeSet<Name>) {
+        for x in self.messages.iter().filter(|x| set.contains(&x.name)) {
+            let Payload::Write { register, value } = x.payload else { continue };
+            let stamp = Stamp { date: x.date, writer: x.name.sender };
+            let held = &mut self.controllers[c - 1].registers[register - 1];
+            if stamp > held.stamp {
+                *held = Register { value, stamp };
+            }
+        }
     }
 
     /// A stop: nothing is applied.

@@ -1,19 +1,22 @@
 //! Legal runs: events that are accepted, chosen at random, with the reference's state beside them.
 
 use crate::random::Random;
-use crate::records::{classed_report, handover, local_read, report, stop, sync};
-use crate::reference::{Message, Payload, State, MAX_MESSAGES, SCRATCH};
+use crate::records::{classed_report, handover, local_read, report, stop, sync, write};
+use crate::reference::{Message, Payload, State, MAX_MESSAGES, REGISTERS, SCRATCH};
 
 /// How a run goes: one event in `send` is a send, one in `stop` a stop, one in `read` a local read, and each pair of
 /// receiver and log owner has a weight. Weights of 0 let messages pile up and let logs differ in their order. One send
 /// in `on` may be by a sender that has messages of its own pending; and while nobody has read its last report, a sender
-/// reports again but for one time in `burst`.
+/// reports again but for one time in `burst`. Of the sends of those that may sync, one in `sync` is a sync, and of those
+/// that may write, one in `write` is a write.
 pub struct Policy {
     pub send: usize,
     pub stop: usize,
     pub read: usize,
     pub on: usize,
     pub burst: usize,
+    pub sync: usize,
+    pub write: usize,
     pub links: [[usize; 7]; 7],
 }
 
@@ -26,10 +29,18 @@ fn now(random: &mut Random, among: usize) -> bool {
 
 impl Policy {
     pub fn even(send: usize) -> Policy {
-        Policy { send, stop: NEVER, read: NEVER, on: NEVER, burst: 1, links: [[1; 7]; 7] }
+        let links = [[1; 7]; 7];
+        Policy { send, stop: NEVER, read: NEVER, on: NEVER, burst: 1, sync: 4, write: NEVER, links }
     }
 
     pub fn random(random: &mut Random) -> Policy {
+        let mut policy = Policy::under_way(random);
+        (policy.sync, policy.write) = random.pick(&[(4, NEVER), (4, 2), (2, 2), (2, 1)]);
+        policy
+    }
+
+    /// There are no writes.
+    pub fn under_way(random: &mut Random) -> Policy {
         let mut policy = Policy::one_by_one(random);
         policy.read = random.pick(&[4, 20, 60, NEVER]);
         policy.on = random.pick(&[2, 10, NEVER, NEVER]);
@@ -37,7 +48,7 @@ impl Policy {
         policy
     }
 
-    /// No sender has two messages under way, and there are no local reads.
+    /// No sender has two messages under way, and there are neither local reads nor writes.
     pub fn one_by_one(random: &mut Random) -> Policy {
         let mut policy = Policy::even(random.pick(&[2, 3, 5, 10, 30]));
         policy.stop = random.pick(&[15, 60, 300, NEVER]);
@@ -92,14 +103,31 @@ fn legal_send(random: &mut Random, state: &State, policy: &Policy) -> Option<Vec
     }
     let sender = random.pick(&senders);
     let may_sync = with_none.contains(&sender);
-    Some(if may_sync && random.one_in(4) { sync(sender) } else { legal_report(random, state, sender) })
+    if may_sync && state.synced(sender) && now(random, policy.write) {
+        return Some(legal_write(random, sender));
+    }
+    Some(if may_sync && random.one_in(policy.sync) { sync(sender) } else { legal_report(random, state, sender) })
+}
+
+/// Any value: at the edges of its bytes, or with all four in use.
+pub fn any_value(random: &mut Random) -> u32 {
+    match random.below(3) {
+        0 => random.next() as u32,
+        _ => random.pick(&[0, 1, 1500, 255, 256, 65_535, 65_536, 0x0102_0304, u32::MAX - 1, u32::MAX]),
+    }
+}
+
+/// A write of any register, half of the time of the first, for which writers then race.
+fn legal_write(random: &mut Random, sender: usize) -> Vec<u8> {
+    let register = if random.one_in(2) { 1 } else { random.between(1, REGISTERS) };
+    write(sender, register, any_value(random))
 }
 
 /// One more report by the sender of the last message, if that was a report and nobody has read it.
 fn next_of_burst(random: &mut Random, state: &State, policy: &Policy) -> Option<Vec<u8>> {
-    let Message { name, payload } = *state.messages.last()?;
+    let Message { name, payload, .. } = *state.messages.last()?;
     let unread = state.controllers[name.sender - 1].running && highest_read(state, name.sender) < name.number;
-    let may = unread && payload != Payload::Sync && state.messages.len() < MAX_MESSAGES;
+    let may = unread && matches!(payload, Payload::Report { .. }) && state.messages.len() < MAX_MESSAGES;
     let goes_on = may && policy.burst > 1 && !random.one_in(policy.burst);
     goes_on.then(|| legal_report(random, state, name.sender))
 }

@@ -2,10 +2,10 @@
 //! with a few bytes changed; and random bytes.
 
 use crate::case::{Call, Case, Head};
-use crate::odd::{any_calls, any_event, any_number, any_scratch, any_version};
+use crate::odd::{any_calls, any_event, any_number, any_scratch, any_version, writes_of_all};
 use crate::random::Random;
 use crate::reference::State;
-use crate::runs::Policy;
+use crate::runs::{any_value, Policy};
 use crate::tables::{to_state, well_formed};
 use furnacejade::{Class, Controller, ForwardNumber, Message, MessageNumber, Payload, Table};
 
@@ -93,6 +93,35 @@ pub fn fair_class(random: &mut Random, version: usize) -> Class {
     }
 }
 
+/// Whether a message may be a write: its sender has stopped, or has it pending or applied.
+pub fn may_be_write(t: &Table, sender: u8, slot: usize) -> bool {
+    let own = &t.controllers[sender as usize - 1];
+    own.running == 0 || own.pending[slot].held != 0 || own.applied[slot] != 0
+}
+
+/// A write of any register, half of the time of the first, with a date that it may have.
+fn any_write(random: &mut Random, count: usize) -> (Payload, u16) {
+    let reg = if random.one_in(2) { 1 } else { random.between(1, 8) as u16 };
+    let last = random.pick(&[1, 2, count]).min(count);
+    let date = random.between(1, last) as u16;
+    (Payload { kind: Payload::WRITE, reg, value: any_value(random), ..Payload::BLANK }, date)
+}
+
+/// Makes one message in `among` a write, where it may be one and no other of its sender has that stamp.
+fn set_writes(random: &mut Random, t: &mut Table, among: usize) {
+    for slot in 0..t.count {
+        let sender = t.messages[slot].sender;
+        if !random.one_in(among) || !may_be_write(t, sender, slot) {
+            continue;
+        }
+        let (payload, date) = any_write(random, t.count);
+        let same = |m: &Message| (m.sender, m.payload.reg, m.date) == (sender, payload.reg, date);
+        if !t.messages[..slot].iter().any(same) {
+            t.messages[slot] = Message { payload, date, ..t.messages[slot] };
+        }
+    }
+}
+
 /// The messages, or nothing if a running log is too short for its sender's numbers.
 fn set_messages(random: &mut Random, t: &mut Table) -> Option<()> {
     let mut names = vec![];
@@ -111,8 +140,10 @@ fn set_messages(random: &mut Random, t: &mut Table) -> Option<()> {
             1 => Payload { added: magnitude, ..report },
             _ => Payload { withdrawn: magnitude, ..report },
         };
-        t.messages[slot] = Message { sender, number: MessageNumber(number), payload };
+        t.messages[slot] = Message { sender, number: MessageNumber(number), date: 0, payload };
     }
+    let among = random.pick(&[1, 2, 2, 5, 64]);
+    set_writes(random, t, among);
     Some(())
 }
 
@@ -122,7 +153,7 @@ pub fn good_table(random: &mut Random, n: usize, count: usize) -> Table {
         let mut t = junk_table(random);
         (t.version, t.n, t.count) = (any_version(random), n, count);
         let (stopped, share, held) =
-            (random.pick(&[2, 5, 50]), random.pick(&[0, 1, 5, 9, 10]), random.pick(&[1, 5, 9, 10]));
+            (random.pick(&[2, 5, 50]), random.pick(&[0, 1, 5, 9, 10]), random.pick(&[0, 1, 5, 9, 10]));
         for c in &mut t.controllers[..n] {
             c.running = if random.one_in(stopped) { 0 } else { yes(random) };
             let mut log: Vec<usize> = (0..count).filter(|_| random.below(10) < share || random.one_in(10)).collect();
@@ -164,7 +195,8 @@ pub fn table_good(random: &mut Random) -> Case {
     let (n, count) = (random.between(1, 7), any_count(random));
     let t = good_table(random, n, count);
     let mut state = to_state(&t);
-    let calls = any_calls(random, &mut state, 8, 6);
+    let mut calls = if random.one_in(3) { writes_of_all(random, &mut state) } else { vec![] };
+    calls.extend(any_calls(random, &mut state, 8, 6));
     Case { head: Head::Table(Box::new(t)), calls }
 }
 

@@ -1,14 +1,15 @@
 //! The reference over the table as it lies in memory: question 4, a table as a state and back, the calls.
 //! Like `reference.rs`, plain text that the faults edit a copy of.
 
-use super::reference::{self, Payload as Kind, Shown, State, MAX_CONTROLLERS, MAX_MESSAGES};
-use furnacejade::{Answer, FreshAnswer, LookAnswer, Panel, Refusal, RunAnswer, Sums, Table};
+use super::reference::{self, Payload as Kind, Shown, State, MAX_CONTROLLERS, MAX_MESSAGES, REGISTERS};
+use furnacejade::{Answer, FreshAnswer, LookAnswer, Panel, Refusal, Register, RunAnswer, Stamp, Sums, Table};
 use furnacejade::{Class, Controller, ForwardNumber, Message, MessageNumber, Name, Payload, Pending};
-use std::collections::BTreeMap;
+use std::collections::{BTreeMap, BTreeSet};
 
 const ABSENT: ForwardNumber = ForwardNumber(255);
 const REPORT: u8 = 1;
 const SYNC: u8 = 2;
+const WRITE: u8 = 6;
 
 /// The kind of a record that leaves the table as it is.
 pub const LOCAL_READ: u8 = 5;
@@ -21,7 +22,8 @@ pub fn well_formed(t: &Table) -> bool {
         && (1..=MAX_CONTROLLERS).contains(&t.n)
         && t.count <= MAX_MESSAGES
         && distinct_names(&t.messages[..t.count])
-        && t.messages[..t.count].iter().all(|m| well_formed_message(t.version, t.n, m))
+        && t.messages[..t.count].iter().all(|m| well_formed_message(t, m))
+        && distinct_stamps(&t.messages[..t.count])
         && (1..=t.n).all(|c| well_formed_controller(t, c))
 }
 
@@ -31,19 +33,39 @@ fn distinct_names(messages: &[Message]) -> bool {
     names.windows(2).all(|pair| pair[0] != pair[1])
 }
 
-fn well_formed_message(version: usize, n: usize, m: &Message) -> bool {
+/// Two writes of one sender and register have different dates.
+fn distinct_stamps(messages: &[Message]) -> bool {
+    let writes = messages.iter().filter(|m| m.payload.kind == WRITE);
+    let mut seen = BTreeSet::new();
+    writes.map(|m| (m.sender, m.payload.reg, m.date)).all(|stamp| seen.insert(stamp))
+}
+
+fn well_formed_message(t: &Table, m: &Message) -> bool {
     let (added, withdrawn) = (m.payload.added, m.payload.withdrawn);
     let fair = match m.payload.kind {
         REPORT => (added == 0) != (withdrawn == 0) && added.max(withdrawn) <= 360,
-        SYNC => added == 0 && withdrawn == 0,
+        SYNC | WRITE => added == 0 && withdrawn == 0,
         _ => false,
     };
     let class = m.payload.class.0;
     let class_fits = match m.payload.kind {
-        REPORT if version == 2 => (1..=4).contains(&class),
+        REPORT if t.version == 2 => (1..=4).contains(&class),
         _ => class == 0,
     };
-    (1..=n).contains(&(m.sender as usize)) && (1..=64).contains(&m.number.0) && fair && class_fits
+    (1..=t.n).contains(&(m.sender as usize))
+        && (1..=64).contains(&m.number.0)
+        && fair
+        && class_fits
+        && well_formed_write(t, m)
+}
+
+/// A write has a register and a date; any other message has neither, and no value.
+fn well_formed_write(t: &Table, m: &Message) -> bool {
+    let (register, date) = (m.payload.reg as usize, m.date as usize);
+    match m.payload.kind {
+        WRITE => (1..=REGISTERS).contains(&register) && (1..=t.count).contains(&date),
+        _ => register == 0 && m.payload.value == 0 && date == 0,
+    }
 }
 
 /// A set of slots, one bit for each.
@@ -62,6 +84,7 @@ fn well_formed_controller(t: &Table, c: usize) -> bool {
     let applied = slots(|s| own.applied[s] != 0);
     let known = pending | applied;
     let behind = slots(|s| s >= t.count);
+    let own_writes = slots(|s| t.messages[s].payload.kind == WRITE && t.messages[s].sender as usize == c) & !behind;
     let mut own_numbers = t.messages[..t.count].iter().filter(|m| m.sender as usize == c).map(|m| m.number.0 as usize);
 
     let log_of_run = entries.iter().all(|s| (*s as usize) < t.count);
@@ -74,6 +97,7 @@ fn well_formed_controller(t: &Table, c: usize) -> bool {
     let highest_agree = (1..=t.n).all(|sender| own.highest[sender - 1].0 == highest_applied(t, own, sender));
     let exact = !running || log == known;
     let long_enough = !running || own_numbers.all(|number| number <= own.length);
+    let writes_known = !running || own_writes & !known == 0;
 
     log_of_run
         && log_once
@@ -85,6 +109,7 @@ fn well_formed_controller(t: &Table, c: usize) -> bool {
         && highest_agree
         && exact
         && long_enough
+        && writes_known
 }
 
 fn mark_in_range(mark: &ForwardNumber) -> bool {
@@ -105,9 +130,12 @@ fn name_of(m: &Message) -> reference::Name {
 
 fn message_of(m: &Message) -> reference::Message {
     let amount = m.payload.added as i32 - m.payload.withdrawn as i32;
-    let class = m.payload.class.0 as usize;
-    let payload = if m.payload.kind == SYNC { Kind::Sync } else { Kind::Report { amount, class } };
-    reference::Message { name: name_of(m), payload }
+    let payload = match m.payload.kind {
+        SYNC => Kind::Sync,
+        WRITE => Kind::Write { register: m.payload.reg as usize, value: m.payload.value },
+        _ => Kind::Report { amount, class: m.payload.class.0 as usize },
+    };
+    reference::Message { name: name_of(m), payload, date: m.date as usize }
 }
 
 fn controller_of(t: &Table, c: &Controller) -> reference::Controller {
@@ -120,28 +148,36 @@ fn controller_of(t: &Table, c: &Controller) -> reference::Controller {
         pending: (0..t.count).filter(|s| c.pending[*s].held != 0).map(|s| (name(s), marks(&c.pending[s]))).collect(),
         applied: (0..t.count).filter(|s| c.applied[*s] != 0).map(name).collect(),
         highest: c.highest[..t.n].iter().map(|h| h.0 as usize).collect(),
+        registers: [reference::Register::default(); REGISTERS],
     }
 }
 
-/// The state that a well-formed table stands for.
+/// The state that a well-formed table stands for. No table stores registers: each controller holds what it has applied.
 pub fn to_state(t: &Table) -> State {
-    State {
+    let mut state = State {
         version: t.version,
         n: t.n,
         messages: t.messages[..t.count].iter().map(message_of).collect(),
         controllers: t.controllers[..t.n].iter().map(|c| controller_of(t, c)).collect(),
+    };
+    for c in 1..=t.n {
+        let applied = state.controllers[c - 1].applied.clone();
+        state.hold(c, &applied);
     }
+    state
 }
 
 fn store_message(m: &reference::Message) -> Message {
     let payload = match m.payload {
         Kind::Report { amount, class } => {
             let (added, withdrawn) = (amount.max(0) as u16, (-amount).max(0) as u16);
-            Payload { kind: REPORT, class: Class(class as u8), added, withdrawn }
+            Payload { kind: REPORT, class: Class(class as u8), added, withdrawn, ..Payload::BLANK }
         }
         Kind::Sync => Payload { kind: SYNC, ..Payload::BLANK },
+        Kind::Write { register, value } => Payload { kind: WRITE, reg: register as u16, value, ..Payload::BLANK },
     };
-    Message { sender: m.name.sender as u8, number: MessageNumber(m.name.number as u8), payload }
+    let (sender, number) = (m.name.sender as u8, MessageNumber(m.name.number as u8));
+    Message { sender, number, date: m.date as u16, payload }
 }
 
 fn store_controller(from: &reference::Controller, slots: &BTreeMap<reference::Name, usize>, to: &mut Controller) {
@@ -212,6 +248,11 @@ fn sums_of(sums: reference::Sums) -> Sums {
     Sums { added: sums.added, withdrawn: sums.withdrawn }
 }
 
+fn register_of(register: reference::Register) -> Register {
+    let reference::Stamp { date, writer } = register.stamp;
+    Register { value: register.value, stamp: Stamp { date: date as u16, writer: writer as u16 } }
+}
+
 /// The single-event call: question 4 first. Answers how many bytes are left.
 pub fn event(t: &mut Table, bytes: &[u8], scratch: &mut [u8], answer: &mut Answer) -> usize {
     *answer = Answer::BLANK;
@@ -240,9 +281,9 @@ pub fn event(t: &mut Table, bytes: &[u8], scratch: &mut [u8], answer: &mut Answe
 pub fn look(t: &Table, c: usize) -> LookAnswer {
     let shown = if well_formed(t) { to_state(t).look(c) } else { Err(4) };
     match shown {
-        Ok(Shown { sums, classes }) => {
-            let panel = Panel { sums: sums_of(sums), classes: classes.map(sums_of) };
-            LookAnswer { number: Refusal::from(0), panel }
+        Ok(Shown { sums, classes, registers }) => {
+            let (classes, registers) = (classes.map(sums_of), registers.map(register_of));
+            LookAnswer { number: Refusal::from(0), panel: Panel { sums: sums_of(sums), classes, registers } }
         }
         Err(number) => LookAnswer { number: Refusal::from(number), panel: Panel::BLANK },
     }

@@ -1,9 +1,9 @@
 //! Plays a run file, read from standard input, event by event: the set applied, or what a local read gives, and then a
-//! look at every panel; of a file of version 2 it prints in the end what each panel shows of each class.
-//! `bindings/worked.run`, `bindings/classes.run` and `bindings/underway.run` are the runs of docs/RULES.md, sections
-//! 19, 25 and 26.
+//! look at every panel. In the end it prints what each panel shows of each class, if the file is of version 2, and of
+//! the registers that were written. `bindings/worked.run`, `bindings/classes.run`, `bindings/underway.run` and
+//! `bindings/settings.run` are the runs of docs/RULES.md, sections 19, 25, 26 and 28.
 
-use furnacejade::{event, fresh, look, Class, Sums, Table, SCRATCH};
+use furnacejade::{event, fresh, look, Class, Register, Stamp, Sums, Table, SCRATCH};
 use std::error::Error;
 use std::io::Read;
 
@@ -19,6 +19,16 @@ fn print_classes(table: &Table) -> Result<(), Box<dyn Error>> {
             print!(", {class} {sums}");
         }
         println!();
+    }
+    Ok(())
+}
+
+fn print_registers(table: &Table) -> Result<(), Box<dyn Error>> {
+    for c in 1..=table.n {
+        let registers = (1..).zip(look(table, c)?.registers);
+        for (r, Register { value, stamp }) in registers.filter(|(_, register)| register.stamp > Stamp::BLANK) {
+            println!("panel {c}: register {r} is {value}, stamp {}, {}", stamp.date, stamp.writer);
+        }
     }
     Ok(())
 }
@@ -50,5 +60,5 @@ fn main() -> Result<(), Box<dyn Error>> {
     if table.version == 2 {
         print_classes(&table)?;
     }
-    Ok(())
+    print_registers(&table)
 }

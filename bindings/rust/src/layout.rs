@@ -13,6 +13,9 @@ pub const MESSAGES: usize = 64;
 /// A panel shows the sums of so many classes, [`Class::NONE`] among them.
 pub const CLASSES: usize = 5;
 
+/// A panel shows so many registers.
+pub const REGISTERS: usize = 8;
+
 /// An event asks for so many bytes of scratch.
 pub const SCRATCH: usize = 4096;
 
@@ -35,7 +38,7 @@ pub struct Class(pub u8);
 #[repr(C)]
 #[derive(Clone, Copy, Debug, PartialEq, Eq, Hash)]
 pub struct Payload {
-    /// [`Payload::REPORT`] or [`Payload::SYNC`].
+    /// [`Payload::REPORT`], [`Payload::SYNC`] or [`Payload::WRITE`].
     pub kind: u8,
     /// [`Class::XL`] to [`Class::S`] if it is a report of version 2, else [`Class::NONE`].
     pub class: Class,
@@ -43,6 +46,10 @@ pub struct Payload {
     pub added: u16,
     /// The magnitude of the amount if it is negative, else 0.
     pub withdrawn: u16,
+    /// The register that a write sets, 1 to 8, else 0. (In the rules it is the register, which is a keyword of C.)
+    pub reg: u16,
+    /// What a write sets it to, else 0.
+    pub value: u32,
 }
 
 /// A message; its index in the table is its slot.
@@ -53,6 +60,8 @@ pub struct Message {
     pub sender: u8,
     /// The length of the sender's log when it was sent, plus one.
     pub number: MessageNumber,
+    /// Of a write: its register's date, as its sender held it, plus one; else 0.
+    pub date: u16,
     /// What it says.
     pub payload: Payload,
 }
@@ -129,6 +138,31 @@ pub struct Sums {
     pub withdrawn: u32,
 }
 
+/// The stamp of a write. Of two writes of a register that with the greater stamp wins: dates decide before writers.
+///
+/// ```
+/// use furnacejade::Stamp;
+/// assert!(Stamp { date: 2, writer: 1 } > Stamp { date: 1, writer: 7 });
+/// ```
+#[repr(C)]
+#[derive(Clone, Copy, Debug, PartialEq, Eq, PartialOrd, Ord, Hash)]
+pub struct Stamp {
+    /// Its date, 1 or more; 0 if the register was not written.
+    pub date: u16,
+    /// The controller that sent it; 0 if the register was not written.
+    pub writer: u16,
+}
+
+/// A register (set point) as a panel shows it: the write with the greatest stamp among those that were applied.
+#[repr(C)]
+#[derive(Clone, Copy, Debug, PartialEq, Eq, Hash)]
+pub struct Register {
+    /// Its value; 0 if it was not written.
+    pub value: u32,
+    /// The stamp of the write.
+    pub stamp: Stamp,
+}
+
 /// What a panel shows.
 #[repr(C)]
 #[derive(Clone, Debug, PartialEq, Eq, Hash)]
@@ -137,6 +171,8 @@ pub struct Panel {
     pub sums: Sums,
     /// Those of each class, from [`Class::NONE`] on; they add up to `sums`.
     pub classes: [Sums; CLASSES],
+    /// The registers, register r at r - 1.
+    pub registers: [Register; REGISTERS],
 }
 
 /// What an event answers.
@@ -200,7 +236,7 @@ impl MessageNumber {
 }
 
 impl Class {
-    /// No class: that of a report of version 1, and of every sync.
+    /// No class: that of a report of version 1, and of every sync and write.
     pub const NONE: Class = Class(0);
 
     /// Very large eggs.
@@ -239,13 +275,16 @@ impl Payload {
     /// The kind of a sync, which has none.
     pub const SYNC: u8 = 2;
 
+    /// The kind of a write, which has a register and a value.
+    pub const WRITE: u8 = 6;
+
     /// Every field zero.
-    pub const BLANK: Payload = Payload { kind: 0, class: Class::NONE, added: 0, withdrawn: 0 };
+    pub const BLANK: Payload = Payload { kind: 0, class: Class::NONE, added: 0, withdrawn: 0, reg: 0, value: 0 };
 }
 
 impl Message {
     /// Every field zero.
-    pub const BLANK: Message = Message { sender: 0, number: MessageNumber::NONE, payload: Payload::BLANK };
+    pub const BLANK: Message = Message { sender: 0, number: MessageNumber::NONE, date: 0, payload: Payload::BLANK };
 }
 
 impl Name {
@@ -317,20 +356,43 @@ impl Display for Sums {
     }
 }
 
+impl Stamp {
+    /// Every field zero: the stamp of a register that was not written.
+    pub const BLANK: Stamp = Stamp { date: 0, writer: 0 };
+}
+
+impl Register {
+    /// Every field zero: a register that was not written.
+    pub const BLANK: Register = Register { value: 0, stamp: Stamp::BLANK };
+}
+
 impl Panel {
     /// Every field zero.
-    pub const BLANK: Panel = Panel { sums: Sums::BLANK, classes: [Sums::BLANK; CLASSES] };
+    pub const BLANK: Panel =
+        Panel { sums: Sums::BLANK, classes: [Sums::BLANK; CLASSES], registers: [Register::BLANK; REGISTERS] };
 
     /// The sums of a class, unless there is no such class.
     ///
     /// ```
     /// use furnacejade::{Class, Panel, Sums};
     /// let sums = Sums { added: 30, withdrawn: 2 };
-    /// let panel = Panel { sums, classes: [Sums::BLANK, sums, Sums::BLANK, Sums::BLANK, Sums::BLANK] };
+    /// let classes = [Sums::BLANK, sums, Sums::BLANK, Sums::BLANK, Sums::BLANK];
+    /// let panel = Panel { sums, classes, ..Panel::BLANK };
     /// assert_eq!((panel.of(Class::XL), panel.of(Class::L), panel.of(Class(5))), (Some(sums), Some(Sums::BLANK), None));
     /// ```
     pub fn of(&self, class: Class) -> Option<Sums> {
         self.classes.get(class.0 as usize).copied()
+    }
+
+    /// A register by its number, from 1, unless there is no such register.
+    ///
+    /// ```
+    /// use furnacejade::{Panel, Register};
+    /// let panel = Panel::BLANK;
+    /// assert_eq!((panel.register(0), panel.register(8), panel.register(9)), (None, Some(Register::BLANK), None));
+    /// ```
+    pub fn register(&self, number: u8) -> Option<Register> {
+        self.registers.get((number as usize).checked_sub(1)?).copied()
     }
 }
 
@@ -384,16 +446,18 @@ macro_rules! layout {
 layout!(ForwardNumber, 1 bytes, 0 of padding: 0 at 0);
 layout!(MessageNumber, 1 bytes, 0 of padding: 0 at 0);
 layout!(Class, 1 bytes, 0 of padding: 0 at 0);
-layout!(Payload, 6 bytes, 0 of padding: kind at 0, class at 1, added at 2, withdrawn at 4);
-layout!(Message, 8 bytes, 0 of padding: sender at 0, number at 1, payload at 2);
+layout!(Payload, 12 bytes, 0 of padding: kind at 0, class at 1, added at 2, withdrawn at 4, reg at 6, value at 8);
+layout!(Message, 16 bytes, 0 of padding: sender at 0, number at 1, date at 2, payload at 4);
 layout!(Name, 2 bytes, 0 of padding: sender at 0, number at 1);
 layout!(Pending, 8 bytes, 0 of padding: held at 0, marks at 1);
 layout!(Controller, 712 bytes, 0 of padding: length at 0, log at 8, read at 72, pending at 128, applied at 640,
     highest at 704, running at 711);
-layout!(Table, 5520 bytes, 0 of padding: version at 0, n at 8, count at 16, messages at 24, controllers at 536);
+layout!(Table, 6032 bytes, 0 of padding: version at 0, n at 8, count at 16, messages at 24, controllers at 1048);
 layout!(Sums, 8 bytes, 0 of padding: added at 0, withdrawn at 4);
-layout!(Panel, 48 bytes, 0 of padding: sums at 0, classes at 8);
+layout!(Stamp, 4 bytes, 0 of padding: date at 0, writer at 2);
+layout!(Register, 8 bytes, 0 of padding: value at 0, stamp at 4);
+layout!(Panel, 112 bytes, 0 of padding: sums at 0, classes at 8, registers at 48);
 layout!(Answer, 152 bytes, 6 of padding: number at 0, finished at 1, sums at 4, size at 16, names at 24);
-layout!(FreshAnswer, 5528 bytes, 7 of padding: number at 0, table at 8);
-layout!(LookAnswer, 52 bytes, 3 of padding: number at 0, panel at 4);
-layout!(RunAnswer, 5544 bytes, 7 of padding: number at 0, events at 8, written at 16, table at 24);
+layout!(FreshAnswer, 6040 bytes, 7 of padding: number at 0, table at 8);
+layout!(LookAnswer, 116 bytes, 3 of padding: number at 0, panel at 4);
+layout!(RunAnswer, 6056 bytes, 7 of padding: number at 0, events at 8, written at 16, table at 24);

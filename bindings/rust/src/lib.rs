@@ -51,6 +51,36 @@
 //! # }
 //! ```
 //!
+//! A supervisor sets one of eight registers, a belt speed say, at any controller, right behind a sync of its own that is
+//! finished. Every panel shows the write with the greatest [`Stamp`] among those that its controller has applied:
+//!
+//! ```
+//! use furnacejade::{event, fresh, look, Record, Refusal, Register, Stamp, SCRATCH};
+//!
+//! # fn main() -> Result<(), Refusal> {
+//! let mut table = fresh(1, 3)?;
+//! let mut scratch = [0; SCRATCH];
+//! let mut play = |record: Record| event(&mut table, &record.bytes(), &mut scratch).map(|(answer, _)| answer);
+//! let handover = |receiver, owner| Record::Handover { receiver, owner };
+//! let write = Record::Write { sender: 2, register: 1, value: 1500 };
+//!
+//! assert_eq!(play(write), Err(Refusal::NOT_SYNCED));
+//! play(Record::Sync { sender: 2 })?;
+//! play(handover(1, 2))?;
+//! assert!(play(handover(2, 1))?.sync_answer().is_some());
+//! play(write)?;
+//!
+//! // Controller 1 hears of the write, and applies the sync and then the write with its own entries for them.
+//! play(handover(1, 2))?;
+//! play(handover(1, 1))?;
+//! play(handover(1, 1))?;
+//! let belt_speed = Register { value: 1500, stamp: Stamp { date: 1, writer: 2 } };
+//! assert_eq!(look(&table, 1)?.register(1), Some(belt_speed));
+//! assert_eq!(look(&table, 2)?.register(1), Some(Register::BLANK));
+//! # Ok(())
+//! # }
+//! ```
+//!
 //! In tables and files of version 2 each report names a weight class, and a panel shows the sums of each. A whole file
 //! goes through [`run`]:
 //!
@@ -80,7 +110,7 @@ mod refusal;
 
 pub use layout::{
     Answer, Class, Controller, ForwardNumber, FreshAnswer, LookAnswer, Message, MessageNumber, Name, Panel, Payload,
-    Pending, RunAnswer, Sums, Table, CLASSES, CONTROLLERS, MESSAGES, SCRATCH,
+    Pending, Register, RunAnswer, Stamp, Sums, Table, CLASSES, CONTROLLERS, MESSAGES, REGISTERS, SCRATCH,
 };
 pub use record::{file_of, Record};
 pub use refusal::Refusal;
@@ -103,7 +133,7 @@ pub fn event<'a>(table: &mut Table, bytes: &'a [u8], scratch: &mut [u8]) -> Resu
     Ok((answer, &bytes[bytes.len() - left..]))
 }
 
-/// What the panel of a controller shows, 1 to n, running or stopped: the sums, and those of each class.
+/// What the panel of a controller shows, 1 to n, running or stopped: the sums, those of each class, and the registers.
 pub fn look(table: &Table, controller: usize) -> Result<Panel, Refusal> {
     let mut answer = LookAnswer::BLANK;
     calls::look(table, controller, &mut answer);

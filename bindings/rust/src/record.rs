@@ -48,6 +48,15 @@ pub enum Record {
         /// The controller that reads.
         controller: u8,
     },
+    /// A sender sets a register, right behind a sync of its own that it has applied.
+    Write {
+        /// The controller that sends it.
+        sender: u8,
+        /// The register, 1 to 8.
+        register: u8,
+        /// What it is set to.
+        value: u32,
+    },
 }
 
 impl Record {
@@ -59,6 +68,7 @@ impl Record {
     /// assert_eq!(Record::ClassedReport { sender: 3, amount: -2, class: Class::M }.bytes(), [5, 1, 3, 0xFF, 0xFE, 3]);
     /// assert_eq!(Record::Handover { receiver: 2, owner: 1 }.bytes(), [3, 3, 2, 1]);
     /// assert_eq!(Record::LocalRead { controller: 2 }.bytes(), [2, 5, 2]);
+    /// assert_eq!(Record::Write { sender: 2, register: 1, value: 1500 }.bytes(), [7, 6, 2, 1, 0, 0, 5, 0xDC]);
     /// ```
     pub fn bytes(&self) -> Vec<u8> {
         match *self {
@@ -77,6 +87,10 @@ impl Record {
                 vec![4, 4, controller, high, low]
             }
             Record::LocalRead { controller } => vec![2, 5, controller],
+            Record::Write { sender, register, value } => {
+                let [a, b, c, d] = value.to_be_bytes();
+                vec![7, 6, sender, register, a, b, c, d]
+            }
         }
     }
 }

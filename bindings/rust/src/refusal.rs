@@ -37,12 +37,12 @@ refusals! {
     (3, COUNT, "Is the number of controllers from 1 to 7?"),
     (4, TABLE, "Is the table well formed?"),
     (5, RECORD, "Are the length byte and all the bytes it counts there?"),
-    (6, KIND, "Is there a kind, from 1 to 5?"),
+    (6, KIND, "Is there a kind, from 1 to 6?"),
     (7, LENGTH, "Is the length that of the kind?"),
     (8, CONTROLLER, "Is every controller named from 1 to n?"),
     (9, AMOUNT, "Is a report's amount from -360 to 360 and not 0?"),
     (10, STOPPED, "Is the sender, receiver, or controller to be stopped or read still running?"),
-    (11, OWN_PENDING, "Has the sender of a sync no message of its own pending?"),
+    (11, OWN_PENDING, "Has the sender of a sync or write no message of its own pending?"),
     (12, FULL, "Has the run fewer than 64 messages?"),
     (13, NO_ENTRY, "Does the log have an entry that the receiver has not read?"),
     (14, KEPT, "Is the length kept at most the log's, and at least every read position in it?"),
@@ -50,6 +50,8 @@ refusals! {
     (16, LISTING_LENGTH, "Does the line fit in what is left of the listing?"),
     (17, CLASS, "Is the class of a report of version 2 from 1 to 4?"),
     (18, READ_PENDING, "Has the controller of a local read no message of its own pending?"),
+    (19, REGISTER, "Is the register of a write from 1 to 8?"),
+    (20, NOT_SYNCED, "Is the latest message of a write's sender a sync that it has applied?"),
 }
 
 impl Refusal {

@@ -1,16 +1,17 @@
-//! The calls as a user makes them: the worked run, a run with classes, one with reports under way, what a refusal
-//! leaves, and the numbers' texts.
+//! The calls as a user makes them: the worked run, a run with classes, one with reports under way, one with a set point,
+//! what a refusal leaves, and the numbers' texts.
 
 use furnacejade::{calls, event, file_of, fresh, look, run};
 use furnacejade::{
-    Answer, Class, FreshAnswer, LookAnswer, MessageNumber, Name, Panel, Record, Refusal, RunAnswer, Sums, Table,
-    SCRATCH,
+    Answer, Class, FreshAnswer, LookAnswer, MessageNumber, Name, Panel, Payload, Record, Refusal, Register, RunAnswer,
+    Stamp, Sums, Table, REGISTERS, SCRATCH,
 };
 use std::mem::size_of;
 
 const WORKED: &[u8] = include_bytes!("../../worked.run");
 const CLASSES: &[u8] = include_bytes!("../../classes.run");
 const UNDERWAY: &[u8] = include_bytes!("../../underway.run");
+const SETTINGS: &[u8] = include_bytes!("../../settings.run");
 
 fn name(sender: u8, number: u8) -> Name {
     Name { sender, number: MessageNumber(number) }
@@ -20,9 +21,14 @@ fn sums(added: u32, withdrawn: u32) -> Sums {
     Sums { added, withdrawn }
 }
 
-/// A panel by what was added and withdrawn, of the whole and of each class.
+/// A panel by what was added and withdrawn, of the whole and of each class, with no register written.
 fn panel(whole: (u32, u32), classes: [(u32, u32); 5]) -> Panel {
-    Panel { sums: sums(whole.0, whole.1), classes: classes.map(|(added, withdrawn)| sums(added, withdrawn)) }
+    let classes = classes.map(|(added, withdrawn)| sums(added, withdrawn));
+    Panel { sums: sums(whole.0, whole.1), classes, ..Panel::BLANK }
+}
+
+fn register(value: u32, date: u16, writer: u16) -> Register {
+    Register { value, stamp: Stamp { date, writer } }
 }
 
 /// A report of controller 1 as a table of this version takes it.
@@ -138,6 +144,72 @@ fn a_sync_answers_the_sums_when_it_is_finished() {
 }
 
 #[test]
+fn a_register_that_is_set_at_one_panel_is_read_at_another() {
+    let (mut listing, mut scratch) = ([0; 256], [7; SCRATCH]);
+    let answer = run(SETTINGS, &mut listing, &mut scratch);
+    assert_eq!((answer.number, answer.events), (Refusal::ACCEPTED, 8));
+    assert_eq!(&listing[..answer.written], b"3 2 0 0 2.1\n6 1 0 0 2.1\n7 1 0 0 2.2\n8 2 0 0 2.2\n");
+    let (table, answers) = events_of(SETTINGS);
+    assert_eq!(table, answer.table);
+    // Event 3 finishes 2's sync. That 2 has applied its write, with event 8, finishes no sync.
+    let finished: Vec<u8> = answers.iter().map(|answer| answer.finished).collect();
+    assert_eq!(finished, [0, 0, 1, 0, 0, 0, 0, 0]);
+    let set = table.messages[1];
+    assert_eq!((set.sender, set.number, set.date), (2, MessageNumber(2), 1));
+    assert_eq!(set.payload, Payload { kind: Payload::WRITE, reg: 1, value: 1500, ..Payload::BLANK });
+    for (c, first) in [(1, register(1500, 1, 2)), (2, register(1500, 1, 2)), (3, Register::BLANK)] {
+        let mut shown = Panel::BLANK;
+        shown.registers[0] = first;
+        assert_eq!(look(&table, c), Ok(shown));
+    }
+}
+
+#[test]
+fn each_register_has_its_values_and_dates() {
+    let mut records = vec![];
+    let values = [0, 1, 255, 256, 65_536, 1 << 24, u32::MAX - 1, u32::MAX];
+    for (number, value) in (1..).zip(values).chain([(8, 7), (8, 0x0102_0304)]) {
+        let write = Record::Write { sender: 1, register: number, value };
+        records.extend([Record::Sync { sender: 1 }, OWN_ENTRY, write, OWN_ENTRY]);
+    }
+    let mut registers = values.map(|value| register(value, 1, 1));
+    registers[7] = register(0x0102_0304, 3, 1);
+    for version in [1, 2] {
+        let (table, _) = events_of(&file_of(version, 1, &records));
+        let shown = look(&table, 1).unwrap();
+        assert_eq!(shown, Panel { registers, ..Panel::BLANK });
+        assert_eq!((shown.register(0), shown.register(8), shown.register(9)), (None, Some(registers[7]), None));
+    }
+}
+
+#[test]
+fn a_write_follows_on_an_applied_sync() {
+    let (mut table, mut scratch) = (fresh(1, 1).unwrap(), [0; SCRATCH]);
+    let mut play = |record: Record| event(&mut table, &record.bytes(), &mut scratch).err();
+    let write = |register| Record::Write { sender: 1, register, value: 5 };
+    let (sync, report) = (Record::Sync { sender: 1 }, Record::Report { sender: 1, amount: 5 });
+    for (record, refusal) in [
+        (write(1), Some(Refusal::NOT_SYNCED)),
+        (sync, None),
+        (write(9), Some(Refusal::REGISTER)),
+        (write(1), Some(Refusal::OWN_PENDING)),
+        (OWN_ENTRY, None),
+        (write(0), Some(Refusal::REGISTER)),
+        (report, None),
+        (OWN_ENTRY, None),
+        (write(1), Some(Refusal::NOT_SYNCED)),
+        (sync, None),
+        (OWN_ENTRY, None),
+        (write(8), None),
+        (write(8), Some(Refusal::OWN_PENDING)),
+        (OWN_ENTRY, None),
+        (write(8), Some(Refusal::NOT_SYNCED)),
+    ] {
+        assert_eq!(play(record), refusal, "{record:?}");
+    }
+}
+
+#[test]
 fn the_version_says_what_a_report_is() {
     let mut scratch = [0; SCRATCH];
     let report = Record::Report { sender: 1, amount: 5 };
@@ -173,6 +245,9 @@ fn a_refused_call_changes_nothing() {
         (Record::Handover { receiver: 1, owner: 2 }.bytes(), Refusal::NO_ENTRY),
         (Record::Stop { controller: 2, kept: 256 }.bytes(), Refusal::KEPT),
         (Record::LocalRead { controller: 0 }.bytes(), Refusal::CONTROLLER),
+        (Record::Write { sender: 3, register: 0, value: 5 }.bytes(), Refusal::CONTROLLER),
+        (Record::Write { sender: 1, register: 9, value: 5 }.bytes(), Refusal::REGISTER),
+        (Record::Write { sender: 1, register: 8, value: 5 }.bytes(), Refusal::NOT_SYNCED),
     ] {
         assert_eq!(event(&mut table, &bytes, &mut scratch), Err(refusal));
     }
@@ -188,7 +263,8 @@ fn a_refused_answer_is_blank_but_for_its_number() {
     let (mut table, mut answer) = (Table::BLANK, Answer { size: 9, finished: 1, sums: sums(9, 9), ..Answer::BLANK });
     assert_eq!(calls::event(&mut table, &[1, 2, 3], &mut [], &mut answer), 3);
     assert_eq!(answer, Answer { number: Refusal::TABLE, ..Answer::BLANK });
-    let mut answer = LookAnswer { number: Refusal::ACCEPTED, panel: panel((9, 9), [(9, 9); 5]) };
+    let dirty = Panel { registers: [register(9, 9, 9); REGISTERS], ..panel((9, 9), [(9, 9); 5]) };
+    let mut answer = LookAnswer { number: Refusal::ACCEPTED, panel: dirty };
     calls::look(&table, 1, &mut answer);
     assert_eq!(answer, LookAnswer { number: Refusal::TABLE, panel: Panel::BLANK });
     for (file, number) in [(&[1][..], Refusal::FILE_LENGTH), (&[3, 3], Refusal::VERSION), (&[2, 8], Refusal::COUNT)] {
