@@ -21,7 +21,7 @@ use Rattle.model.specs.declared.Message.{Message}
 use Rattle.model.specs.declared.Register.{Register}
 use Rattle.model.specs.declared.Table.{Table}
 use Rattle.model.proofs.Registers.{newest-same}
-use Rattle.totals.specs.Shown.{appliedAlone, registersOf, targetOf}
+use Rattle.totals.specs.Shown.{appliedAlone, registersOf, indexOf}
 use Rattle.totals.proofs.Weights.{past}
 
 -- ONE WRITE MORE
@@ -81,8 +81,8 @@ module _ (M : List Message) (A : List ℕ) where
   registers-length k R e = rw e (length-tabulate registerCount _)
 
   pub registers-more : (s : ℕ) (R S : List Register) → R ≡ registersOf s M A
-      → S ≡ withWrite R (targetOf (getD A s 0) (getD M s noMessage .payload)) (written (getD M s noMessage)) → S ≡ registersOf (s + 1) M A
-  unfolding withWrite newest writes targetOf message
+      → S ≡ withWrite R (indexOf (getD A s 0) (getD M s noMessage .payload)) (written (getD M s noMessage)) → S ≡ registersOf (s + 1) M A
+  unfolding withWrite newest writes indexOf message
   registers-more s R S e q =
       q ∙ tabulate-ext registerCount _ _ noRegister (λ i h. rw (e ∙ sym (passed-registers s), getD-tabulate registerCount (λ i. below s (suc i)) noRegister i h) (sym (turn i h)))
       ∙ passed-registers (s + 1)
@@ -95,7 +95,7 @@ module _ (M : List Message) (A : List ℕ) where
       target i h false k r = sym (ne-eqb registerCount i (omega arith))
 
       turn : (i : ℕ) → i < registerCount → below (s + 1) (suc i)
-          ≡ cond (eqb (targetOf (getD A s 0) (getD M s noMessage .payload)) i) (wins (written (getD M s noMessage)) (below s (suc i))) (below s (suc i))
+          ≡ cond (eqb (indexOf (getD A s 0) (getD M s noMessage .payload)) i) (wins (written (getD M s noMessage)) (below s (suc i))) (below s (suc i))
       turn i h = rw (add-one, target i h (yes? (getD A s 0)) (eqb (getD M s noMessage .payload .kind) 6) (getD M s noMessage .payload .reg)) refl
 
   pub registers-all : (k end : ℕ) (R : List Register) → length A ≡ capacity → end ≡ min k capacity → R ≡ registersOf end M A → R ≡ registersOf k M A

@@ -35,8 +35,8 @@ shownOf k M A = shown (part 0 0 k M) (appliedAlone A)
 -- WRITES
 
 -- the index of the register that a message writes, where the flag says that it counts; past the last if none
-unfoldable pub targetOf : ℕ → Payload → ℕ
-targetOf flag p = cond (yes? flag && (eqb (p .kind) 6 && ltb 0 (p .reg))) (p .reg - 1) registerCount
+unfoldable pub indexOf : ℕ → Payload → ℕ
+indexOf flag p = cond (yes? flag && (eqb (p .kind) 6 && ltb 0 (p .reg))) (p .reg - 1) registerCount
 
 -- ADDING UP
 

@@ -4,7 +4,7 @@ ghost use mathlib.Core.Path.{_≡_};
 ghost use Rattle.model.specs.Registers.{exceeds, wins, written};
 ghost use Rattle.model.specs.Events.{plus, panelOf, finishes};
 ghost use Rattle.model.specs.Parts.{part};
-ghost use Rattle.totals.specs.Shown.{sumsOf, classesOf, registersOf, shownOf, countedOf, targetOf, largestSum, AtMost};
+ghost use Rattle.totals.specs.Shown.{sumsOf, classesOf, registersOf, shownOf, countedOf, indexOf, largestSum, AtMost};
 use model::Message;
 use model::Panel;
 use model::Payload;
@@ -100,8 +100,8 @@ fn written(m: Message) -> Register
 }
 
 // The index of the register that a message writes, where the flag says that it counts; past the last if none.
-fn target(flag: u8, p: Payload) -> usize
-    ensures { λ r. ⌜ r ≡ targetOf flag p ⌝ }
+fn register_index(flag: u8, p: Payload) -> usize
+    ensures { λ r. ⌜ r ≡ indexOf flag p ⌝ }
 {
     let kind = p.kind;
     let reg = p.reg as usize;
@@ -119,7 +119,7 @@ pub fn registers(count: usize, messages: [Message; 64], applied: [u8; 64]) -> [R
     let mut registers: [Register; 8] = [Register::zero(); Panel::REGISTERS];
     for s in 0..numbers::at_most(count, Table::MESSAGES) {
         let m = messages[s];
-        let i = target(applied[s], m.payload);
+        let i = register_index(applied[s], m.payload);
         if Panel::REGISTERS <= i {
             continue;
         }

@@ -17,11 +17,11 @@ Inv-loop count messages applied registers₀ s₀ s-end registers s = (s ≤ s-e
 abbrev μ-loop : tie.MeasureT-loop
 μ-loop count messages applied registers₀ s₀ s-end registers s = s-end - s
 
--- from a turn to the entry, and from behind its target to the turn
+-- from a turn to the entry, and from behind its index to the turn
 abbrev entered : tie.At-loop Inv-loop μ-loop → tie.Start Inv-loop μ-loop
 entered c = c .before .before .before
 
-abbrev turn : tie.After-target Inv-loop μ-loop → tie.At-loop Inv-loop μ-loop
+abbrev turn : tie.After-register-index Inv-loop μ-loop → tie.At-loop Inv-loop μ-loop
 turn c = c .before .before .before
 
 long : (c : tie.At-loop Inv-loop μ-loop) → length (entered c .args .t3) ≡ capacity
@@ -45,11 +45,11 @@ mul-m c = search needs
 array-copy-out-m : tie.Need-array-copy-out-m Inv-loop μ-loop
 array-copy-out-m c = search needs
 
-array-read-target : tie.Need-array-read-target Inv-loop μ-loop
-array-read-target c = search needs
+array-read-register-index : tie.Need-array-read-register-index Inv-loop μ-loop
+array-read-register-index c = search needs
 
-target-requires : tie.Need-target-requires Inv-loop μ-loop
-target-requires c κs = search needs
+register-index-requires : tie.Need-register-index-requires Inv-loop μ-loop
+register-index-requires c κs = search needs
 
 add-s : tie.Need-add-s Inv-loop μ-loop
 add-s c = search needs
@@ -61,7 +61,7 @@ loop-again : tie.Need-loop-again Inv-loop μ-loop
 loop-again c =
     let a = c .before in
     let k = turn a in
-    (omega arith, registers-more _ _ _ _ _ (k .loop .inv .1) (rw (← a .target .ensures) (write-left _ _ _ (eight k) (c .if1 .taken))))
+    (omega arith, registers-more _ _ _ _ _ (k .loop .inv .1) (rw (← a .register-index .ensures) (write-left _ _ _ (eight k) (c .if1 .taken))))
 
 written-requires : tie.Need-written-requires Inv-loop μ-loop
 written-requires c κs = search needs
@@ -93,7 +93,7 @@ loop-again-2 c =
     let k = turn a in (
       omega arith,
       registers-more _ _ _ _ _ (k .loop .inv .1)
-          (rw (c .wins .ensures, c .before .before .written .ensures, ← a .target .ensures) (write-stored _ _ _ (eight k) (omega (arith, c .before .before .before .if1 .left)))),
+          (rw (c .wins .ensures, c .before .before .written .ensures, ← a .register-index .ensures) (write-stored _ _ _ (eight k) (omega (arith, c .before .before .before .if1 .left)))),
     )
 
 returns : tie.Need-returns Inv-loop μ-loop
@@ -110,8 +110,8 @@ registers-spec =
     loop-holds
     mul-m
     array-copy-out-m
-    array-read-target
-    target-requires
+    array-read-register-index
+    register-index-requires
     add-s
     loop-less
     loop-again
