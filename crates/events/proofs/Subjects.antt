@@ -15,7 +15,7 @@ use Rattle.model.specs.Facts.{Among}
 use Rattle.model.specs.Runs.{lineOf}
 use Rattle.model.specs.Sized.{Sized}
 use Rattle.model.specs.declared.Payload.{Payload}
-use Rattle.model.specs.Parts.{whole}
+use Rattle.model.specs.Parts.{part}
 use Rattle.model.specs.declared.Message.{Message}
 use Rattle.model.specs.declared.Controller.{Controller}
 use Rattle.model.specs.declared.Table.{Table}
@@ -29,11 +29,12 @@ use Rattle.model.proofs.Tested.{facts}
 use Rattle.model.proofs.Allowed.{subject-allowed}
 use Rattle.model.proofs.Lengths.{none-named}
 use Rattle.invariant.proofs.Stores.{seated, at-same}
+use Rattle.totals.specs.Shown.{appliedAlone}
 use Rattle.events.specs.declared.effects.Effect.{Effect}
 use Rattle.events.specs.Effects.{Leaves, noSet, effectOf}
 use Rattle.events.specs.Conditions.{Accepted}
 use Rattle.events.proofs.Accepted.{sendable, handable}
-use Rattle.events.proofs.Dating.{date-elsewhere}
+use Rattle.events.proofs.Dating.{date-part}
 
 -- THE SUBJECT
 
@@ -60,10 +61,11 @@ pub sent-length : (t : Table) (c : ℕ) (p : Payload) (x : Controller) → Leave
 unfolding after sent
 sent-length t c p x l = let h = sendable t c p (l .0) in omega (arith, ap (λ (y : Controller). y .length) (l .1), h .room)
 
-pub stored-send : (t : Table) (c : ℕ) (p : Payload) (x : Controller) → x ≡ after t (Send c p) → (m : Message) → m ≡ messageOf c (messageNumber (x .length)) (dateOf t x p) p
+pub stored-send : (t : Table) (c : ℕ) (p : Payload) (x : Controller) → x ≡ after t (Send c p) → (m : Message)
+    → m ≡ messageOf c (messageNumber (x .length)) (dateOf (part 0 0 (t .count) (t .messages)) (appliedAlone (x .applied)) p) p
     → _≡_ {A = Table} (record { version = t .version; n = t .n; count = t .count + 1; messages = set (t .messages) (t .count) m; controllers = set (t .controllers) (c - 1) x }) (next t (Send c p))
 unfolding next subject after withSent sentMessage sent withController withMessage dateOf registerOf
-stored-send t c p x e m f = rw (f, e) refl
+stored-send t c p x e m f = rw (f, date-part t x p, e) refl
 
 -- an event of another kind
 pub stored-else : (t : Table) (e : Event) (x : Controller) → (tagOf event.the-type e ≡ 1) ⊎ (tagOf event.the-type e ≡ 2) → x ≡ after t e
@@ -76,10 +78,10 @@ stored-else t (Stop c k) x q f = rw f refl
 
 -- the same, of a record that asks for e, whose subject has the index i
 pub stored-as-send : (t : Table) (a : Command) (e : Event) (i c : ℕ) (p : Payload) (x : Controller) (m : Message) → a ≡ Act e → i ≡ subject e - 1 → e ≡ Send c p → x ≡ after t (Send c p)
-    → m ≡ messageOf c (messageNumber (x .length)) (dateOf (whole (t .version) (t .n) (t .count) (t .messages) (set (t .controllers) i x)) x p) p
+    → m ≡ messageOf c (messageNumber (x .length)) (dateOf (part 0 0 (t .count) (t .messages)) (appliedAlone (x .applied)) p) p
     → _≡_ {A = Table} (record { version = t .version; n = t .n; count = t .count + 1; messages = set (t .messages) (t .count) m; controllers = set (t .controllers) i x }) (resulting t a)
 unfolding subject resulting
-stored-as-send t a e i c p x m q ei es ex em = rw (q, ei, es) (stored-send t c p x ex m (rw (date-elsewhere t (set (t .controllers) i x) x p) at em))
+stored-as-send t a e i c p x m q ei es ex em = rw (q, ei, es) (stored-send t c p x ex m em)
 
 pub stored-as-else : (t : Table) (a : Command) (e : Event) (i : ℕ) (x : Controller) → a ≡ Act e → i ≡ subject e - 1 → (tagOf event.the-type e ≡ 1) ⊎ (tagOf event.the-type e ≡ 2) → x ≡ after t e
     → _≡_ {A = Table} (record { version = t .version; n = t .n; count = t .count; messages = t .messages; controllers = set (t .controllers) i x }) (resulting t a)

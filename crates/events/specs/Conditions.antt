@@ -2,8 +2,10 @@
 use mathlib.Core.Path.{_≡_}
 use mathlib.Core.Bool.{true, false}
 use Prim.Native.Nat.{ℕ, _≤_, _<_}
+use mathlib.Core.List.{List}
+use lib.ListN.{getD}
 use lib.Dec.{leb}
-use Rattle.model.specs.Tables.{seats, capacity, message, held, highest}
+use Rattle.model.specs.Tables.{seats, capacity, noMessage, held, highest}
 use Rattle.model.specs.Delivery.{Slots, has}
 use Rattle.model.specs.WellFormed.{wellFormed}
 use Rattle.model.specs.Questions.{firstNo, eventQuestions}
@@ -16,9 +18,9 @@ use Rattle.model.specs.declared.Event.{Event}
 abbrev pub Accepted : Table → Event → Type 0
 Accepted t e = (wellFormed t ≡ true) × (firstNo (eventQuestions t e) ≡ 0)
 
--- no date is beyond the most messages of a run
-abbrev pub Dated : Table → Type 0
-Dated t = (s : ℕ) → s < t .count → message t s .date ≤ capacity
+-- no date of so many messages is beyond the most messages of a run
+abbrev pub Dated : ℕ → List Message → Type 0
+Dated k M = (s : ℕ) → s < k → getD M s noMessage .date ≤ capacity
 
 -- c can take in message m of slot s, at place k of the log of o: its own log has room where it is to forward m
 pub record Receivable (c : Controller) (m : Message) (s o k : ℕ) : Type 0 where

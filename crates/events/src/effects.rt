@@ -7,6 +7,8 @@ ghost use Rattle.model.specs.Tables.{scratchSize, noSums, unheld, withEntry, wi
 ghost use Rattle.model.specs.Registers.{dateOf};
 ghost use Rattle.model.specs.Events.{forward, deliver, subject, next, sums};
 ghost use Rattle.model.specs.WellFormed.{fairRegister, wellFormed};
+ghost use Rattle.model.specs.Parts.{part};
+ghost use Rattle.totals.specs.Shown.{appliedAlone};
 ghost use Rattle.model.specs.declared.Event.the-variants.{Handover};
 ghost use Rattle.events.specs.Conditions.{Accepted, Receivable, OfRun, Dated};
 ghost use Rattle.events.specs.Reading.{ownerOf, seatOf, partiesOf, Allowed, taken, Reading};
@@ -337,19 +339,18 @@ pub(crate) fn carry_out(
 
 // THE TABLE
 
-// The date of a message that a controller sends which has applied so: that of a write is one more than its register has there.
-pub(crate) fn date_of(t: Table, c: Controller, p: Payload) -> u16
-    requires { ⌜ Dated t × (fairRegister p ≡ true) ⌝ }
-    ensures { λ r. ⌜ r ≡ dateOf t c p ⌝ }
+// The date of a message behind so many others, whose sender has applied those flagged: that of a write is one more than its register
+// has there.
+pub(crate) fn date_of(count: usize, messages: [Message; 64], applied: [u8; 64], p: Payload) -> u16
+    requires { ⌜ Dated count messages × (fairRegister p ≡ true) ⌝ }
+    ensures { λ r. ⌜ r ≡ dateOf (part 0 0 count messages) (appliedAlone applied) p ⌝ }
 {
     let kind = p.kind;
     if kind != Payload::WRITE {
         return 0;
     }
     let i = p.reg as usize - 1;
-    let messages = t.messages;
-    let applied = c.applied;
-    let registers = totals::registers(t.count, messages, applied);
+    let registers = totals::registers(count, messages, applied);
     let register = registers[i];
     register.stamp.date + 1
 }
@@ -367,7 +368,9 @@ pub(crate) fn stored(t: Table, e: Event, c: Controller) -> Table
     };
     let slot = next.count;
     let number = MessageNumber::of(c.length as u8);
-    let date = date_of(t, c, payload);
+    let messages = t.messages;
+    let applied = c.applied;
+    let date = date_of(slot, messages, applied, payload);
     next.messages[slot] = Message::of(sender, number, date, payload);
     next.count = slot + 1;
     next

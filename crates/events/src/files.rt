@@ -201,7 +201,9 @@ fn run_records(bytes: &[u8], listing: &mut [u8], scratch: &mut [u8]) -> RunAnswe
         };
         let slot = table.count;
         let number = MessageNumber::of(c.length as u8);
-        let date = effects::date_of(table, c, payload);
+        let messages = table.messages;
+        let applied = c.applied;
+        let date = effects::date_of(slot, messages, applied, payload);
         table.messages[slot] = Message::of(sender, number, date, payload);
         table.count = slot + 1;
     }

@@ -13,7 +13,7 @@ use Rattle.events.proofs.effects.date_of.Tie as tie
 
 -- PLACES: from behind the registers to behind the test of the kind
 abbrev kept : tie.After-registers → tie.Else1
-kept c = c .before .before .before .before
+kept c = c .before .before
 
 -- the register of a write
 place : (c : tie.Else1) → let p = c .before .args .p in (0 < p .reg) × (p .reg ≤ registerCount)
@@ -42,13 +42,13 @@ add-result : tie.Need-add-result
 add-result c =
     let k = c .before .before in
     let s = kept k .before in
-    omega (arith, date-room (s .args .t) (s .args .c) (s .args .p) (kept k .if1 .left) (s .pre .1) (k .registers .result) (k .registers .ensures) (s .pre .0))
+    omega (arith, date-room (s .args .count) (s .args .messages) (s .args .applied) (s .args .p) (kept k .if1 .left) (s .pre .1) (k .registers .result) (k .registers .ensures) (s .pre .0))
 
 returns-2 : tie.Need-returns-2
 returns-2 c =
     let k = c .before .before in
     let s = kept k .before in
-    date-read (s .args .t) (s .args .c) (s .args .p) (kept k .if1 .left) (s .pre .1) (k .registers .result) (k .registers .ensures)
+    date-read (s .args .count) (s .args .messages) (s .args .applied) (s .args .p) (kept k .if1 .left) (s .pre .1) (k .registers .result) (k .registers .ensures)
 
 pub date-of-spec : {M : Type 1} → statement M
 date-of-spec =

@@ -16,7 +16,7 @@ use Rattle.events.proofs.effects.stored.Tie as tie
 
 -- PLACES: from behind the message to behind the test of the kind, and from there to the start
 abbrev kind : tie.After-of2 → tie.After-e
-kind c = c .before .before .before .before .before
+kind c = c .before .before .before .before .before .before .before
 
 abbrev start : tie.After-e → tie.Start
 start c = c .before .before .before
@@ -59,13 +59,13 @@ of-requires : tie.Need-of-requires
 of-requires c κs = search needs
 
 date-of-requires : tie.Need-date-of-requires
-date-of-requires c κs = let k = c .before .before .before in (formed-dated _ (leaves k .0 .0), room k .register)
+date-of-requires c κs = let k = c .before .before .before .before .before in (formed-dated _ (leaves k .0 .0), room k .register)
 
 of-requires-2 : tie.Need-of-requires-2
 of-requires-2 c κs = search needs
 
-mul-t12 : tie.Need-mul-t12
-mul-t12 c = omega (arith, room (kind c) .slot)
+mul-t14 : tie.Need-mul-t14
+mul-t14 c = omega (arith, room (kind c) .slot)
 
 element-set-from-next : tie.Need-element-set-from-next
 element-set-from-next c = room (kind c) .slot
@@ -77,7 +77,7 @@ returns-2 : tie.Need-returns-2
 unfolding subject
 returns-2 c =
     rw (kind c .before .before .subject .ensures, kind c .e .given .1)
-    (stored-send _ _ _ _ (leaves (kind c) .1) _ (rw (c .before .before .of .ensures, c .before .date-of .ensures) at (c .of2 .ensures)))
+    (stored-send _ _ _ _ (leaves (kind c) .1) _ (rw (c .before .before .before .before .of .ensures, c .before .date-of .ensures) at (c .of2 .ensures)))
 
 pub stored-spec : {M : Type 1} → statement M
 stored-spec =
@@ -94,7 +94,7 @@ stored-spec =
     of-requires
     date-of-requires
     of-requires-2
-    mul-t12
+    mul-t14
     element-set-from-next
     add-next
     returns-2)

@@ -6,7 +6,7 @@ use native.Mathlib.Omega.{arith}
 use lib.ListN.{length}
 use borrow.Author.Needs.{needs}
 use denote.Ref.{now}
-use Rattle.model.specs.Tables.{seats, message}
+use Rattle.model.specs.Tables.{seats}
 use Rattle.model.specs.Events.{subject}
 use Rattle.model.specs.Records.{decode}
 use Rattle.model.specs.declared.Event.{Event}
@@ -35,7 +35,7 @@ abbrev μ-loop : tie.MeasureT-loop
 
 -- PLACES: from behind the message to the test of the kind, what was stored, the bytes left and the turn
 abbrev kind : tie.After-of2 Inv-loop μ-loop → tie.After-e Inv-loop μ-loop
-kind c = c .before .before .before .before .before
+kind c = c .before .before .before .before .before .before .before
 
 abbrev kept : tie.After-e Inv-loop μ-loop → tie.After-c Inv-loop μ-loop
 kept c = c .before .before
@@ -226,14 +226,13 @@ of-requires : tie.Need-of-requires Inv-loop μ-loop
 of-requires c κs = search needs
 
 date-of-requires : tie.Need-date-of-requires Inv-loop μ-loop
-unfolding message
-date-of-requires c κs = let k = c .before .before .before in (formed-dated _ (sends k .0 .0), room k .register)
+date-of-requires c κs = let k = c .before .before .before .before .before in (formed-dated _ (sends k .0 .0), room k .register)
 
 of-requires-2 : tie.Need-of-requires-2 Inv-loop μ-loop
 of-requires-2 c κs = search needs
 
-mul-t28 : tie.Need-mul-t28 Inv-loop μ-loop
-mul-t28 c = omega (arith, room (kind c) .slot)
+mul-t30 : tie.Need-mul-t30 Inv-loop μ-loop
+mul-t30 c = omega (arith, room (kind c) .slot)
 
 element-set-from-table : tie.Need-element-set-from-table Inv-loop μ-loop
 element-set-from-table c = room (kind c) .slot
@@ -251,7 +250,7 @@ loop-again-4 c =
     let g = went k in
     let d = turned g in
     run-goes-on _ _ _ _ _ _ _ _ (loop d .loop .inv) (some d .loop-test .taken) _ _ _ (d .turn .ensures) _ (g .before .behind2 .ensures) _
-    (λ _. stored-as-send _ _ _ _ _ _ _ _ (event-is k) (seat k) (e .e .given .1) (sends e .1) (rw (c .before .before .of .ensures, c .before .date-of .ensures) at (c .of2 .ensures)))
+    (λ _. stored-as-send _ _ _ _ _ _ _ _ (event-is k) (seat k) (e .e .given .1) (sends e .1) (rw (c .before .before .before .before .of .ensures, c .before .date-of .ensures) at (c .of2 .ensures)))
     (λ n. absurd (n (g .if1 .left)))
 
 same-length : tie.Need-same-length Inv-loop μ-loop
@@ -298,7 +297,7 @@ run-records-spec =
     of-requires
     date-of-requires
     of-requires-2
-    mul-t28
+    mul-t30
     element-set-from-table
     add-table
     loop-less-4
