@@ -17,15 +17,16 @@ use Rattle.lists.proofs.Build.{getD-tabulate}
 use Rattle.model.specs.Tables.{none, noController, at, message, yes?, slotAt, place, held, applied, highest}
 use Rattle.model.specs.WellFormed.{inLog, greatestApplied, known, inRange, named, fairDate, keptWrite, goodMark, goodMessage, goodMessages, goodWrites, goodLog, goodPlaces, goodMarks, goodBuffer, goodHighest, goodRunning, goodController, wellFormed}
 use Rattle.model.specs.declared.Message.{Message}
+use Rattle.model.specs.declared.Name.{Name}
 use Rattle.model.specs.declared.Controller.{Controller}
 use Rattle.model.specs.declared.Table.{Table}
 use Rattle.validity.specs.declared.LogRead.{LogRead}
 use Rattle.validity.specs.declared.BufferRead.{BufferRead}
 use Rattle.model.specs.Parts.{part, whole}
-use Rattle.validity.specs.Parts.{goodAlone}
-use Rattle.validity.specs.Flags.{AllBounded, taken, goodEntries, ReadsLog, ReadsBuffer, goodSlot, slotTest, greatestOf}
+use Rattle.validity.specs.Parts.{goodNumbers, goodAlone}
+use Rattle.validity.specs.Flags.{taken, goodEntries, ReadsLog, ReadsBuffer, goodSlot, slotTest, Named, Seated, greatestOf}
 use Rattle.validity.proofs.Buffers.{slot, slots-are}
-use Rattle.validity.proofs.Numbers.{long-enough}
+use Rattle.validity.proofs.Numbers.{greatest-named, long-enough}
 
 all-ext : (n : ℕ) (p q : ℕ → Bool) → ((k : ℕ) → k < n → p k ≡ q k) → all n p ≡ all n q
 unfolding all
@@ -34,19 +35,19 @@ all-ext (suc n) p q f = ap₂ _&&_ (f n (omega arith)) (all-ext n p q (λ k h. f
 
 -- ONE CONTROLLER
 
-module _ (n k : ℕ) (M : List Message) (sent : ℕ) (c : Controller) where
-  pub long-log : 64 < c .length → false ≡ goodAlone (part 0 n k M) sent c
+module _ (n k : ℕ) (N : List Name) (sent : ℕ) (c : Controller) where
+  pub long-log : 64 < c .length → false ≡ goodAlone (part 0 n k []) N sent c
   unfolding goodAlone goodLog
   long-log h = rw (lt-leb (c .length) 64 h)
 
-  pub bad-log : c .length ≤ 64 → goodEntries k (c .length) (c .log) ≡ false → false ≡ goodAlone (part 0 n k M) sent c
+  pub bad-log : c .length ≤ 64 → goodEntries k (c .length) (c .log) ≡ false → false ≡ goodAlone (part 0 n k []) N sent c
   unfolding goodAlone goodLog goodEntries
   bad-log h e = rw (le-leb (c .length) 64 h, e)
 
   module _ (few : n ≤ 7) (fits : k ≤ 64) (short : c .length ≤ 64)
       (e : LogRead) (reads : ReadsLog k (c .length) (c .log) e) (good : e .good ≡ true)
       (b : BufferRead) (buffered : ReadsBuffer n (c .pending) b)
-      (G : List ℕ) (counted : G ≡ tabulate 8 (greatestOf k M (c .applied))) where
+      (G : List ℕ) (counted : G ≡ tabulate 8 (greatestOf k N (c .applied))) where
     entries : goodEntries k (c .length) (c .log) ≡ true
     entries = sym (reads .good) ∙ good
 
@@ -60,11 +61,11 @@ module _ (n k : ℕ) (M : List Message) (sent : ℕ) (c : Controller) where
         ap₂ (λ x y. goodSlot (ltb s k) (yes? (c .running)) x (applied c s) y)
         (rw (buffered .held) (getD-tabulate 64 (λ s. held c s) false s h)) (rw (reads .named good) (getD-tabulate 64 (taken (λ j. slotAt c j) (c .length)) false s h)))
 
-    highest-read : all n (λ x. eqb (getD (c .highest) x none .0) (getD G (x + 1) 0)) ≡ goodHighest (part 0 n k M) c
-    unfolding goodHighest greatestApplied greatestOf message
+    highest-read : all n (λ x. eqb (getD (c .highest) x none .0) (getD G (x + 1) 0)) ≡ goodNumbers (part 0 n k []) N c
+    unfolding goodNumbers
     highest-read = all-ext n _ _ (λ x h.
         ap₂ eqb (ap (λ j. getD (c .highest) j none .0) (omega arith))
-        (rw (counted, getD-tabulate 8 (greatestOf k M (c .applied)) 0 (x + 1) (omega arith), add-one x) refl))
+        (rw (counted, getD-tabulate 8 (greatestOf k N (c .applied)) 0 (x + 1) (omega arith), add-one x) refl))
 
     regroup : (m b h r e l : Bool) → ((m && (b && (r || e))) && (h && (r || l))) ≡ (m && (b && (h && (r || (e && l)))))
     regroup false b h r e l = refl
@@ -75,20 +76,20 @@ module _ (n k : ℕ) (M : List Message) (sent : ℕ) (c : Controller) where
     regroup true true false false false l = refl
 
     logged-alone :
-        (goodMarks (part 0 n k []) c && (goodBuffer (part 0 n k []) c && (goodHighest (part 0 n k M) c
+        (goodMarks (part 0 n k []) c && (goodBuffer (part 0 n k []) c && (goodNumbers (part 0 n k []) N c
         && (not (yes? (c .running)) || (all k (λ s. Bool·beq (inLog c s) (held c s || applied c s)) && leb sent (c .length))))))
-        ≡ goodAlone (part 0 n k M) sent c
-    unfolding goodAlone goodLog goodEntries goodMarks goodBuffer
+        ≡ goodAlone (part 0 n k []) N sent c
+    unfolding goodAlone goodLog goodEntries
     logged-alone = rw (le-leb (c .length) 64 short, entries)
 
     pub alone-is : (slots highest : Bool)
         → slots ≡ all 64 (slotTest k (yes? (c .running)) (b .held) (c .applied) (e .named))
         → highest ≡ all n (λ x. eqb (getD (c .highest) x none .0) (getD G (x + 1) 0))
-        → ((b .good && slots) && (highest && (not (yes? (c .running)) || leb sent (c .length)))) ≡ goodAlone (part 0 n k M) sent c
+        → ((b .good && slots) && (highest && (not (yes? (c .running)) || leb sent (c .length)))) ≡ goodAlone (part 0 n k []) N sent c
     alone-is slots highest s h =
         ap₂ (λ x y. x && (y && (not (yes? (c .running)) || leb sent (c .length))))
         (ap₂ _&&_ (buffered .good) (s ∙ slots-read) ∙ slots-are n k c fits logged) (h ∙ highest-read)
-        ∙ regroup (goodMarks (part 0 n k []) c) (goodBuffer (part 0 n k []) c) (goodHighest (part 0 n k M) c) (not (yes? (c .running))) _ _ ∙ logged-alone
+        ∙ regroup (goodMarks (part 0 n k []) c) (goodBuffer (part 0 n k []) c) (goodNumbers (part 0 n k []) N c) (not (yes? (c .running))) _ _ ∙ logged-alone
 
 -- ITS READ POSITIONS AND WHAT IT SENT
 
@@ -116,30 +117,35 @@ module _ (n k : ℕ) (M : List Message) (C : List Controller) (few : n ≤ 7) (f
   swap false true r = refl
   swap false false r = refl
 
-  joined : (i : ℕ) (c : Controller)
-      → (goodPlaces (whole 0 n k M C) c && goodAlone (part 0 n k M) (greatestOf k M (replicate 64 1) i) c) ≡ goodController (whole 0 n k M C) i c
-  unfolding goodAlone goodController goodLog goodMarks goodBuffer goodHighest greatestApplied goodRunning message
-  joined i c = rw (long-enough k M i (c .length) fits) (swap (goodPlaces (whole 0 n k M C) c) (goodLog (whole 0 n k M C) c) _)
+  module _ (N : List Name) (names : Named k M N) where
+    numbers-are : (c : Controller) → goodNumbers (part 0 n k []) N c ≡ goodHighest (whole 0 n k M C) c
+    unfolding goodNumbers goodHighest greatestApplied message
+    numbers-are c = all-ext n _ _ (λ x h. ap (eqb (highest c (suc x))) (greatest-named k M N names (c .applied) (suc x)))
 
--- what is known when the controllers before place i are tested
-pub record Tested (n k : ℕ) (M : List Message) (C : List Controller) (ends sent : List ℕ) (allowed : List Bool) (i : ℕ) : Type 0 where
+    joined : (i : ℕ) (c : Controller)
+        → (goodPlaces (whole 0 n k M C) c && goodAlone (part 0 n k []) N (greatestOf k N (replicate 64 1) i) c) ≡ goodController (whole 0 n k M C) i c
+    unfolding goodAlone goodController goodLog goodMarks goodBuffer goodRunning message
+    joined i c = rw (numbers-are c, long-enough k M N i (c .length) names fits) (swap (goodPlaces (whole 0 n k M C) c) (goodLog (whole 0 n k M C) c) _)
+
+-- what is known when the controllers before place i are tested, of all messages with these names
+pub record Tested (n k : ℕ) (C : List Controller) (ends : List ℕ) (N : List Name) (sent : List ℕ) (allowed : List Bool) (i : ℕ) : Type 0 where
   pub reached : i ≤ n
   pub few : n ≤ 7
   pub fits : k ≤ 64
-  pub seats : AllBounded k M
+  pub seats : Seated k N
   pub ends-are : ends ≡ logEnds C
-  pub sent-are : sent ≡ tabulate 8 (greatestOf k M (replicate 64 1))
+  pub sent-are : sent ≡ tabulate 8 (greatestOf k N (replicate 64 1))
   pub allowed-are : allowed ≡ tabulate 256 goodMark
-  pub good : true ≡ all i (λ j. goodController (whole 0 n k M C) (suc j) (at (whole 0 n k M C) (suc j)))
+  pub good : (M : List Message) → Named k M N → true ≡ all i (λ j. goodController (whole 0 n k M C) (suc j) (at (whole 0 n k M C) (suc j)))
 
-pub controller-is : (n k : ℕ) (M : List Message) (C : List Controller) (ends sent : List ℕ) (allowed : List Bool) (i : ℕ) (places alone : Bool)
-    → Tested n k M C ends sent allowed i → i < n
+pub controller-is : (n k : ℕ) (M : List Message) (C : List Controller) (ends : List ℕ) (N : List Name) (sent : List ℕ) (allowed : List Bool) (i : ℕ) (places alone : Bool)
+    → Tested n k C ends N sent allowed i → Named k M N → i < n
     → places ≡ all n (λ o. leb (getD (getD C i noController .read) o 0) (getD ends o 0))
-    → alone ≡ goodAlone (part 0 n k M) (getD sent (i + 1) 0) (getD C i noController)
+    → alone ≡ goodAlone (part 0 n k []) N (getD sent (i + 1) 0) (getD C i noController)
     → (places && alone) ≡ goodController (whole 0 n k M C) (suc i) (at (whole 0 n k M C) (suc i))
-controller-is n k M C ends sent allowed i places alone t h p a =
-    rw (p, t .ends-are, a, t .sent-are, getD-tabulate 8 (greatestOf k M (replicate 64 1)) 0 (i + 1) (omega (arith, t .few)), add-one i, places-are n k M C (t .few) (t .fits) (getD C i noController))
-    (joined n k M C (t .few) (t .fits) (suc i) (getD C i noController) ∙ ap (goodController (whole 0 n k M C) (suc i)) (at-next (whole 0 n k M C) i))
+controller-is n k M C ends N sent allowed i places alone t names h p a =
+    rw (p, t .ends-are, a, t .sent-are, getD-tabulate 8 (greatestOf k N (replicate 64 1)) 0 (i + 1) (omega (arith, t .few)), add-one i, places-are n k M C (t .few) (t .fits) (getD C i noController))
+    (joined n k M C (t .few) (t .fits) N names (suc i) (getD C i noController) ∙ ap (goodController (whole 0 n k M C) (suc i)) (at-next (whole 0 n k M C) i))
 
 -- THE WHOLE TEST
 

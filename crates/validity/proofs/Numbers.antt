@@ -14,58 +14,68 @@ use borrow.Author.Tests.{leb-true, le-leb, eqb-true, eq-eqb, ne-eqb}
 use Rattle.lists.specs.Below.{all, greatest}
 use Rattle.lists.specs.Build.{tabulate}
 use Rattle.lists.proofs.Tests.{bool-eq, implies-at, implies-of}
-use Rattle.lists.proofs.Below.{all-at, all-of, greatest-ge, greatest-le}
+use Rattle.lists.proofs.Below.{all-at, all-of, greatest-ext, greatest-ge, greatest-le}
 use Rattle.lists.proofs.Build.{tabulate-self, getD-tabulate}
 use Rattle.lists.proofs.Stores.{set-tabulate}
-use Rattle.model.specs.Tables.{noMessage, yes?}
+use Rattle.model.specs.Tables.{noName, noMessage, yes?}
 use Rattle.model.specs.Events.{numberOf}
 use Rattle.model.specs.declared.Message.{Message}
-use Rattle.validity.specs.Flags.{greatestOf}
+use Rattle.model.specs.declared.Name.{Name}
+use Rattle.validity.specs.Flags.{AllBounded, Named, Seated, greatestOf}
 
 -- ONE PASS
 
-own-number : (m : Message) → numberOf (m .sender) m ≡ m .number .0
-unfolding numberOf
-own-number m = rw (eq-eqb (m .sender) (m .sender) refl)
+own-number : (x number : ℕ) → cond (eqb x x) number 0 ≡ number
+own-number x number = rw (eq-eqb x x refl)
 
-other-number : (x : ℕ) (m : Message) → m .sender ≢ x → numberOf x m ≡ 0
-unfolding numberOf
-other-number x m d = rw (ne-eqb (m .sender) x d)
+other-number : (x y number : ℕ) → x ≢ y → cond (eqb x y) number 0 ≡ 0
+other-number x y number d = rw (ne-eqb x y d)
 
-module _ (M : List Message) (A : List ℕ) where
-  last : (s x : ℕ) → greatestOf (s + 1) M A x ≡ max (greatestOf s M A x) (cond (yes? (getD A s 0)) (numberOf x (getD M s noMessage)) 0)
+module _ (N : List Name) (A : List ℕ) where
+  last : (s x : ℕ) → let m = getD N s noName in greatestOf (s + 1) N A x ≡ max (greatestOf s N A x) (cond (yes? (getD A s 0)) (cond (eqb (m .sender) x) (m .number .0) 0) 0)
   unfolding greatestOf greatest
   last s x = rw add-one
 
-  pub none-passed : replicate 8 0 ≡ tabulate 8 (greatestOf 0 M A)
+  pub none-passed : replicate 8 0 ≡ tabulate 8 (greatestOf 0 N A)
   unfolding greatestOf greatest
-  none-passed = sym (tabulate-self (replicate 8 0) 0 8 (greatestOf 0 M A) (length-replicate {A = ℕ} 8 0) (λ k h. sym (getD-replicate {A = ℕ} 8 k 0 0 h)))
+  none-passed = sym (tabulate-self (replicate 8 0) 0 8 (greatestOf 0 N A) (length-replicate {A = ℕ} 8 0) (λ k h. sym (getD-replicate {A = ℕ} 8 k 0 0 h)))
 
-  pub next-passed : (s : ℕ) (G : List ℕ) (number best : ℕ) → getD M s noMessage .sender ≤ 7 → G ≡ tabulate 8 (greatestOf s M A)
-      → number ≡ cond (yes? (getD A s 0)) (getD M s noMessage .number .0) 0 → best ≡ max (getD G (getD M s noMessage .sender) 0) number
-      → set G (getD M s noMessage .sender) best ≡ tabulate 8 (greatestOf (s + 1) M A)
+  pub next-passed : (s : ℕ) (G : List ℕ) (number best : ℕ) → getD N s noName .sender ≤ 7 → G ≡ tabulate 8 (greatestOf s N A)
+      → number ≡ cond (yes? (getD A s 0)) (getD N s noName .number .0) 0 → best ≡ max (getD G (getD N s noName .sender) 0) number
+      → set G (getD N s noName .sender) best ≡ tabulate 8 (greatestOf (s + 1) N A)
   next-passed s G number best h e n b =
-      let m = getD M s noMessage in
+      let m = getD N s noName in
       rw e
-      (set-tabulate 8 (greatestOf s M A) (greatestOf (s + 1) M A) 0 (m .sender) best (omega arith)
-      (b ∙ rw (n, e, getD-tabulate 8 (greatestOf s M A) 0 (m .sender) (omega arith), last s (m .sender), own-number m) refl)
-      (λ x l d. sym (last s x ∙ rw (other-number x m (λ p. d (sym p))) (nothing (yes? (getD A s 0)) (greatestOf s M A x)))))
+      (set-tabulate 8 (greatestOf s N A) (greatestOf (s + 1) N A) 0 (m .sender) best (omega arith)
+      (b ∙ rw (n, e, getD-tabulate 8 (greatestOf s N A) 0 (m .sender) (omega arith), last s (m .sender), own-number (m .sender) (m .number .0)) refl)
+      (λ x l d. sym (last s x ∙ rw (other-number (m .sender) x (m .number .0) (λ p. d (sym p))) (nothing (yes? (getD A s 0)) (greatestOf s N A x)))))
     where
       nothing : (b : Bool) (g : ℕ) → max g (cond b 0 0) ≡ g
       nothing true g = omega arith
       nothing false g = omega arith
 
+-- NAMES
+
+module _ (k : ℕ) (M : List Message) (N : List Name) (named : Named k M N) where
+  pub seated : AllBounded k M → Seated k N
+  seated bounded s h = rw (named s h) (bounded s h .sender)
+
+  pub greatest-named : (A : List ℕ) (x : ℕ) → greatestOf k N A x ≡ greatest k (λ s. cond (yes? (getD A s 0)) (numberOf x (getD M s noMessage)) 0)
+  unfolding greatestOf numberOf
+  greatest-named A x = greatest-ext k _ _ (λ s h. rw (named s h) refl)
+
 -- WHAT WAS SENT
 
 -- a log is as long as the greatest number sent exactly if it is as long as each
-pub long-enough : (k : ℕ) (M : List Message) (i length : ℕ) → k ≤ 64
-    → leb (greatestOf k M (replicate 64 1) i) length ≡ all k (λ s. not (eqb (getD M s noMessage .sender) i) || leb (getD M s noMessage .number .0) length)
-unfolding greatestOf
-long-enough k M i length fits =
-    bool-eq _ _
+pub long-enough : (k : ℕ) (M : List Message) (N : List Name) (i length : ℕ) → Named k M N → k ≤ 64
+    → leb (greatestOf k N (replicate 64 1) i) length ≡ all k (λ s. not (eqb (getD M s noMessage .sender) i) || leb (getD M s noMessage .number .0) length)
+unfolding numberOf
+long-enough k M N i length named fits =
+    rw (greatest-named k M N named (replicate 64 1) i)
+    (bool-eq _ _
     (λ e. all-of k _ (λ s h. implies-of (eqb (m s .sender) i) _ (λ p.
     le-leb (m s .number .0) length (omega (arith, leb-true (greatest k f) length e, greatest-ge k f s h, sent s (omega arith), own s (eqb-true (m s .sender) i p))))))
-    (λ e. le-leb (greatest k f) length (greatest-le k f length (λ s h. within s (omega arith) (all-at k _ e s h) (ℕ-discrete (m s .sender) i))))
+    (λ e. le-leb (greatest k f) length (greatest-le k f length (λ s h. within s (omega arith) (all-at k _ e s h) (ℕ-discrete (m s .sender) i)))))
   where
     m : ℕ → Message
     m s = getD M s noMessage
@@ -77,8 +87,8 @@ long-enough k M i length fits =
     sent s h = rw (getD-replicate {A = ℕ} 64 s 1 0 h)
 
     own : (s : ℕ) → m s .sender ≡ i → numberOf i (m s) ≡ m s .number .0
-    own s e = rw (← e) (own-number (m s))
+    own s e = rw (← e) (own-number (m s .sender) (m s .number .0))
 
     within : (s : ℕ) → s < 64 → (not (eqb (m s .sender) i) || leb (m s .number .0) length) ≡ true → Dec (m s .sender ≡ i) → f s ≤ length
     within s h e (yes p) = omega (arith, sent s h, own s p, leb-true (m s .number .0) length (implies-at (eqb (m s .sender) i) _ e (eq-eqb (m s .sender) i p)))
-    within s h e (no d) = omega (arith, sent s h, other-number i (m s) d)
+    within s h e (no d) = omega (arith, sent s h, other-number (m s .sender) i (m s .number .0) d)

@@ -7,10 +7,11 @@ use lib.ListN.{getD}
 use lib.Dec.{eqb, ltb}
 use Rattle.lists.specs.Below.{count, all, distinct, greatest}
 use Rattle.lists.specs.Build.{tabulate}
-use Rattle.model.specs.Tables.{noMessage, yes?, entry, mark}
-use Rattle.model.specs.Events.{numberOf}
+use Rattle.model.specs.Tables.{noName, noMessage, yes?, entry, mark}
+use Rattle.model.specs.Events.{nameOf}
 use Rattle.model.specs.WellFormed.{goodMark}
 use Rattle.model.specs.declared.Message.{Message}
+use Rattle.model.specs.declared.Name.{Name}
 use Rattle.model.specs.declared.Pending.{Pending}
 use Rattle.validity.specs.declared.LogRead.{LogRead}
 use Rattle.validity.specs.declared.BufferRead.{BufferRead}
@@ -58,6 +59,14 @@ goodSlot inside running held done named =
 abbrev pub slotTest : ℕ → Bool → List Bool → List ℕ → List Bool → ℕ → Bool
 slotTest k running H A N s = goodSlot (ltb s k) running (getD H s false) (yes? (getD A s 0)) (getD N s false)
 
--- the greatest number of sender x among the first k messages that A flags, 0 if there is none
-unfoldable pub greatestOf : ℕ → List Message → List ℕ → ℕ → ℕ
-greatestOf k M A x = greatest k (λ s. cond (yes? (getD A s 0)) (numberOf x (getD M s noMessage)) 0)
+-- the first k names are those of the first k messages
+abbrev pub Named : ℕ → List Message → List Name → Type 0
+Named k M N = (s : ℕ) → s < k → getD N s noName ≡ nameOf (getD M s noMessage)
+
+-- no sender of the first k names is above 7
+abbrev pub Seated : ℕ → List Name → Type 0
+Seated k N = (s : ℕ) → s < k → getD N s noName .sender ≤ 7
+
+-- the greatest number of sender x among the first k names that A flags, 0 if there is none
+unfoldable pub greatestOf : ℕ → List Name → List ℕ → ℕ → ℕ
+greatestOf k N A x = greatest k (λ s. let m = getD N s noName in cond (yes? (getD A s 0)) (cond (eqb (m .sender) x) (m .number .0) 0) 0)

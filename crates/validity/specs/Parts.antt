@@ -1,15 +1,22 @@
 -- What the well-formed test asks of one controller, but for its read positions.
-use Prim.Native.Nat.{ℕ}
+use Prim.Native.Nat.{ℕ, suc}
 use mathlib.Core.Bool.{Bool, not, _&&_, _||_, Bool·beq}
-use lib.Dec.{leb}
+use mathlib.Core.List.{List}
+use lib.Dec.{eqb, leb}
 use Rattle.lists.specs.Below.{all}
-use Rattle.model.specs.Tables.{yes?, held, applied}
-use Rattle.model.specs.WellFormed.{inLog, goodLog, goodMarks, goodBuffer, goodHighest}
+use Rattle.model.specs.Tables.{yes?, held, applied, highest}
+use Rattle.model.specs.WellFormed.{inLog, goodLog, goodMarks, goodBuffer}
 use Rattle.model.specs.declared.Controller.{Controller}
+use Rattle.model.specs.declared.Name.{Name}
 use Rattle.model.specs.declared.Table.{Table}
+use Rattle.validity.specs.Flags.{greatestOf}
 
--- the clauses of a controller whose greatest number sent is given, but for its read positions
-unfoldable pub goodAlone : Table → ℕ → Controller → Bool
-goodAlone t sent c =
-    goodLog t c && (goodMarks t c && (goodBuffer t c && (goodHighest t c
+-- the highest numbers of a controller are the greatest of the names that it applied
+unfoldable pub goodNumbers : Table → List Name → Controller → Bool
+goodNumbers t N c = all (t .n) (λ x. eqb (highest c (suc x)) (greatestOf (t .count) N (c .applied) (suc x)))
+
+-- the clauses of a controller, where the names of the messages and its greatest number sent are given, but for its read positions
+unfoldable pub goodAlone : Table → List Name → ℕ → Controller → Bool
+goodAlone t N sent c =
+    goodLog t c && (goodMarks t c && (goodBuffer t c && (goodNumbers t N c
     && (not (yes? (c .running)) || (all (t .count) (λ s. Bool·beq (inLog c s) (held c s || applied c s)) && leb sent (c .length))))))

@@ -12,11 +12,12 @@ ghost use Rattle.model.specs.Tables.{none, noController, at, yes?, held, applie
 ghost use Rattle.model.specs.WellFormed.{fairDate, goodMessage, goodMessages, goodWrites, goodMark, goodController, wellFormed};
 ghost use Rattle.model.specs.Parts.{part, whole};
 ghost use Rattle.validity.specs.Parts.{goodAlone};
-ghost use Rattle.validity.specs.Flags.{AllBounded, ReadsLog, goodEntry, ReadsBuffer, goodSlot, slotTest, greatestOf};
+ghost use Rattle.validity.specs.Flags.{AllBounded, ReadsLog, goodEntry, ReadsBuffer, goodSlot, slotTest, Named, Seated, greatestOf};
 use model::Controller;
 use model::ForwardNumber;
 use model::Message;
 use model::MessageNumber;
+use model::Name;
 use model::Panel;
 use model::Payload;
 use model::Pending;
@@ -262,20 +263,41 @@ fn good_slots(
 
 // NUMBERS
 
-fn number_if(flag: u8, m: Message) -> u8
+// The names of so many messages. What is handed on for each controller is copied each time, and names are an eighth of the messages.
+fn names(count: usize, messages: [Message; 64]) -> [Name; 64]
+    requires { ⌜ count ≤ 64 ⌝ }
+    ensures { λ r. ⌜ Named count messages r ⌝ }
+{
+    let none = Name {
+        sender: 0,
+        number: MessageNumber(MessageNumber::NONE),
+    };
+    let mut names = [none; Table::MESSAGES];
+    for s in 0..count {
+        let m = messages[s];
+        let number = m.number;
+        names[s] = Name {
+            sender: m.sender,
+            number,
+        };
+    }
+    names
+}
+
+fn number_if(flag: u8, m: Name) -> u8
     ensures { λ r. ⌜ r ≡ cond (yes? flag) (m .number .0) 0 ⌝ }
 {
     if 0 < flag { m.number.0 } else { 0 }
 }
 
 // For each sender the greatest number among the messages that are flagged.
-fn greatest_numbers(count: usize, messages: [Message; 64], flags: [u8; 64]) -> [u8; 8]
-    requires { ⌜ (count ≤ 64) × AllBounded count messages ⌝ }
-    ensures { λ r. ⌜ r ≡ tabulate 8 (greatestOf count messages flags) ⌝ }
+fn greatest_numbers(count: usize, names: [Name; 64], flags: [u8; 64]) -> [u8; 8]
+    requires { ⌜ (count ≤ 64) × Seated count names ⌝ }
+    ensures { λ r. ⌜ r ≡ tabulate 8 (greatestOf count names flags) ⌝ }
 {
     let mut greatest: [u8; 8] = [0; SENDERS];
     for s in 0..count {
-        let m = messages[s];
+        let m = names[s];
         let sender = m.sender as usize;
         let number = number_if(flags[s], m);
         greatest[sender] = numbers::greater(greatest[sender], number);
@@ -301,13 +323,13 @@ fn good_highest(n: usize, highest: [MessageNumber; 7], greatest: [u8; 8]) -> boo
 fn good_controller(
     n: usize,
     count: usize,
-    messages: [Message; 64],
+    names: [Name; 64],
     allowed: &[bool; 256],
     sent: u8,
     c: Controller,
 ) -> bool
-    requires { ⌜ (n ≤ 7) × (count ≤ 64) × AllBounded count messages × (now allowed ≡ tabulate 256 goodMark) ⌝ }
-    ensures { λ r. ⌜ r ≡ goodAlone (part 0 n count messages) sent c ⌝ }
+    requires { ⌜ (n ≤ 7) × (count ≤ 64) × Seated count names × (now allowed ≡ tabulate 256 goodMark) ⌝ }
+    ensures { λ r. ⌜ r ≡ goodAlone (part 0 n count []) names sent c ⌝ }
 {
     let length = c.length;
     if Table::MESSAGES < length {
@@ -323,7 +345,7 @@ fn good_controller(
     let highest = c.highest;
     let running = 0 < c.running;
     let buffer = read_buffer(n, allowed, pending);
-    let greatest = greatest_numbers(count, messages, applied);
+    let greatest = greatest_numbers(count, names, applied);
     let held = buffer.held;
     let named = entries.named;
     let slots = good_slots(count, running, held, applied, named);
@@ -352,14 +374,15 @@ fn each_controller(
     ensures { λ r. ⌜ r ≡ all n (λ i. goodController (whole 0 n count messages controllers) (suc i) (at (whole 0 n count messages controllers) (suc i))) ⌝ }
 {
     let ends = lengths(controllers);
+    let named = names(count, messages);
     let every: [u8; 64] = [1; Table::MESSAGES];
-    let sent = greatest_numbers(count, messages, every);
+    let sent = greatest_numbers(count, named, every);
     let allowed = allowed_marks();
     for i in 0..n {
         let c = controllers[i];
         let read = c.read;
         let places = good_places(n, read, ends);
-        if !(places & good_controller(n, count, messages, &allowed, sent[i + 1], c)) {
+        if !(places & good_controller(n, count, named, &allowed, sent[i + 1], c)) {
             return false;
         }
     }

@@ -4,26 +4,25 @@ use Prim.Native.Nat.{_-_, _≤_}
 use native.Mathlib.Omega.{arith}
 use lib.ListN.{getD}
 use Rattle.lists.specs.Build.{tabulate}
-use Rattle.model.specs.Tables.{noMessage}
-use Rattle.validity.specs.Flags.{AllBounded, greatestOf}
+use Rattle.model.specs.Tables.{noName}
+use Rattle.validity.specs.Flags.{Seated, greatestOf}
 use Rattle.validity.proofs.Numbers.{none-passed, next-passed}
 use borrow.Author.Needs.{needs}
 use Rattle.validity.proofs.greatest_numbers.Statement.{statement}
 use Rattle.validity.proofs.greatest_numbers.Tie as tie
 
 abbrev Inv-loop : tie.InvT-loop
-Inv-loop count messages flags greatest₀ s₀ greatest s =
-    (s ≤ count) × (count ≤ 64) × AllBounded count messages × (greatest ≡ tabulate 8 (greatestOf s messages flags))
+Inv-loop count names flags greatest₀ s₀ greatest s = (s ≤ count) × (count ≤ 64) × Seated count names × (greatest ≡ tabulate 8 (greatestOf s names flags))
 
 abbrev μ-loop : tie.MeasureT-loop
-μ-loop count messages flags greatest₀ s₀ greatest s = count - s
+μ-loop count names flags greatest₀ s₀ greatest s = count - s
 
--- where the turn began, and that the message's sender is not above 7
+-- where the turn began, and that the name's sender is not above 7
 abbrev turn : tie.After-struct-known Inv-loop μ-loop → tie.At-loop Inv-loop μ-loop
 turn c = c .before .before .before
 
-seat : (c : tie.After-struct-known Inv-loop μ-loop) → getD (turn c .before .args .t2) (turn c .loop .s) noMessage .sender ≤ 7
-seat c = turn c .loop .inv .2 _ (c .before .before .loop-test .taken) .sender
+seat : (c : tie.After-struct-known Inv-loop μ-loop) → getD (turn c .before .args .t2) (turn c .loop .s) noName .sender ≤ 7
+seat c = turn c .loop .inv .2 _ (c .before .before .loop-test .taken)
 
 loop-holds : tie.Need-loop-holds Inv-loop μ-loop
 loop-holds c = (search needs, search needs, c .pre .1, none-passed _ _)
