@@ -1,7 +1,7 @@
 -- The clauses of one controller, from what was read of it and of the other controllers' logs; and the whole test, ranges
 -- first. Assumes nothing.
 use mathlib.Core.Path.{_≡_, refl, sym, ap, ap₂, _∙_}
-use mathlib.Core.Bool.{Bool, true, false, not, _&&_, _||_, Bool·beq}
+use mathlib.Core.Bool.{Bool, true, false, not, _&&_, _||_, and-assoc, and-comm, Bool·beq}
 use mathlib.Core.List.{List, []}
 use Prim.Native.Nat.{ℕ, zero, suc, _+_, _≤_, _<_}
 use native.Mathlib.Numerals.{add-one}
@@ -11,8 +11,8 @@ use lib.Dec.{eqb, leb, ltb}
 use borrow.Author.Tests.{ltb-true, leb-true, le-leb, lt-leb, not-true, not-false}
 use Rattle.lists.specs.Below.{all}
 use Rattle.lists.specs.Build.{tabulate}
-use Rattle.lists.proofs.Tests.{and-left, and-right}
-use Rattle.lists.proofs.Below.{all-at}
+use Rattle.lists.proofs.Tests.{and-left, and-right, both, bool-eq}
+use Rattle.lists.proofs.Below.{all-at, all-of}
 use Rattle.lists.proofs.Build.{getD-tabulate}
 use Rattle.model.specs.Tables.{none, noController, at, message, yes?, slotAt, place, held, applied, highest}
 use Rattle.model.specs.WellFormed.{inLog, greatestApplied, known, inRange, named, fairDate, keptWrite, goodMark, goodMessage, goodMessages, goodWrites, goodLog, goodPlaces, goodMarks, goodBuffer, goodHighest, goodRunning, goodController, wellFormed}
@@ -20,12 +20,15 @@ use Rattle.model.specs.declared.Message.{Message}
 use Rattle.model.specs.declared.Name.{Name}
 use Rattle.model.specs.declared.Controller.{Controller}
 use Rattle.model.specs.declared.Table.{Table}
+use Rattle.validity.specs.declared.WritesRead.{WritesRead}
 use Rattle.validity.specs.declared.LogRead.{LogRead}
 use Rattle.validity.specs.declared.BufferRead.{BufferRead}
 use Rattle.model.specs.Parts.{part, whole}
-use Rattle.validity.specs.Parts.{goodNumbers, goodAlone}
-use Rattle.validity.specs.Flags.{taken, goodEntries, ReadsLog, ReadsBuffer, goodSlot, slotTest, Named, Seated, greatestOf}
+use Rattle.validity.specs.Parts.{goodNumbers, goodAlone, keepsOwn, goodWith}
+use Rattle.validity.specs.Flags.{ReadsWrites, ownTest, taken, goodEntries, ReadsLog, ReadsBuffer, goodSlot, slotTest, Named, Seated, greatestOf}
 use Rattle.validity.proofs.Buffers.{slot, slots-are}
+use Rattle.validity.proofs.Messages.{all-named}
+use Rattle.validity.proofs.Writes.{kept-are}
 use Rattle.validity.proofs.Numbers.{greatest-named, long-enough}
 
 all-ext : (n : ℕ) (p q : ℕ → Bool) → ((k : ℕ) → k < n → p k ≡ q k) → all n p ≡ all n q
@@ -33,14 +36,22 @@ unfolding all
 all-ext zero p q f = refl
 all-ext (suc n) p q f = ap₂ _&&_ (f n (omega arith)) (all-ext n p q (λ k h. f k (omega arith)))
 
+all-both : (n : ℕ) (p q : ℕ → Bool) → all n (λ k. p k && q k) ≡ (all n p && all n q)
+all-both n p q =
+    bool-eq _ _ (λ e. both (all-of n p (λ k h. and-left _ _ (all-at n _ e k h))) (all-of n q (λ k h. and-right (p k) _ (all-at n _ e k h))))
+    (λ e. all-of n _ (λ k h. both (all-at n p (and-left _ _ e) k h) (all-at n q (and-right (all n p) _ e) k h)))
+
 -- ONE CONTROLLER
 
-module _ (n k : ℕ) (N : List Name) (sent : ℕ) (c : Controller) where
-  pub long-log : 64 < c .length → false ≡ goodAlone (part 0 n k []) N sent c
+module _ (n k : ℕ) (N : List Name) (sent : ℕ) (end : ℕ) (W : List ℕ) (i : ℕ) (c : Controller) where
+  abbrev asked : Bool
+  asked = goodAlone (part 0 n k []) N sent c && keepsOwn end W i c
+
+  pub long-log : 64 < c .length → false ≡ asked
   unfolding goodAlone goodLog
   long-log h = rw (lt-leb (c .length) 64 h)
 
-  pub bad-log : c .length ≤ 64 → goodEntries k (c .length) (c .log) ≡ false → false ≡ goodAlone (part 0 n k []) N sent c
+  pub bad-log : c .length ≤ 64 → goodEntries k (c .length) (c .log) ≡ false → false ≡ asked
   unfolding goodAlone goodLog goodEntries
   bad-log h e = rw (le-leb (c .length) 64 h, e)
 
@@ -82,14 +93,21 @@ module _ (n k : ℕ) (N : List Name) (sent : ℕ) (c : Controller) where
     unfolding goodAlone goodLog goodEntries
     logged-alone = rw (le-leb (c .length) 64 short, entries)
 
-    pub alone-is : (slots highest : Bool)
+    own-read : end ≤ 64 → all end (ownTest W i (yes? (c .running)) (b .held) (c .applied)) ≡ keepsOwn end W i c
+    unfolding keepsOwn
+    own-read h = all-ext end _ _ (λ s l. rw (buffered .held, getD-tabulate 64 (λ s. held c s) false s (omega arith)) refl)
+
+    pub asked-is : (slots highest kept : Bool)
         → slots ≡ all 64 (slotTest k (yes? (c .running)) (b .held) (c .applied) (e .named))
         → highest ≡ all n (λ x. eqb (getD (c .highest) x none .0) (getD G (x + 1) 0))
-        → ((b .good && slots) && (highest && (not (yes? (c .running)) || leb sent (c .length)))) ≡ goodAlone (part 0 n k []) N sent c
-    alone-is slots highest s h =
-        ap₂ (λ x y. x && (y && (not (yes? (c .running)) || leb sent (c .length))))
+        → end ≤ 64 → kept ≡ all end (ownTest W i (yes? (c .running)) (b .held) (c .applied))
+        → (((b .good && slots) && (highest && (not (yes? (c .running)) || leb sent (c .length)))) && kept) ≡ asked
+    asked-is slots highest kept s h l o =
+        ap₂ _&&_
+        (ap₂ (λ x y. x && (y && (not (yes? (c .running)) || leb sent (c .length))))
         (ap₂ _&&_ (buffered .good) (s ∙ slots-read) ∙ slots-are n k c fits logged) (h ∙ highest-read)
-        ∙ regroup (goodMarks (part 0 n k []) c) (goodBuffer (part 0 n k []) c) (goodNumbers (part 0 n k []) N c) (not (yes? (c .running))) _ _ ∙ logged-alone
+        ∙ regroup (goodMarks (part 0 n k []) c) (goodBuffer (part 0 n k []) c) (goodNumbers (part 0 n k []) N c) (not (yes? (c .running))) _ _ ∙ logged-alone)
+        (o ∙ own-read l)
 
 -- ITS READ POSITIONS AND WHAT IT SENT
 
@@ -128,24 +146,30 @@ module _ (n k : ℕ) (M : List Message) (C : List Controller) (few : n ≤ 7) (f
     joined i c = rw (numbers-are c, long-enough k M N i (c .length) names fits) (swap (goodPlaces (whole 0 n k M C) c) (goodLog (whole 0 n k M C) c) _)
 
 -- what is known when the controllers before place i are tested, of all messages with these names
-pub record Tested (n k : ℕ) (C : List Controller) (ends : List ℕ) (N : List Name) (sent : List ℕ) (allowed : List Bool) (i : ℕ) : Type 0 where
+pub record Tested (n k : ℕ) (writes : WritesRead) (C : List Controller) (ends : List ℕ) (N : List Name) (sent : List ℕ) (allowed : List Bool) (i : ℕ) : Type 0 where
   pub reached : i ≤ n
   pub few : n ≤ 7
   pub fits : k ≤ 64
+  pub inside : writes .end ≤ 64
   pub seats : Seated k N
   pub ends-are : ends ≡ logEnds C
   pub sent-are : sent ≡ tabulate 8 (greatestOf k N (replicate 64 1))
   pub allowed-are : allowed ≡ tabulate 256 goodMark
-  pub good : (M : List Message) → Named k M N → true ≡ all i (λ j. goodController (whole 0 n k M C) (suc j) (at (whole 0 n k M C) (suc j)))
+  pub good : (M : List Message) → Named k M N → true ≡ all i (λ j. goodWith (whole 0 n k M C) (writes .end) (writes .senders) (suc j))
 
-pub controller-is : (n k : ℕ) (M : List Message) (C : List Controller) (ends : List ℕ) (N : List Name) (sent : List ℕ) (allowed : List Bool) (i : ℕ) (places alone : Bool)
-    → Tested n k C ends N sent allowed i → Named k M N → i < n
+pub controller-is : (n k : ℕ) (M : List Message) (writes : WritesRead) (C : List Controller) (ends : List ℕ) (N : List Name) (sent : List ℕ) (allowed : List Bool) (i : ℕ) (places alone : Bool)
+    → Tested n k writes C ends N sent allowed i → Named k M N → i < n
     → places ≡ all n (λ o. leb (getD (getD C i noController .read) o 0) (getD ends o 0))
-    → alone ≡ goodAlone (part 0 n k []) N (getD sent (i + 1) 0) (getD C i noController)
-    → (places && alone) ≡ goodController (whole 0 n k M C) (suc i) (at (whole 0 n k M C) (suc i))
-controller-is n k M C ends N sent allowed i places alone t names h p a =
-    rw (p, t .ends-are, a, t .sent-are, getD-tabulate 8 (greatestOf k N (replicate 64 1)) 0 (i + 1) (omega (arith, t .few)), add-one i, places-are n k M C (t .few) (t .fits) (getD C i noController))
-    (joined n k M C (t .few) (t .fits) N names (suc i) (getD C i noController) ∙ ap (goodController (whole 0 n k M C) (suc i)) (at-next (whole 0 n k M C) i))
+    → alone ≡ (goodAlone (part 0 n k []) N (getD sent (i + 1) 0) (getD C i noController) && keepsOwn (writes .end) (writes .senders) (i + 1) (getD C i noController))
+    → (places && alone) ≡ goodWith (whole 0 n k M C) (writes .end) (writes .senders) (suc i)
+unfolding goodWith
+controller-is n k M writes C ends N sent allowed i places alone t names h p a =
+    let c = getD C i noController in
+    let own = keepsOwn (writes .end) (writes .senders) (suc i) c in
+    rw (p, t .ends-are, a, t .sent-are, getD-tabulate 8 (greatestOf k N (replicate 64 1)) 0 (i + 1) (omega (arith, t .few)), add-one i, places-are n k M C (t .few) (t .fits) c)
+    (sym (and-assoc (goodPlaces (whole 0 n k M C) c) _ own) ∙ and-comm _ own
+    ∙ ap (λ x. own && x) (joined n k M C (t .few) (t .fits) N names (suc i) c)
+    ∙ ap (λ d. keepsOwn (writes .end) (writes .senders) (suc i) d && goodController (whole 0 n k M C) (suc i) d) (at-next (whole 0 n k M C) i))
 
 -- THE WHOLE TEST
 
@@ -175,24 +199,28 @@ module _ (t : Table) where
     unfolding wellFormed inRange
     bad-messages m = rw (not-false inBounds e, sym whole-messages ∙ m)
 
-    -- no clause of a write reads the version or n, and none of a controller the version
-    whole-writes : goodWrites (whole 0 0 (t .count) (t .messages) (t .controllers)) ≡ goodWrites t
-    unfolding goodWrites keptWrite at message
-    whole-writes = refl
-
+    -- no clause of a controller or of its writes reads the version
     abbrev unversioned : Table
     unversioned = whole 0 (t .n) (t .count) (t .messages) (t .controllers)
 
-    all-alike : all (t .n) (λ i. goodController unversioned (suc i) (at unversioned (suc i))) ≡ all (t .n) (λ i. goodController t (suc i) (at t (suc i)))
-    unfolding goodController goodLog goodPlaces goodMarks goodBuffer goodHighest goodRunning greatestApplied at message
-    all-alike = refl
+    all-alike : (end : ℕ) (W : List ℕ) → all (t .n) (λ i. goodWith unversioned end W (suc i)) ≡ all (t .n) (λ i. goodWith t end W (suc i))
+    unfolding goodWith goodController goodLog goodPlaces goodMarks goodBuffer goodHighest goodRunning greatestApplied at message
+    all-alike end W = refl
 
-    module _ (m : goodMessages (part (t .version) (t .n) (t .count) (t .messages)) ≡ true) where
-      pub bad-writes : goodWrites (whole 0 0 (t .count) (t .messages) (t .controllers)) ≡ false → false ≡ wellFormed t
-      unfolding wellFormed inRange
-      bad-writes w = rw (not-false inBounds e, sym whole-messages ∙ m, sym whole-writes ∙ w)
+    all-split : (end : ℕ) (W : List ℕ)
+        → all (t .n) (λ i. goodWith t end W (suc i)) ≡ (all (t .n) (λ i. keepsOwn end W (suc i) (at t (suc i))) && all (t .n) (λ i. goodController t (suc i) (at t (suc i))))
+    unfolding goodWith
+    all-split end W = all-both (t .n) _ _
 
-      pub tested : goodWrites (whole 0 0 (t .count) (t .messages) (t .controllers)) ≡ true → (controllers : Bool)
-          → controllers ≡ all (t .n) (λ i. goodController unversioned (suc i) (at unversioned (suc i))) → controllers ≡ wellFormed t
-      unfolding wellFormed inRange
-      tested w controllers c = rw (not-false inBounds e, sym whole-messages ∙ m, sym whole-writes ∙ w) (c ∙ all-alike)
+    module _ (m : goodMessages (part (t .version) (t .n) (t .count) (t .messages)) ≡ true) (w : WritesRead) (r : ReadsWrites (t .count) (t .messages) w) where
+      kept : all (t .n) (λ i. keepsOwn (w .end) (w .senders) (suc i) (at t (suc i))) ≡ all (t .count) (keptWrite t)
+      kept = kept-are t (w .end) (w .senders) fits (r .wrote) (all-named _ _ _ _ m)
+
+      pub bad-writes : w .good ≡ false → false ≡ wellFormed t
+      unfolding wellFormed inRange goodWrites message
+      bad-writes g = rw (not-false inBounds e, sym whole-messages ∙ m, sym (r .good) ∙ g)
+
+      pub tested : w .good ≡ true → (controllers : Bool) → controllers ≡ all (t .n) (λ i. goodWith unversioned (w .end) (w .senders) (suc i)) → controllers ≡ wellFormed t
+      unfolding wellFormed inRange goodWrites message
+      tested g controllers c =
+          rw (not-false inBounds e, sym whole-messages ∙ m, sym (r .good) ∙ g, ← kept) (c ∙ all-alike (w .end) (w .senders) ∙ all-split (w .end) (w .senders))

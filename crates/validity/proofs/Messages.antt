@@ -114,3 +114,9 @@ module _ (v n k : ℕ) (M : List Message) where
     pub all-bounded : goodMessages (part v n k M) ≡ true → AllBounded k M
     unfolding goodMessages goodMessage named fairDate message
     all-bounded e s h = bounded s (all-at k _ (and-right (distinct k alike) _ e) s h)
+
+  pub all-named : goodMessages (part v n k M) ≡ true → (s : ℕ) → s < k → (0 < getD M s noMessage .sender) × (getD M s noMessage .sender ≤ n)
+  unfolding goodMessages goodMessage named message
+  all-named e s h =
+      let sender = and-left _ _ (all-at k _ (and-right (distinct k alike) _ e) s h) in
+      (ltb-true 0 (getD M s noMessage .sender) (and-left _ _ sender), leb-true (getD M s noMessage .sender) n (and-right (ltb 0 (getD M s noMessage .sender)) _ sender))

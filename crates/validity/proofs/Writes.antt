@@ -1,24 +1,26 @@
--- What one pass over the writes of a run tells: that their stamps are distinct, and that those of running controllers are kept. Assumes nothing.
-use mathlib.Core.Path.{_≡_, sym}
-use mathlib.Core.Bool.{Bool, true, false, not, _&&_, _||_, and-false, cond}
+-- What passes over the writes of a run tell: that their stamps are distinct, and who sent them, so that each controller is asked for its
+-- own. Assumes nothing.
+use mathlib.Core.Path.{_≡_, refl, sym, _∙_}
+use mathlib.Core.Bool.{Bool, true, false, _&&_, cond}
 use mathlib.Core.List.{List}
 use mathlib.Core.Logic.{_≢_}
-use Prim.Native.Nat.{ℕ, _+_, _-_, _*_, _<_}
+use Prim.Native.Nat.{ℕ, suc, _+_, _-_, _*_, _≤_, _<_}
 use native.Mathlib.Omega.{arith}
-use lib.ListN.{getD, set, replicate}
+use native.Mathlib.Decide.{ℕ-discrete, decLt}
+use lib.ListN.{length, getD, set, replicate, getD-replicate}
+use lib.Seq.{getD-set-same, getD-set-other}
 use lib.Dec.{eqb}
+use borrow.Author.Count.{below-more}
 use borrow.Author.Tests.{eqb-true, eq-eqb, ne-eqb}
-use Rattle.lists.specs.Below.{distinct}
-use Rattle.lists.proofs.Tests.{and-left, and-right, both, bool-eq}
-use Rattle.lists.proofs.Below.{all-of, distinct-of}
-use Rattle.lists.proofs.Clipped.{all-failed}
-use Rattle.model.specs.Tables.{yes?, noMessage, noController, at, message, held, applied}
-use Rattle.model.specs.WellFormed.{sameStamp, keptWrite, goodWrites}
+use Rattle.lists.specs.Below.{all, distinct}
+use Rattle.lists.proofs.Tests.{and-left, and-right, both, bool-eq, implies-at, implies-of}
+use Rattle.lists.proofs.Below.{all-at, all-of, distinct-of}
+use Rattle.model.specs.Tables.{noMessage, at, message}
+use Rattle.model.specs.WellFormed.{sameStamp, keptWrite}
 use Rattle.model.specs.declared.Message.{Message}
-use Rattle.model.specs.declared.Controller.{Controller}
 use Rattle.model.specs.declared.Table.{Table}
-use Rattle.model.specs.Parts.{whole}
-use Rattle.validity.specs.Flags.{Bounded}
+use Rattle.validity.specs.Flags.{Bounded, writerOf, Wrote}
+use Rattle.validity.specs.Parts.{keepsOwn}
 use Rattle.validity.proofs.Flags.{Read, none-read, passed-over, next-read, read-twice}
 
 -- A STAMP'S CODE, of its register too
@@ -56,21 +58,9 @@ stamp-alike a b ha hb w = rw (eq-eqb (a .payload .kind) 6 w) (go (eqb (b .payloa
         both (eq-eqb (a .sender) (b .sender) (omega arith)) (both (eq-eqb (a .payload .reg) (b .payload .reg) (omega arith)) (eq-eqb (a .date) (b .date) (omega arith))))
     go false = sym (ne-eqb (stampCode a) 4680 (λ p. omega (arith, stamp-small a ha)))
 
--- NO WRITE
-
-pub no-writes : (k : ℕ) (M : List Message) (C : List Controller) → ((s : ℕ) → s < k → getD M s noMessage .payload .kind ≢ 6) → true ≡ goodWrites (whole 0 0 k M C)
-unfolding goodWrites keptWrite sameStamp message
-no-writes k M C f =
-    sym
-    (both (distinct-of k _ (λ i j h l. rw (ne-eqb (getD M i noMessage .payload .kind) 6 (f i h))))
-    (all-of k _ (λ s h. rw (ne-eqb (getD M s noMessage .payload .kind) 6 (f s h)))))
-
 -- THE PASS
 
-module _ (k : ℕ) (M : List Message) (C : List Controller) where
-  abbrev table : Table
-  table = whole 0 0 k M C
-
+module _ (M : List Message) where
   abbrev sent : ℕ → Message
   sent s = getD M s noMessage
 
@@ -81,57 +71,107 @@ module _ (k : ℕ) (M : List Message) (C : List Controller) where
   alike i j = sameStamp (sent i) (sent j)
 
   abbrev Good : ℕ → Type 0
-  Good s = Bounded (sent s) × (keptWrite table s ≡ true)
+  Good s = Bounded (sent s)
 
-  -- the first s messages were read
-  unfoldable pub WritesRead : ℕ → List Bool → Type 0
-  WritesRead s seen = Read 4680 code alike Good s seen
+  -- the stamps of the first s messages were read
+  unfoldable pub StampsRead : ℕ → List Bool → Type 0
+  StampsRead s seen = Read 4680 code alike Good s seen
 
-  pub no-write : WritesRead 0 (replicate 4680 false)
-  unfolding WritesRead
-  no-write = none-read 4680 code alike Good
+  pub no-stamp : StampsRead 0 (replicate 4680 false)
+  unfolding StampsRead
+  no-stamp = none-read 4680 code alike Good
 
-  pub all-read : (seen : List Bool) → WritesRead k seen → true ≡ goodWrites table
-  unfolding WritesRead goodWrites message
-  all-read seen r = sym (both (r .apart) (all-of k _ (λ s h. r .good s h .1)))
+  pub all-apart : (k : ℕ) (seen : List Bool) → StampsRead k seen → true ≡ distinct k alike
+  unfolding StampsRead
+  all-apart k seen r = sym (r .apart)
 
-  module _ (s : ℕ) (seen : List Bool) (r : WritesRead s seen) (bounded : Bounded (sent s)) where
-    pub other-read : sent s .payload .kind ≢ 6 → WritesRead (s + 1) seen
-    unfolding WritesRead keptWrite sameStamp message
+  module _ (s : ℕ) (seen : List Bool) (r : StampsRead s seen) (bounded : Bounded (sent s)) where
+    pub other-read : sent s .payload .kind ≢ 6 → StampsRead (s + 1) seen
+    unfolding StampsRead sameStamp
     other-read w =
         let e = ne-eqb (sent s .payload .kind) 6 w in
-        passed-over 4680 code alike Good s seen r (bounded, rw e) (rw e (omega arith)) (λ j h. rw e)
+        passed-over 4680 code alike Good s seen r bounded (rw e (omega arith)) (λ j h. rw e)
 
-    -- a write of a controller that has it pending or applied while it runs, or not
     module _ (w : sent s .payload .kind ≡ 6) where
-      abbrev sender : Controller
-      sender = getD C (sent s .sender - 1) noController
-
-      abbrev keeps : Bool
-      keeps = not (yes? (sender .running)) || (held sender s || applied sender s)
-
-      kept : keptWrite table s ≡ keeps
-      unfolding keptWrite at message
-      kept = rw (eq-eqb (sent s .payload .kind) 6 w)
-
       coded : code s ≡ stampCode (sent s)
       coded = rw (eq-eqb (sent s .payload .kind) 6 w)
 
       told : (i : ℕ) → i < s → alike s i ≡ eqb (code s) (code i)
-      unfolding WritesRead
-      told i h = stamp-alike (sent s) (sent i) bounded (r .good i h .0) w
+      unfolding StampsRead
+      told i h = stamp-alike (sent s) (sent i) bounded (r .good i h) w
 
       small : code s < 4680
       small = rw coded (stamp-small (sent s) bounded)
 
-      pub not-kept : s < k → keeps ≡ false → false ≡ goodWrites table
-      unfolding goodWrites message
-      not-kept h e = rw (← all-failed k (keptWrite table) s h (rw kept e)) (sym (and-false (distinct k alike)))
+      pub stamp-read : getD seen (stampCode (sent s)) false ≡ false → StampsRead (s + 1) (set seen (stampCode (sent s)) true)
+      unfolding StampsRead
+      stamp-read f = rw (← coded) (next-read 4680 code alike Good s seen r small told bounded (rw coded f))
 
-      pub write-read : keeps ≡ true → getD seen (stampCode (sent s)) false ≡ false → WritesRead (s + 1) (set seen (stampCode (sent s)) true)
-      unfolding WritesRead
-      write-read e f = rw (← coded) (next-read 4680 code alike Good s seen r small told (bounded, rw kept e) (rw coded f))
+      pub stamp-twice : (k : ℕ) → s < k → getD seen (stampCode (sent s)) false ≡ true → false ≡ distinct k alike
+      unfolding StampsRead
+      stamp-twice k h f = sym (read-twice 4680 code alike Good s seen r small told k h (rw coded f))
 
-      pub stamp-twice : s < k → getD seen (stampCode (sent s)) false ≡ true → false ≡ goodWrites table
-      unfolding WritesRead goodWrites message
-      stamp-twice h f = rw (read-twice 4680 code alike Good s seen r small told k h (rw coded f))
+  -- WHO WROTE
+
+  pub none-wrote : Wrote 0 M 0 (replicate 64 0)
+  none-wrote = record { within = omega arith; senders = λ s h. absurd (omega arith); rest = λ s l h. getD-replicate {A = ℕ} 64 s 0 0 h }
+
+  module _ (s end : ℕ) (W : List ℕ) (fits : s < 64) (r : Wrote s M end W) where
+    pub other-wrote : sent s .payload .kind ≢ 6 → Wrote (s + 1) M end W
+    unfolding writerOf
+    other-wrote w = record {
+      within = omega (arith, r .within);
+      senders = below-more _ _ (r .senders) (r .rest s (r .within) fits ∙ rw (ne-eqb (sent s .payload .kind) 6 w) refl);
+      rest = r .rest;
+    }
+
+    pub write-wrote : length W ≡ 64 → sent s .payload .kind ≡ 6 → Wrote (s + 1) M (s + 1) (set W s (sent s .sender))
+    unfolding writerOf
+    write-wrote size w = record {
+      within = omega arith;
+      senders =
+          below-more _ _ (λ j h. getD-set-other W s j (sent s .sender) 0 (omega arith) ∙ r .senders j h)
+          (getD-set-same W s (sent s .sender) 0 (omega arith) ∙ rw (eq-eqb (sent s .payload .kind) 6 w) refl);
+      rest = λ j l h. getD-set-other W s j (sent s .sender) 0 (omega arith) ∙ r .rest j (omega (arith, r .within)) h;
+    }
+
+  -- WHAT THAT TELLS
+
+  module _ (k end : ℕ) (W : List ℕ) (fits : k ≤ 64) (r : Wrote k M end W) (low : (s : ℕ) → s < k → 0 < sent s .sender) where
+    -- a write stands before the end, with its sender
+    written : (s : ℕ) → s < k → sent s .payload .kind ≡ 6 → (s < end) × (getD W s 0 ≡ sent s .sender)
+    unfolding writerOf
+    written s h w =
+        let e : getD W s 0 ≡ sent s .sender = r .senders s h ∙ rw (eq-eqb (sent s .payload .kind) 6 w) refl in
+        (elim (decLt s end) [ yes l ↦ l | no l ↦ absurd (omega (arith, e, r .rest s (omega arith) (omega arith), low s h)) ], e)
+
+    -- and nothing else has a sender
+    writes : (s i : ℕ) → s < k → getD W s 0 ≡ suc i → Dec (sent s .payload .kind ≡ 6) → (sent s .payload .kind ≡ 6) × (sent s .sender ≡ suc i)
+    unfolding writerOf
+    writes s i h e (yes w) = (w, sym (written s h w .1) ∙ e)
+    writes s i h e (no w) =
+        let z : getD W s 0 ≡ 0 = r .senders s h ∙ rw (ne-eqb (sent s .payload .kind) 6 w) refl in
+        absurd (omega (arith, e, z))
+
+    pub no-writes : end ≡ 0 → true ≡ distinct k alike
+    unfolding sameStamp
+    no-writes z = sym (distinct-of k _ (λ i j h l. rw (ne-eqb (sent i .payload .kind) 6 (λ w. omega (arith, z, written i h w .0)))))
+
+-- every write is kept exactly if every controller keeps its own, where every sender is a controller of the run
+pub kept-are : (t : Table) (end : ℕ) (W : List ℕ) → t .count ≤ 64 → Wrote (t .count) (t .messages) end W
+    → ((s : ℕ) → s < t .count → (0 < getD (t .messages) s noMessage .sender) × (getD (t .messages) s noMessage .sender ≤ t .n))
+    → all (t .n) (λ i. keepsOwn end W (suc i) (at t (suc i))) ≡ all (t .count) (keptWrite t)
+unfolding keepsOwn keptWrite message
+kept-are t end W fits r from =
+    let m : ℕ → Message = λ s. getD (t .messages) s noMessage in
+    let low : (s : ℕ) → s < t .count → 0 < getD (t .messages) s noMessage .sender = λ s h. from s h .0 in
+    bool-eq _ _
+    (λ e. all-of (t .count) _ (λ s h. implies-of (eqb (m s .payload .kind) 6) _ (λ p.
+    let o = written (t .messages) (t .count) end W fits r low s h (eqb-true (m s .payload .kind) 6 p) in
+    let x : suc (m s .sender - 1) ≡ m s .sender = omega (arith, from s h .0) in
+    let own = all-at end _ (all-at (t .n) _ e (m s .sender - 1) (omega (arith, from s h .0, from s h .1))) s (o .0) in
+    implies-at (eqb (getD W s 0) (m s .sender)) _ (rw x at own) (eq-eqb (getD W s 0) (m s .sender) (o .1)))))
+    (λ e. all-of (t .n) _ (λ i h. all-of end _ (λ s l. implies-of (eqb (getD W s 0) (suc i)) _ (λ p.
+    let inside : s < t .count = omega (arith, r .within) in
+    let o = writes (t .messages) (t .count) end W fits r low s i inside (eqb-true (getD W s 0) (suc i) p) (ℕ-discrete (m s .payload .kind) 6) in
+    implies-at (eqb (m s .payload .kind) 6) _ (rw (o .1) at (all-at (t .count) (keptWrite t) e s inside)) (eq-eqb (m s .payload .kind) 6 (o .0))))))

@@ -9,10 +9,11 @@ use Rattle.lists.specs.Below.{count, all, distinct, greatest}
 use Rattle.lists.specs.Build.{tabulate}
 use Rattle.model.specs.Tables.{noName, noMessage, yes?, entry, mark}
 use Rattle.model.specs.Events.{nameOf}
-use Rattle.model.specs.WellFormed.{goodMark}
+use Rattle.model.specs.WellFormed.{sameStamp, goodMark}
 use Rattle.model.specs.declared.Message.{Message}
 use Rattle.model.specs.declared.Name.{Name}
 use Rattle.model.specs.declared.Pending.{Pending}
+use Rattle.validity.specs.declared.WritesRead.{WritesRead}
 use Rattle.validity.specs.declared.LogRead.{LogRead}
 use Rattle.validity.specs.declared.BufferRead.{BufferRead}
 
@@ -27,6 +28,24 @@ pub record Bounded (m : Message) : Type 0 where
 -- so are the first k messages
 abbrev pub AllBounded : ℕ → List Message → Type 0
 AllBounded k M = (s : ℕ) → s < k → Bounded (getD M s noMessage)
+
+-- the sender of a write, 0 for any other message
+unfoldable pub writerOf : Message → ℕ
+writerOf m = cond (eqb (m .payload .kind) 6) (m .sender) 0
+
+-- the senders of the writes among the first k messages, 0 where there is none, and so from the end on
+pub record Wrote (k : ℕ) (M : List Message) (end : ℕ) (W : List ℕ) : Type 0 where
+  pub within : end ≤ k
+  pub senders : (s : ℕ) → s < k → getD W s 0 ≡ writerOf (getD M s noMessage)
+  pub rest : (s : ℕ) → end ≤ s → s < 64 → getD W s 0 ≡ 0
+
+pub record ReadsWrites (k : ℕ) (M : List Message) (r : WritesRead) : Type 0 where
+  pub good : r .good ≡ distinct k (λ i j. sameStamp (getD M i noMessage) (getD M j noMessage))
+  pub wrote : Wrote k M (r .end) (r .senders)
+
+-- controller i, if it runs and sent the write of slot s, has it pending or applied
+abbrev pub ownTest : List ℕ → ℕ → Bool → List Bool → List ℕ → ℕ → Bool
+ownTest W i running H A s = not (eqb (getD W s 0) i) || (not running || (getD H s false || yes? (getD A s 0)))
 
 -- f takes the value j below k
 unfoldable pub taken : (ℕ → ℕ) → ℕ → ℕ → Bool

@@ -1,18 +1,18 @@
 // Question 4: whether a table is well formed. What a clause asks of every message, log entry or slot is read in one pass
 // into flags, so that no clause searches; a name, a stamp, a log entry and a sender each have a flag or a number of their own.
 ghost use mathlib.Core.Path.{_≡_};
-ghost use mathlib.Core.Bool.{not, _||_, cond};
+ghost use mathlib.Core.Bool.{_&&_, cond};
 ghost use mathlib.Core.List.{[]};
-ghost use Prim.Native.Nat.{suc, _+_, _≤_, _<_};
+ghost use Prim.Native.Nat.{suc, _+_, _≤_};
 ghost use lib.ListN.{getD};
 ghost use lib.Dec.{eqb, leb};
-ghost use Rattle.lists.specs.Below.{all};
+ghost use Rattle.lists.specs.Below.{all, distinct};
 ghost use Rattle.lists.specs.Build.{tabulate};
-ghost use Rattle.model.specs.Tables.{none, noController, at, yes?, held, applied};
-ghost use Rattle.model.specs.WellFormed.{fairDate, goodMessage, goodMessages, goodWrites, goodMark, goodController, wellFormed};
+ghost use Rattle.model.specs.Tables.{none, noMessage, noController, yes?};
+ghost use Rattle.model.specs.WellFormed.{fairDate, sameStamp, goodMessage, goodMessages, goodMark, wellFormed};
 ghost use Rattle.model.specs.Parts.{part, whole};
-ghost use Rattle.validity.specs.Parts.{goodAlone};
-ghost use Rattle.validity.specs.Flags.{AllBounded, ReadsLog, goodEntry, ReadsBuffer, goodSlot, slotTest, Named, Seated, greatestOf};
+ghost use Rattle.validity.specs.Parts.{keepsOwn, goodAlone, goodWith};
+ghost use Rattle.validity.specs.Flags.{AllBounded, ReadsWrites, ownTest, ReadsLog, goodEntry, ReadsBuffer, goodSlot, slotTest, Named, Seated, greatestOf};
 use model::Controller;
 use model::ForwardNumber;
 use model::Message;
@@ -82,21 +82,10 @@ const REGISTERS: usize = Panel::REGISTERS + 1;
 // A write's sender, register and date have a code of their own, below this.
 const STAMPS: usize = SENDERS * REGISTERS * NUMBERS;
 
-// Whether a controller that runs has a slot pending or applied.
-fn keeps(c: Controller, s: usize) -> bool
-    requires { ⌜ s < 64 ⌝ }
-    ensures { λ r. ⌜ r ≡ (not (yes? (c .running)) || (held c s || applied c s)) ⌝ }
-{
-    let held = c.pending[s].held;
-    let done = c.applied[s];
-    let running = 0 < c.running;
-    !running | ((0 < held) | (0 < done))
-}
-
-// No two writes of one sender and register have the same date, and a running controller has those that it sent pending or applied.
-fn each_write(count: usize, messages: [Message; 64], controllers: [Controller; 7]) -> bool
+// No two writes of one sender and register have the same date.
+fn each_write(count: usize, messages: [Message; 64]) -> bool
     requires { ⌜ (count ≤ 64) × AllBounded count messages ⌝ }
-    ensures { λ r. ⌜ r ≡ goodWrites (whole 0 0 count messages controllers) ⌝ }
+    ensures { λ r. ⌜ r ≡ distinct count (λ i j. sameStamp (getD messages i noMessage) (getD messages j noMessage)) ⌝ }
 {
     let mut stamps = [false; STAMPS];
     for s in 0..count {
@@ -104,10 +93,6 @@ fn each_write(count: usize, messages: [Message; 64], controllers: [Controller; 7
         let kind = m.payload.kind;
         if kind != Payload::WRITE {
             continue;
-        }
-        let i = m.sender as usize - 1;
-        if !keeps(controllers[i], s) {
-            return false;
         }
         let pair = (m.sender as usize) * REGISTERS + (m.payload.reg as usize);
         let code = pair * NUMBERS + (m.date as usize);
@@ -119,19 +104,60 @@ fn each_write(count: usize, messages: [Message; 64], controllers: [Controller; 7
     true
 }
 
-// The same, with flags and controllers looked at only where there is a write.
-fn good_writes(count: usize, messages: [Message; 64], controllers: [Controller; 7]) -> bool
+// Whether that is so; for each slot the sender of the write that is there, 0 where there is none; and where the slots with a write end.
+struct WritesRead {
+    good: bool,
+    end: usize,
+    senders: [u8; 64],
+}
+
+// Dates are looked at only where there is a write.
+fn read_writes(count: usize, messages: [Message; 64]) -> WritesRead
     requires { ⌜ (count ≤ 64) × AllBounded count messages ⌝ }
-    ensures { λ r. ⌜ r ≡ goodWrites (whole 0 0 count messages controllers) ⌝ }
+    ensures { λ r. ⌜ ReadsWrites count messages r ⌝ }
 {
+    let mut senders: [u8; 64] = [0; Table::MESSAGES];
+    let mut end: usize = 0;
     for s in 0..count {
         let m = messages[s];
         let kind = m.payload.kind;
-        if kind == Payload::WRITE {
-            return each_write(count, messages, controllers);
+        if kind != Payload::WRITE {
+            continue;
         }
+        senders[s] = m.sender;
+        end = s + 1;
     }
-    true
+    if end == 0 {
+        return WritesRead {
+            good: true,
+            end,
+            senders,
+        };
+    }
+    let good = each_write(count, messages);
+    WritesRead { good, end, senders }
+}
+
+// A running controller has each write that it sent pending or applied.
+fn own_kept(
+    writes: WritesRead,
+    who: usize,
+    running: bool,
+    held: [bool; 64],
+    applied: [u8; 64],
+) -> bool
+    requires { ⌜ writes .end ≤ 64 ⌝ }
+    ensures { λ r. ⌜ r ≡ all (writes .end) (ownTest (writes .senders) who running held applied) ⌝ }
+{
+    let end = writes.end;
+    let senders = writes.senders;
+    let mut good = true;
+    for s in 0..end {
+        let own = (senders[s] as usize) == who;
+        let known = held[s] | (0 < applied[s]);
+        good = (!own | (!running | known)) & good;
+    }
+    good
 }
 
 // LOGS
@@ -319,17 +345,19 @@ fn good_highest(n: usize, highest: [MessageNumber; 7], greatest: [u8; 8]) -> boo
 
 // THE TEST
 
-// A controller, whose greatest number sent is known; its read positions are tested where the other logs are at hand.
+// A controller, whose greatest number sent is known, and its writes; its read positions are tested where the other logs are at hand.
 fn good_controller(
     n: usize,
     count: usize,
     names: [Name; 64],
     allowed: &[bool; 256],
     sent: u8,
+    writes: WritesRead,
+    who: usize,
     c: Controller,
 ) -> bool
-    requires { ⌜ (n ≤ 7) × (count ≤ 64) × Seated count names × (now allowed ≡ tabulate 256 goodMark) ⌝ }
-    ensures { λ r. ⌜ r ≡ goodAlone (part 0 n count []) names sent c ⌝ }
+    requires { ⌜ (n ≤ 7) × (count ≤ 64) × Seated count names × (now allowed ≡ tabulate 256 goodMark) × (writes .end ≤ 64) ⌝ }
+    ensures { λ r. ⌜ r ≡ (goodAlone (part 0 n count []) names sent c && keepsOwn (writes .end) (writes .senders) who c) ⌝ }
 {
     let length = c.length;
     if Table::MESSAGES < length {
@@ -350,7 +378,8 @@ fn good_controller(
     let named = entries.named;
     let slots = good_slots(count, running, held, applied, named);
     let long = !running | ((sent as usize) <= length);
-    (buffer.good & slots) & (good_highest(n, highest, greatest) & long)
+    let kept = own_kept(writes, who, running, held, applied);
+    ((buffer.good & slots) & (good_highest(n, highest, greatest) & long)) & kept
 }
 
 fn lengths(controllers: [Controller; 7]) -> [usize; 7]
@@ -368,10 +397,11 @@ fn each_controller(
     n: usize,
     count: usize,
     messages: [Message; 64],
+    writes: WritesRead,
     controllers: [Controller; 7],
 ) -> bool
-    requires { ⌜ (n ≤ 7) × (count ≤ 64) × AllBounded count messages ⌝ }
-    ensures { λ r. ⌜ r ≡ all n (λ i. goodController (whole 0 n count messages controllers) (suc i) (at (whole 0 n count messages controllers) (suc i))) ⌝ }
+    requires { ⌜ (n ≤ 7) × (count ≤ 64) × AllBounded count messages × (writes .end ≤ 64) ⌝ }
+    ensures { λ r. ⌜ r ≡ all n (λ i. goodWith (whole 0 n count messages controllers) (writes .end) (writes .senders) (suc i)) ⌝ }
 {
     let ends = lengths(controllers);
     let named = names(count, messages);
@@ -382,15 +412,15 @@ fn each_controller(
         let c = controllers[i];
         let read = c.read;
         let places = good_places(n, read, ends);
-        if !(places & good_controller(n, count, named, &allowed, sent[i + 1], c)) {
+        let who = i + 1;
+        if !(places & good_controller(n, count, named, &allowed, sent[who], writes, who, c)) {
             return false;
         }
     }
     true
 }
 
-// Ranges first, so that no clause reads past an array. An array that is handed to two functions is copied once more, so the controllers
-// are taken out for each.
+// Ranges first, so that no clause reads past an array.
 pub fn well_formed(t: Table) -> bool
     ensures { λ r. ⌜ r ≡ wellFormed t ⌝ }
 {
@@ -405,10 +435,10 @@ pub fn well_formed(t: Table) -> bool
     if !good_messages(version, n, count, messages) {
         return false;
     }
-    let senders = t.controllers;
-    if !good_writes(count, messages, senders) {
+    let writes = read_writes(count, messages);
+    if !writes.good {
         return false;
     }
     let controllers = t.controllers;
-    each_controller(n, count, messages, controllers)
+    each_controller(n, count, messages, writes, controllers)
 }

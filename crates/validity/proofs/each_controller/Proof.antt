@@ -7,23 +7,22 @@ use native.Mathlib.Omega.{arith}
 use borrow.Author.Tests.{not-true, not-false}
 use Rattle.lists.proofs.Loops.{all-start, all-turn, all-end}
 use Rattle.lists.proofs.Clipped.{all-failed}
-use Rattle.model.specs.Tables.{at}
-use Rattle.model.specs.WellFormed.{goodController}
 use Rattle.model.specs.declared.Message.{Message}
 use Rattle.model.specs.declared.Table.{Table}
 use Rattle.model.specs.Parts.{whole}
 use Rattle.validity.proofs.Numbers.{seated}
 use Rattle.validity.proofs.Controllers.{Tested, controller-is}
 use Rattle.validity.specs.Flags.{Named, Seated}
+use Rattle.validity.specs.Parts.{goodWith}
 use borrow.Author.Needs.{needs}
 use Rattle.validity.proofs.each_controller.Statement.{statement}
 use Rattle.validity.proofs.each_controller.Tie as tie
 
 abbrev Inv-loop : tie.InvT-loop
-Inv-loop n count controllers ends named sent allowed i₀ i = Tested n count controllers ends named sent allowed i
+Inv-loop n count writes controllers ends named sent allowed i₀ i = Tested n count writes controllers ends named sent allowed i
 
 abbrev μ-loop : tie.MeasureT-loop
-μ-loop n count controllers ends named sent allowed i₀ i = n - i
+μ-loop n count writes controllers ends named sent allowed i₀ i = n - i
 
 -- where the turn began
 abbrev turn : tie.After-allowed Inv-loop μ-loop → tie.At-loop Inv-loop μ-loop
@@ -35,12 +34,12 @@ listed c = c .before .before .before
 
 -- the table with messages of these names, and what the turn tests of it
 abbrev table : tie.After-good-controller Inv-loop μ-loop → List Message → Table
-table c M = let a = listed (turn (c .before)) .before .before .args in whole 0 (a .n) (a .count) M (a .t4)
+table c M = let a = listed (turn (c .before)) .before .before .args in whole 0 (a .n) (a .count) M (a .t5)
 
 tested : (c : tie.After-good-controller Inv-loop μ-loop) (M : List Message) → Named (table c M .count) M (listed (turn (c .before)) .names .result)
     → (c .before .before .good-places .result && c .good-controller .result)
-    ≡ goodController (table c M) (suc (turn (c .before) .loop .i)) (at (table c M) (suc (turn (c .before) .loop .i)))
-tested c M named = controller-is _ _ _ _ _ _ _ _ _ _ _ (turn (c .before) .loop .inv) named (search needs) (c .before .before .good-places .ensures) (c .good-controller .ensures)
+    ≡ (let w = listed (turn (c .before)) .before .before .args .writes in goodWith (table c M) (w .end) (w .senders) (suc (turn (c .before) .loop .i)))
+tested c M named = controller-is _ _ _ _ _ _ _ _ _ _ _ _ (turn (c .before) .loop .inv) named (search needs) (c .before .before .good-places .ensures) (c .good-controller .ensures)
 
 lengths-requires : tie.Need-lengths-requires Inv-loop μ-loop
 lengths-requires c κs = search needs
@@ -66,6 +65,7 @@ loop-holds c =
       reached = search needs;
       few = a .pre .0;
       fits = a .pre .1;
+      inside = a .pre .3;
       seats = seats m;
       ends-are = m .before .lengths .ensures;
       sent-are = c .before .greatest-numbers .ensures;
@@ -82,14 +82,14 @@ array-copy-out-c c = search needs
 good-places-requires : tie.Need-good-places-requires Inv-loop μ-loop
 good-places-requires c κs = search needs
 
-add-good-controller : tie.Need-add-good-controller Inv-loop μ-loop
-add-good-controller c = search needs
+add-who : tie.Need-add-who Inv-loop μ-loop
+add-who c = search needs
 
 array-read-good-controller : tie.Need-array-read-good-controller Inv-loop μ-loop
 array-read-good-controller c = search needs
 
 good-controller-requires : tie.Need-good-controller-requires Inv-loop μ-loop
-good-controller-requires c κs = let t = turn c .loop .inv in (t .few, t .fits, t .seats, t .allowed-are)
+good-controller-requires c κs = let t = turn c .loop .inv in (t .few, t .fits, t .seats, t .allowed-are, t .inside)
 
 returns : tie.Need-returns Inv-loop μ-loop
 returns c = all-failed _ _ _ (search needs) (sym (tested (c .before) _ (listed (turn (c .before .before)) .names .ensures)) ∙ not-true _ (c .if1 .taken))
@@ -107,6 +107,7 @@ loop-again c =
       reached = search needs;
       few = t .few;
       fits = t .fits;
+      inside = t .inside;
       seats = t .seats;
       ends-are = t .ends-are;
       sent-are = t .sent-are;
@@ -131,7 +132,7 @@ each-controller-spec =
     mul-c
     array-copy-out-c
     good-places-requires
-    add-good-controller
+    add-who
     array-read-good-controller
     good-controller-requires
     returns

@@ -1,41 +1,33 @@
 -- `each_write` tests the writes of a run, each once. Assumes nothing.
-use mathlib.Core.Path.{_≡_, sym, _∙_}
+use mathlib.Core.Path.{_≡_}
 use Prim.Native.Nat.{_-_, _≤_}
 use native.Mathlib.Omega.{arith}
 use lib.ListN.{getD}
 use borrow.Author.Needs.{needs}
-use borrow.Author.Tests.{not-true, not-false}
 use Rattle.model.specs.Tables.{noMessage}
 use Rattle.validity.specs.Flags.{Bounded, AllBounded}
-use Rattle.validity.proofs.Writes.{WritesRead, stamp-small, no-write, all-read, other-read, not-kept, write-read, stamp-twice}
+use Rattle.validity.proofs.Writes.{StampsRead, stamp-small, no-stamp, all-apart, other-read, stamp-read, stamp-twice}
 use Rattle.validity.proofs.each_write.Statement.{statement}
 use Rattle.validity.proofs.each_write.Tie as tie
 
 abbrev Inv-loop : tie.InvT-loop
-Inv-loop count messages controllers stamps₀ s₀ stamps s = (s ≤ count) × (count ≤ 64) × AllBounded count messages × WritesRead count messages controllers s stamps
+Inv-loop count messages stamps₀ s₀ stamps s = (s ≤ count) × (count ≤ 64) × AllBounded count messages × StampsRead messages s stamps
 
 abbrev μ-loop : tie.MeasureT-loop
-μ-loop count messages controllers stamps₀ s₀ stamps s = count - s
+μ-loop count messages stamps₀ s₀ stamps s = count - s
 
--- from behind the message that a turn reads to the turn; from behind the test of what is kept, and from behind the code, to the test of
--- the kind
+-- from behind the message that a turn reads to the turn, and from behind the code to the test of the kind
 abbrev turn : tie.After-m Inv-loop μ-loop → tie.At-loop Inv-loop μ-loop
 turn c = c .before .before
 
-abbrev written : tie.After-keeps Inv-loop μ-loop → tie.Else1 Inv-loop μ-loop
-written c = c .before .before .before
-
-abbrev kept : tie.After-struct-known4 Inv-loop μ-loop → tie.Else2 Inv-loop μ-loop
-kept c = c .before .before .before
-
-abbrev coded : tie.After-struct-known4 Inv-loop μ-loop → tie.Else1 Inv-loop μ-loop
-coded c = written (kept c .before)
+abbrev coded : tie.After-struct-known3 Inv-loop μ-loop → tie.Else1 Inv-loop μ-loop
+coded c = c .before .before .before
 
 bounded : (c : tie.After-m Inv-loop μ-loop) → Bounded (getD (turn c .before .args .t2) (turn c .loop .s) noMessage)
 bounded c = turn c .loop .inv .2 _ (c .before .loop-test .taken)
 
 loop-holds : tie.Need-loop-holds Inv-loop μ-loop
-loop-holds c = (search needs, search needs, c .pre .1, no-write _ _ _)
+loop-holds c = (search needs, search needs, c .pre .1, no-stamp _)
 
 mul-m : tie.Need-mul-m Inv-loop μ-loop
 mul-m c = search needs
@@ -52,27 +44,7 @@ loop-less c = search needs
 loop-again : tie.Need-loop-again Inv-loop μ-loop
 loop-again c =
     let t = turn (c .before) .loop .inv in
-    (search needs, search needs, t .2, other-read _ _ _ _ _ (t .3) (bounded (c .before)) (c .if1 .taken))
-
-cast-i : tie.Need-cast-i Inv-loop μ-loop
-cast-i c = search needs
-
-sub-i : tie.Need-sub-i Inv-loop μ-loop
-sub-i c = bounded (c .before .before) .low
-
-mul-keeps : tie.Need-mul-keeps Inv-loop μ-loop
-mul-keeps c = search needs
-
-array-copy-out-keeps : tie.Need-array-copy-out-keeps Inv-loop μ-loop
-array-copy-out-keeps c = let b = bounded (c .before .before) in omega (arith, b .low, b .sender)
-
-keeps-requires : tie.Need-keeps-requires Inv-loop μ-loop
-keeps-requires c κs = search needs
-
-returns : tie.Need-returns Inv-loop μ-loop
-returns c =
-    let w = written (c .before) in
-    not-kept _ _ _ _ _ (turn (w .before) .loop .inv .3) (bounded (w .before)) (w .if1 .left) (search needs) (sym (c .before .keeps .ensures) ∙ not-true _ (c .if2 .taken))
+    (search needs, search needs, t .2, other-read _ _ _ (t .3) (bounded (c .before)) (c .if1 .taken))
 
 cast-pair : tie.Need-cast-pair Inv-loop μ-loop
 cast-pair c = search needs
@@ -95,13 +67,13 @@ cast-code c = search needs
 add-code : tie.Need-add-code Inv-loop μ-loop
 add-code c = search needs
 
-array-read-if3 : tie.Need-array-read-if3 Inv-loop μ-loop
-array-read-if3 c = stamp-small _ (bounded (coded c .before))
+array-read-if2 : tie.Need-array-read-if2 Inv-loop μ-loop
+array-read-if2 c = stamp-small _ (bounded (coded c .before))
 
-returns-2 : tie.Need-returns-2 Inv-loop μ-loop
-returns-2 c =
+returns : tie.Need-returns Inv-loop μ-loop
+returns c =
     let w = coded (c .before) in
-    stamp-twice _ _ _ _ _ (turn (w .before) .loop .inv .3) (bounded (w .before)) (w .if1 .left) (search needs) (c .if3 .taken)
+    stamp-twice _ _ _ (turn (w .before) .loop .inv .3) (bounded (w .before)) (w .if1 .left) _ (search needs) (c .if2 .taken)
 
 array-write-stamps : tie.Need-array-write-stamps Inv-loop μ-loop
 array-write-stamps c = stamp-small _ (bounded (coded (c .before) .before))
@@ -115,12 +87,11 @@ loop-less-2 c = search needs
 loop-again-2 : tie.Need-loop-again-2 Inv-loop μ-loop
 loop-again-2 c =
     let w = coded (c .before) in
-    let k = kept (c .before) in
     let t = turn (w .before) .loop .inv in
-    (search needs, search needs, t .2, write-read _ _ _ _ _ (t .3) (bounded (w .before)) (w .if1 .left) (sym (k .before .keeps .ensures) ∙ not-false _ (k .if2 .left)) (c .if3 .left))
+    (search needs, search needs, t .2, stamp-read _ _ _ (t .3) (bounded (w .before)) (w .if1 .left) (c .if2 .left))
 
-returns-3 : tie.Need-returns-3 Inv-loop μ-loop
-returns-3 c = let e : c .before .loop .s ≡ c .before .before .args .count = omega arith in all-read _ _ _ _ (rw e at (c .before .loop .inv .3))
+returns-2 : tie.Need-returns-2 Inv-loop μ-loop
+returns-2 c = let e : c .before .loop .s ≡ c .before .before .args .count = omega arith in all-apart _ _ _ (rw e at (c .before .loop .inv .3))
 
 pub each-write-spec : {M : Type 1} → statement M
 each-write-spec =
@@ -134,12 +105,6 @@ each-write-spec =
     add-s
     loop-less
     loop-again
-    cast-i
-    sub-i
-    mul-keeps
-    array-copy-out-keeps
-    keeps-requires
-    returns
     cast-pair
     mul-pair
     cast-pair-2
@@ -147,10 +112,10 @@ each-write-spec =
     mul-code
     cast-code
     add-code
-    array-read-if3
-    returns-2
+    array-read-if2
+    returns
     array-write-stamps
     add-s-2
     loop-less-2
     loop-again-2
-    returns-3)
+    returns-2)

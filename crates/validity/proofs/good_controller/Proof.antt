@@ -2,7 +2,7 @@
 use mathlib.Core.Path.{sym, _∙_}
 use Prim.Native.Nat.{_≤_}
 use borrow.Author.Tests.{not-true, not-false}
-use Rattle.validity.proofs.Controllers.{long-log, bad-log, alone-is}
+use Rattle.validity.proofs.Controllers.{long-log, bad-log, asked-is}
 use borrow.Author.Needs.{needs}
 use Rattle.validity.proofs.good_controller.Statement.{statement}
 use Rattle.validity.proofs.good_controller.Tie as tie
@@ -24,7 +24,7 @@ short : (c : tie.After-read-log) → begun c .args .c .length ≤ 64
 short c = c .before .before .if1 .left
 
 returns : tie.Need-returns
-returns c = long-log _ _ _ _ _ (c .if1 .taken)
+returns c = long-log _ _ _ _ _ _ _ _ (c .if1 .taken)
 
 read-log-requires : tie.Need-read-log-requires
 read-log-requires c κs = search needs
@@ -32,7 +32,7 @@ read-log-requires c κs = search needs
 returns-2 : tie.Need-returns-2
 returns-2 c =
     let l = c .before .before in
-    bad-log _ _ _ _ _ (short l) (sym (l .read-log .ensures .good) ∙ not-true _ (c .if2 .taken))
+    bad-log _ _ _ _ _ _ _ _ (short l) (sym (l .read-log .ensures .good) ∙ not-true _ (c .if2 .taken))
 
 read-buffer-requires : tie.Need-read-buffer-requires
 read-buffer-requires c κs = search needs
@@ -43,17 +43,21 @@ greatest-numbers-requires c κs = let a = begun (logged (sound c)) in (a .pre .1
 good-slots-requires : tie.Need-good-slots-requires
 good-slots-requires c κs = search needs
 
+own-kept-requires : tie.Need-own-kept-requires
+own-kept-requires c κs = search needs
+
 good-highest-requires : tie.Need-good-highest-requires
 good-highest-requires c κs = search needs
 
 returns-3 : tie.Need-returns-3
 returns-3 c =
-    let s = c .before .before in
+    let k = c .before .before in
+    let s = k .before in
     let g = counted s in
     let b = g .before in
     let l = logged (sound b) in
-    alone-is _ _ _ _ _ (begun l .pre .0) (begun l .pre .1) (short l) _ (l .read-log .ensures) (not-false _ (sound b .if2 .left))
-    _ (b .read-buffer .ensures) _ (g .greatest-numbers .ensures) _ _ (s .good-slots .ensures) (c .good-highest .ensures)
+    asked-is _ _ _ _ _ _ _ _ (begun l .pre .0) (begun l .pre .1) (short l) _ (l .read-log .ensures) (not-false _ (sound b .if2 .left))
+    _ (b .read-buffer .ensures) _ (g .greatest-numbers .ensures) _ _ _ (s .good-slots .ensures) (c .good-highest .ensures) (begun l .pre .4) (k .own-kept .ensures)
 
 pub good-controller-spec : {M : Type 1} → statement M
 good-controller-spec =
@@ -65,5 +69,6 @@ good-controller-spec =
     read-buffer-requires
     greatest-numbers-requires
     good-slots-requires
+    own-kept-requires
     good-highest-requires
     returns-3)

@@ -1,6 +1,7 @@
 -- `well_formed` is the test of question 4, on every table. Assumes nothing.
 use mathlib.Core.Path.{_≡_, sym, _∙_}
 use mathlib.Core.Bool.{true, false, not}
+use native.Mathlib.Omega.{arith}
 use borrow.Author.Needs.{needs}
 use borrow.Author.Tests.{not-true, not-false}
 use Rattle.model.specs.WellFormed.{goodMessages}
@@ -12,11 +13,11 @@ use Rattle.validity.proofs.Controllers.{inBounds, out-of-range, few, fi
 use Rattle.validity.proofs.well_formed.Statement.{statement}
 use Rattle.validity.proofs.well_formed.Tie as tie
 
--- from behind the test of the messages to the messages, and from behind that of the writes to behind the former
+-- from behind the test of the messages to the messages, and from behind that of the writes to where these were read
 abbrev read : tie.Else2 → tie.After-messages
 read c = c .before .before
 
-abbrev told : tie.After-good-writes → tie.Else2
+abbrev told : tie.Else3 → tie.After-read-writes
 told c = c .before .before
 
 -- the table, its ranges, and its messages once they are tested
@@ -44,24 +45,26 @@ good-messages-requires c κs = (few (table c) (ranged c), fits (table c) (ranged
 returns-2 : tie.Need-returns-2
 returns-2 c = bad-messages _ (ranged (c .before .before)) (sym (c .before .good-messages .ensures) ∙ not-true _ (c .if2 .taken))
 
-good-writes-requires : tie.Need-good-writes-requires
-good-writes-requires c κs = let m = c .before in (fits (table (read m)) (ranged (read m)), bounded m)
+read-writes-requires : tie.Need-read-writes-requires
+read-writes-requires c κs = (fits (table (read c)) (ranged (read c)), bounded c)
 
 returns-3 : tie.Need-returns-3
 returns-3 c =
-    let m = told (c .before) in
-    bad-writes _ (ranged (read m)) (good m) (sym (c .before .good-writes .ensures) ∙ not-true _ (c .if3 .taken))
+    let w = c .before .before in
+    bad-writes _ (ranged (read (w .before))) (good (w .before)) _ (w .read-writes .ensures) (not-true _ (c .if3 .taken))
 
 each-controller-requires : tie.Need-each-controller-requires
 each-controller-requires c κs =
-    let m = told (c .before .before) in
-    (few (table (read m)) (ranged (read m)), fits (table (read m)) (ranged (read m)), bounded m)
+    let w = told (c .before) in
+    let m = w .before in
+    let short = fits (table (read m)) (ranged (read m)) in
+    (few (table (read m)) (ranged (read m)), short, bounded m, omega (arith, w .read-writes .ensures .wrote .within, short))
 
 returns-4 : tie.Need-returns-4
 returns-4 c =
-    let w = c .before .before in
-    let m = told (w .before) in
-    tested _ (ranged (read m)) (good m) (sym (w .before .good-writes .ensures) ∙ not-false _ (w .if3 .left)) _ (c .each-controller .ensures)
+    let e = c .before .before in
+    let w = told e in
+    tested _ (ranged (read (w .before))) (good (w .before)) _ (w .read-writes .ensures) (not-false _ (e .if3 .left)) _ (c .each-controller .ensures)
 
 pub well-formed-spec : {M : Type 1} → statement M
 well-formed-spec =
@@ -71,7 +74,7 @@ well-formed-spec =
     returns
     good-messages-requires
     returns-2
-    good-writes-requires
+    read-writes-requires
     returns-3
     each-controller-requires
     returns-4)
