@@ -416,7 +416,7 @@ void furnacejade_fresh(size_t version, size_t n, furnacejade_fresh_answer *answe
  * 10, to a write 19, behind 8, and 20, behind 12. Returns how many bytes are left: the unread rest is the last so many of
  * bytes. An accepted event leaves the table as the rules say and the first 4,096 scratch bytes zero. A refused one leaves
  * table and scratch as they were, and the record in the rest: a loop that goes on must step over it, by 1 + its length byte.
- * Takes 29 KB of stack.
+ * Takes 24 KB of stack.
  *
  *     uint8_t record[6];
  *     size_t length = furnacejade_put_classed_report(record, sizeof record, 1, 30, FURNACEJADE_CLASS_XL);
@@ -428,7 +428,7 @@ void furnacejade_fresh(size_t version, size_t n, furnacejade_fresh_answer *answe
 size_t furnacejade_event(furnacejade_table *t, const uint8_t *bytes, size_t bytes_length, uint8_t *scratch, size_t scratch_length, furnacejade_answer *answer);
 
 /* A panel look at controller c, 1 to n, running or stopped. Questions 4 and 8 are put. Nothing but the answer is written.
- * Takes 27 KB of stack.
+ * Takes 21 KB of stack.
  *
  *     furnacejade_look_answer look;
  *     furnacejade_look(table, 2, &look);
@@ -444,7 +444,7 @@ void furnacejade_look(const furnacejade_table *t, size_t c, furnacejade_look_ans
  * each set applied, are written into the listing from the start on; the bytes behind them stay. A local read counts as an
  * event and has no line. Also where a record is refused, the listing keeps the lines before it, the answer has the table that
  * they left, and the first 4,096 scratch bytes are zero if any event was accepted. A file refused by questions 1 to 3 changes
- * neither listing nor scratch. Takes 23 KB of stack.
+ * neither listing nor scratch. Takes 17 KB of stack.
  *
  *     static uint8_t listing[FURNACEJADE_LISTING];
  *     furnacejade_run(file, size, listing, sizeof listing, scratch, sizeof scratch, &run);
