@@ -14,9 +14,15 @@ use Rattle.events.proofs.Subjects.{subject-seated, sent-length, stored-
 use Rattle.events.proofs.effects.stored.Statement.{statement}
 use Rattle.events.proofs.effects.stored.Tie as tie
 
--- PLACES: from behind the message to behind the test of the kind, and from there to the start
+-- PLACES: from behind the message to behind its number, to behind the test of the kind, and from there to the start
+abbrev numbered : tie.After-of2 → tie.After-of
+numbered c = c .before .before .before .before
+
+abbrev told : tie.After-of → tie.After-e
+told c = c .before .before .before
+
 abbrev kind : tie.After-of2 → tie.After-e
-kind c = c .before .before .before .before .before .before .before
+kind c = told (numbered c)
 
 abbrev start : tie.After-e → tie.Start
 start c = c .before .before .before
@@ -59,7 +65,7 @@ of-requires : tie.Need-of-requires
 of-requires c κs = search needs
 
 date-of-requires : tie.Need-date-of-requires
-date-of-requires c κs = let k = c .before .before .before .before .before in (formed-dated _ (leaves k .0 .0), room k .register)
+date-of-requires c κs = let k = told (c .before .before) in (formed-dated _ (leaves k .0 .0), room k .register)
 
 of-requires-2 : tie.Need-of-requires-2
 of-requires-2 c κs = search needs

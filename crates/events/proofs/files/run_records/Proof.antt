@@ -33,9 +33,15 @@ Inv-loop bytes listing₀ scratch₀ version n table₀ left₀ cursor₀ listin
 abbrev μ-loop : tie.MeasureT-loop
 μ-loop bytes listing₀ scratch₀ version n table₀ left₀ cursor₀ listing scratch table left cursor = length left
 
--- PLACES: from behind the message to the test of the kind, what was stored, the bytes left and the turn
+-- PLACES: from behind the message to its number, the test of the kind, what was stored, the bytes left and the turn
+abbrev numbered : tie.After-of2 Inv-loop μ-loop → tie.After-of Inv-loop μ-loop
+numbered c = c .before .before .before .before
+
+abbrev told : tie.After-of Inv-loop μ-loop → tie.After-e Inv-loop μ-loop
+told c = c .before .before .before
+
 abbrev kind : tie.After-of2 Inv-loop μ-loop → tie.After-e Inv-loop μ-loop
-kind c = c .before .before .before .before .before .before .before
+kind c = told (numbered c)
 
 abbrev kept : tie.After-e Inv-loop μ-loop → tie.After-c Inv-loop μ-loop
 kept c = c .before .before
@@ -226,7 +232,7 @@ of-requires : tie.Need-of-requires Inv-loop μ-loop
 of-requires c κs = search needs
 
 date-of-requires : tie.Need-date-of-requires Inv-loop μ-loop
-date-of-requires c κs = let k = c .before .before .before .before .before in (formed-dated _ (sends k .0 .0), room k .register)
+date-of-requires c κs = let k = told (c .before .before) in (formed-dated _ (sends k .0 .0), room k .register)
 
 of-requires-2 : tie.Need-of-requires-2 Inv-loop μ-loop
 of-requires-2 c κs = search needs
