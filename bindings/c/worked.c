@@ -1,7 +1,7 @@
-/* Plays a run file, read from standard input, event by event: the set applied, or what a local read gives, and then a look at
- * every panel. In the end it prints what each panel shows of each class, if the file is of version 2, and of the registers that
- * were written. bindings/worked.run, bindings/classes.run, bindings/underway.run and bindings/settings.run are the runs of
- * docs/RULES.md, sections 19, 25, 26 and 28. */
+/* Plays a run file, read from standard input, event by event: the set applied, what a finished sync or a local read gives, and
+ * then a look at every panel. In the end it prints what each panel shows of each class, if the file is of version 2, and of the
+ * registers that were written. bindings/worked.run, bindings/classes.run, bindings/underway.run, bindings/settings.run and
+ * bindings/reading.run are the runs of docs/RULES.md, sections 19, 25, 26, 28 and 29. */
 #include <stdio.h>
 #include <stdlib.h>
 
@@ -58,10 +58,9 @@ int main(void) {
         at = length - left;
         printf("%u:", number);
         for (size_t i = 0; i < answer.size; i++) printf(" %d.%d", answer.names[i].sender, answer.names[i].number.value);
-        if (record[1] == LOCAL_READ) {
-            printf(" %d reads", record[2]);
-            print_sums(answer.sums);
-        }
+        if (record[1] == LOCAL_READ) printf(" %d reads", record[2]);
+        if (answer.finished) printf(" finished");
+        if (record[1] == LOCAL_READ || answer.finished) print_sums(answer.sums);
         for (size_t c = 1; c <= table->n; c++) {
             printf(" |");
             print_sums(shown(table, c).sums);

@@ -1,7 +1,8 @@
-//! Plays a run file, read from standard input, event by event: the set applied, or what a local read gives, and then a
-//! look at every panel. In the end it prints what each panel shows of each class, if the file is of version 2, and of
-//! the registers that were written. `bindings/worked.run`, `bindings/classes.run`, `bindings/underway.run` and
-//! `bindings/settings.run` are the runs of docs/RULES.md, sections 19, 25, 26 and 28.
+//! Plays a run file, read from standard input, event by event: the set applied, what a finished sync or a local read
+//! gives, and then a look at every panel. In the end it prints what each panel shows of each class, if the file is of
+//! version 2, and of the registers that were written. `bindings/worked.run`, `bindings/classes.run`,
+//! `bindings/underway.run`, `bindings/settings.run` and `bindings/reading.run` are the runs of docs/RULES.md, sections
+//! 19, 25, 26, 28 and 29.
 
 use furnacejade::{event, fresh, look, Class, Register, Stamp, Sums, Table, SCRATCH};
 use std::error::Error;
@@ -50,6 +51,9 @@ fn main() -> Result<(), Box<dyn Error>> {
         }
         if rest[1] == LOCAL_READ {
             print!(" {} reads {}", rest[2], answer.sums);
+        }
+        if let Some(sums) = answer.sync_answer() {
+            print!(" finished {sums}");
         }
         rest = left;
         for c in 1..=table.n {

@@ -1,5 +1,5 @@
 //! The calls as a user makes them: the worked run, a run with classes, one with reports under way, one with a set point,
-//! what a refusal leaves, and the numbers' texts.
+//! one with a stale read, what a refusal leaves, and the numbers' texts.
 
 use furnacejade::{calls, event, file_of, fresh, look, run};
 use furnacejade::{
@@ -12,6 +12,7 @@ const WORKED: &[u8] = include_bytes!("../../worked.run");
 const CLASSES: &[u8] = include_bytes!("../../classes.run");
 const UNDERWAY: &[u8] = include_bytes!("../../underway.run");
 const SETTINGS: &[u8] = include_bytes!("../../settings.run");
+const READING: &[u8] = include_bytes!("../../reading.run");
 
 fn name(sender: u8, number: u8) -> Name {
     Name { sender, number: MessageNumber(number) }
@@ -109,6 +110,22 @@ fn two_reports_of_one_sender_are_under_way_at_once() {
     let given: Vec<Sums> = answers.iter().map(|answer| answer.sums).collect();
     assert_eq!(given, [0, 0, 0, 0, 30, 0, 0, 0, 50, 0, 0, 0, 0].map(|added| sums(added, 0)));
     assert_eq!(answers[4], Answer { sums: sums(30, 0), ..Answer::BLANK });
+}
+
+#[test]
+fn a_sync_has_what_was_finished_before_it_was_sent_and_a_local_read_may_lack_it() {
+    let (mut listing, mut scratch) = ([0; 256], [7; SCRATCH]);
+    let answer = run(READING, &mut listing, &mut scratch);
+    assert_eq!((answer.number, answer.events), (Refusal::ACCEPTED, 9));
+    assert_eq!(&listing[..answer.written], b"3 1 30 0 1.1\n8 2 30 0 1.1 2.2\n");
+    let (table, answers) = events_of(READING);
+    assert_eq!(table, answer.table);
+    // Event 3 finishes 1.1. The local read of event 4 lacks it, and the sync of event 5, which event 8 finishes, has it.
+    assert_eq!(answers[2].applied(), [name(1, 1)]);
+    assert_eq!(answers[3], Answer::BLANK);
+    assert_eq!(answers[7].applied(), [name(1, 1), name(2, 2)]);
+    assert_eq!(answers[7].sync_answer(), Some(sums(30, 0)));
+    assert_eq!(answers[8].sums, sums(30, 0));
 }
 
 #[test]

@@ -2,14 +2,14 @@
 -- the sums over all that the receiver has then applied. Assumes nothing.
 use mathlib.Core.Path.{_≡_, refl, sym, ap, ap₂, _∙_}
 use mathlib.Core.Bool.{Bool, true, false, _&&_, _||_, cond, and-assoc, and-comm, and-false, or-false}
-use mathlib.Core.List.{List, [], _∷_, cons-ne-nil}
+use mathlib.Core.List.{List, [], _∷_, _++_, cons-ne-nil}
 use mathlib.Core.Logic.{_≢_}
 use Prim.Native.Nat.{ℕ, _<_}
 use native.Mathlib.Omega.{arith}
 use lib.ListN.{length}
 use lib.Dec.{eqb, ltb}
-use borrow.Author.Tests.{eqb-true}
-use Rattle.lists.proofs.Tests.{contradiction}
+use borrow.Author.Tests.{eqb-true, eq-eqb}
+use Rattle.lists.proofs.Tests.{both, contradiction, or-left, or-right}
 use Rattle.lists.proofs.Below.{count-ext}
 use Rattle.model.specs.Tables.{message, noSums, withController, Among}
 use Rattle.model.specs.Delivery.{Slots, has as member}
@@ -47,6 +47,13 @@ finishing-slots {t = t} k S ms f c =
   where
     last : (a b d : Bool) → (a && (b && d)) ≡ (b && (d && a) || false)
     last a b d = and-comm a (b && d) ∙ and-assoc b d a ∙ sym (or-false _)
+
+-- a set holds one that was sent
+pub finishing-own : (xs : List Sent) (x : Sent) (ys : List Sent) (ms : List Name) → x .said .kind ≡ 2 → has (x .name) ms ≡ true
+    → finishing (xs ++ (x ∷ ys)) ms (x .name .sender) ≡ true
+unfolding finishing
+finishing-own [] x ys ms k e = or-left _ (both (eq-eqb (x .said .kind) 2 k) (both (eq-eqb (x .name .sender) (x .name .sender) refl) e))
+finishing-own (y ∷ xs) x ys ms k e = or-right (eqb (y .said .kind) 2 && (eqb (y .name .sender) (x .name .sender) && has (y .name) ms)) (finishing-own xs x ys ms k e)
 
 -- the empty set holds none
 finishing-none : (xs : List Sent) (c : ℕ) → finishing xs [] c ≡ false

@@ -6,11 +6,11 @@ use Rattle.consistency.specs.Demand3.{Head, request, file, Heads, versio
 use Rattle.consistency.proofs.Moments.{Course, Gives, told}
 use Rattle.consistency.proofs.FileRuns.{file-course}
 
-pub record Begun (h : Head) : Type 0 where
+pub record Opened (h : Head) : Type 0 where
   pub allowed : FreshAllowed (version h) (controllers h)
   pub course : Course told Gives (fresh (version h) (controllers h)) (opening h) (given h)
 
-pub begun : (h : Head) → Heads h → Begun h
+pub opened : (h : Head) → Heads h → Opened h
 unfolding Heads version controllers opening given Course freshTable
-begun (request v n) e = record { allowed = fresh-allowed v n e; course = rw e }
-begun (file s listing scratch) e = record { allowed = file-allowed s e .fresh; course = file-course s listing scratch e }
+opened (request v n) e = record { allowed = fresh-allowed v n e; course = rw e }
+opened (file s listing scratch) e = record { allowed = file-allowed s e .fresh; course = file-course s listing scratch e }

@@ -3,7 +3,7 @@
 use mathlib.Core.Path.{_≡_, refl, sym, ap, ap₂, _∙_}
 use mathlib.Core.Bool.{Bool, true, false, not, _||_, cond, or-comm}
 use mathlib.Core.Logic.{inl, inr}
-use mathlib.Core.List.{List, [], _∷_, _++_, flatten, append-nil, append-assoc}
+use mathlib.Core.List.{List, [], _∷_, _++_, flatten}
 use Prim.Native.Nat.{ℕ, _+_, _-_, _<_}
 use native.Mathlib.Omega.{arith}
 use lib.ListN.{getD}
@@ -31,16 +31,11 @@ use Rattle.broadcast.specs.State.{State}
 use Rattle.consistency.specs.Demand3.{has, Distinct, Said, put, Ledger, carried, moved}
 use Rattle.consistency.proofs.Bridge.{Related}
 use Rattle.consistency.proofs.BridgeFacts.{own-logged}
-use Rattle.consistency.proofs.Names.{has-append, distinct-append}
+use Rattle.consistency.proofs.Names.{has-append, flatten-last, distinct-append}
 use Rattle.consistency.proofs.SlotNames.{nameAt, logNames, log-at, log-entered, has-log, has-names, distinct-names}
 use Rattle.consistency.proofs.PassedOver.{passed-applied}
 use Rattle.consistency.proofs.Ledger.{senderAt, Slot, slot-case, Recorded, names-slot, slot-kept}
 use Rattle.consistency.proofs.LedgerChanges.{put-case, at-case, at-kept, put-at}
-
-flatten-last : (ss : List (List Name)) (s : List Name) → flatten (ss ++ (s ∷ [])) ≡ flatten ss ++ s
-unfolding flatten
-flatten-last [] s = append-nil s
-flatten-last (x ∷ ss) s = rw (flatten-last ss s, append-assoc)
 
 -- READING
 

@@ -14,8 +14,9 @@ pub mod BridgeNext
 pub mod Names
 pub mod SlotNames
 pub mod Ledger
-pub mod Registers
 pub mod LedgerChanges
+pub mod Grown
+pub mod Registers
 pub mod LedgerStop
 pub mod LedgerHandover
 pub mod LedgerSend
@@ -26,4 +27,6 @@ pub mod MomentFacts
 pub mod HandoverFacts
 pub mod FileRuns
 pub mod Heads
+pub mod Lists
+pub mod NeverStale
 pub mod Theorem

@@ -31,7 +31,7 @@ use Rattle.invariant.proofs.Stores.{seated}
 use Rattle.broadcast.specs.State.{State}
 use Rattle.broadcast.specs.Delivery.{Subset}
 use Rattle.broadcast.proofs.Theorem.{containment, ending}
-use Rattle.consistency.specs.Demand3.{name, has, ownOf, Ledger, applied, newest, registerAt, sentNames, remaining, showing, Contains, Exactly, NoLater, Runs, ReadOut, readRecord, IsRead}
+use Rattle.consistency.specs.Demand3.{name, has, ownOf, Ledger, applied, newest, registerAt, sentNames, remaining, showing, Contains, Exactly, NoLater, Within, Runs, ReadOut, readRecord, IsRead}
 use Rattle.consistency.proofs.Bridge.{system, codeAt, code-injective, Related}
 use Rattle.consistency.proofs.BridgeFacts.{few, shown, applied-delivered, delivered-slot, remains-logged, own-logged, all-read, quorum-runs}
 use Rattle.consistency.proofs.PassedOver.{earlier-applied}
@@ -39,7 +39,7 @@ use Rattle.consistency.proofs.Names.{has-own}
 use Rattle.consistency.proofs.SlotNames.{nameAt, length-log}
 use Rattle.consistency.proofs.Ledger.{slot-case, Recorded, sent-slot}
 use Rattle.consistency.proofs.Registers.{fewer-no-later, same-stamp-same-register, register-later}
-use Rattle.consistency.proofs.Sums.{panel-applied, has-remaining, remaining-slot, panel-remaining}
+use Rattle.consistency.proofs.Sums.{fewer-no-greater, panel-applied, weights-later, has-remaining, remaining-slot, panel-remaining}
 use Rattle.consistency.proofs.Moments.{call-accepted, Moment, Later}
 
 -- CONTAINMENT
@@ -103,10 +103,18 @@ module _ {n : ℕ} {s₀ : State} {t u : Table} {l k : Ledger} (m : Later n s₀
   by-later : (c r : ℕ) → registerAt l c r ≡ newest r (k .sent) (applied l c)
   by-later = register-later (m .first .recorded) q (m .grown)
 
+  -- who has applied no less later shows no less
+  pub within : (c d : ℕ) → Contains (applied k d) (applied l c) → Within l c k d
+  within c d w = record {
+    messages = w;
+    sums = λ f. rw (weights-later (m .first .recorded) (m .grown) f c) (fewer-no-greater q f (applied l c) (applied k d) (m .first .recorded .once c) (q .once d) w);
+    registers = λ r. rw (by-later c r) (fewer-no-later q (applied l c) (applied k d) w r);
+  }
+
   pub snapshots : InOrder l k
   snapshots c d = elim (comparable m c d) [
     | inl w ↦ inr (λ r. rw (by-later c r) (fewer-no-later q (applied k d) (applied l c) w r))
-    | inr w ↦ inl (λ r. rw (by-later c r) (fewer-no-later q (applied l c) (applied k d) w r))
+    | inr w ↦ inl (within c d w .registers)
   ]
 
   pub values : OneValue l k

@@ -25,7 +25,7 @@ use Rattle.consistency.proofs.Bridge.{top, system, Related}
 use Rattle.consistency.proofs.BridgeNext.{fresh-related, next-related}
 use Rattle.consistency.proofs.Reader.{written, written-set}
 use Rattle.consistency.proofs.Ledger.{Recorded, start-recorded}
-use Rattle.consistency.proofs.Registers.{Grown, grown}
+use Rattle.consistency.proofs.Grown.{Grown, grown}
 use Rattle.consistency.proofs.LedgerNext.{Legal, record-legal, next-recorded}
 
 -- COURSES: P holds at each element of a list, with the state that those before it leave, and the last leaves u

@@ -2,7 +2,7 @@
 use mathlib.Core.Path.{_≡_, refl, sym, ap, ap₂, subst, _∙_}
 use mathlib.Core.Bool.{Bool, true, false, not, _&&_, _||_, cond, or-assoc}
 use mathlib.Core.Logic.{inl, inr}
-use mathlib.Core.List.{List, [], _∷_, _++_}
+use mathlib.Core.List.{List, [], _∷_, _++_, append-nil, append-assoc, flatten}
 use Prim.Native.Nat.{ℕ, zero, suc, _<_}
 use native.Mathlib.Omega.{arith}
 use lib.ListN.{take, drop, take-append-drop}
@@ -43,6 +43,11 @@ pub has-append : (m : Name) (xs ys : List Name) → has m (xs ++ ys) ≡ (has m 
 unfolding has
 has-append m [] ys = refl
 has-append m (x ∷ xs) ys = rw (has-append m xs ys, or-assoc (same m x) (has m xs) (has m ys))
+
+pub flatten-last : (ss : List (List Name)) (s : List Name) → flatten (ss ++ (s ∷ [])) ≡ flatten ss ++ s
+unfolding flatten
+flatten-last [] s = append-nil s
+flatten-last (x ∷ ss) s = rw (flatten-last ss s, append-assoc)
 
 pub has-insert : (m x : Name) (xs : List Name) → has m (insert x xs) ≡ (same m x || has m xs)
 unfolding has insert

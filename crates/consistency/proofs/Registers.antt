@@ -1,31 +1,33 @@
 -- Registers: those that the ledger gives are those that the table holds, and so no two writes of one have the same stamp, fewer messages give
 -- none a later stamp, and a stamp has one value; and a later ledger still gives those of an earlier one. Assumes nothing.
 use mathlib.Core.Path.{_≡_, refl, sym, ap, _∙_}
-use mathlib.Core.Bool.{Bool, true, _&&_, cond}
-use mathlib.Core.List.{List, [], _∷_, _++_, map, map-append, append-nil, append-assoc, foldl, foldl-append}
-use Prim.Native.Nat.{ℕ, zero, suc, _+_, _<_}
+use mathlib.Core.Bool.{Bool, true, false, _&&_, cond}
+use mathlib.Core.List.{List, [], _∷_, _++_, append-nil, append-assoc, foldl-append}
+use Prim.Native.Nat.{ℕ, zero, suc, _+_, _≤_, _<_}
 use native.Mathlib.Omega.{arith}
 use lib.ListN.{length, length-append}
 use lib.Seq.{getD-at}
-use lib.Dec.{eqb}
+use lib.Dec.{eqb, ltb}
+use borrow.Author.Tests.{eqb-true, ltb-true, leb-true}
 use Rattle.lists.specs.Build.{tabulateFrom, tabulate}
-use Rattle.lists.proofs.Tests.{or-left, or-false, refuted, contradiction}
+use Rattle.lists.proofs.Tests.{and-left, and-right, or-left, or-false, refuted, contradiction}
 use Rattle.lists.proofs.Build.{length-tabulate, getD-tabulate}
 use Rattle.lists.proofs.Grow.{tabulate-suc}
-use Rattle.model.specs.Tables.{noRegister, at, message}
-use Rattle.model.specs.Registers.{wins, writes as writesOf, newest as newestIn, registerOf, dateOf}
+use Rattle.model.specs.Tables.{registerCount, noRegister, at, message}
+use Rattle.model.specs.Registers.{exceeds, wins, writes as writesOf, newest as newestIn, registerOf, dateOf}
+use Rattle.model.specs.WellFormed.{fairRegister}
 use Rattle.model.specs.declared.Name.{Name}
 use Rattle.model.specs.declared.Payload.{Payload}
 use Rattle.model.specs.declared.Stamp.{Stamp}
 use Rattle.model.specs.declared.Register.{Register}
 use Rattle.model.specs.declared.Table.{Table}
-use Rattle.model.specs.declared.Event.the-variants.{Send, Handover, Stop}
 use Rattle.model.specs.Facts.{Among}
-use Rattle.model.proofs.Registers.{no-later, newest-held, held-most, held-within, newest-ext, same-stamp-slot, same-stamp-same}
-use Rattle.consistency.specs.Demand3.{same, has, Step, carried, Sent, Ledger, applied, writes, written, newest, registerAt, dateFor, moved, sentNames, Contains, Exactly, NoLater}
+use Rattle.model.proofs.Registers.{no-later, newest-most, newest-held, held-most, held-within, newest-ext, same-stamp-slot, same-stamp-same}
+use Rattle.consistency.specs.Demand3.{same, has, Sent, Ledger, applied, writes, written, newest, registerAt, dateFor, sentNames, Contains, Exactly, NoLater}
 use Rattle.consistency.proofs.Names.{same-self, Apart, apart-of}
 use Rattle.consistency.proofs.SlotNames.{nameAt}
 use Rattle.consistency.proofs.Ledger.{saidOf, sentAt, Recorded, slot-sent, distinct-sent}
+use Rattle.consistency.proofs.Grown.{names, Grown, names-grown}
 
 -- BY SLOTS
 
@@ -80,7 +82,7 @@ module _ {n : ℕ} {t : Table} {l : Ledger} (p : Recorded n t l) where
       rw (newest-has r ms, newest-has r ks)
       (same-stamp-same t (p .formed) (newest-held t (among t ms) r (t .count)) (newest-held t (among t ks) r (t .count)))
 
-  -- DIFFERENT STAMPS
+  -- ONE WRITE
 
   -- a message sent has the slot of its place
   placed : (xs : List Sent) (x : Sent) (ys : List Sent) → l .sent ≡ xs ++ (x ∷ ys) → (length xs < t .count) × (sentAt t (length xs) ≡ x)
@@ -88,6 +90,28 @@ module _ {n : ℕ} {t : Table} {l : Ledger} (p : Recorded n t l) where
       let q : tabulate (t .count) (sentAt t) ≡ xs ++ (x ∷ ys) = sym (p .sent) ∙ e in
       let b : length xs < t .count = omega (arith, length-append xs (x ∷ ys), ap length q, length-tabulate (t .count) (sentAt t)) in
       (b, sym (getD-tabulate (t .count) (sentAt t) x (length xs) b) ∙ rw q (getD-at xs x ys x (length xs) refl))
+
+  -- a write among messages is not later than their register
+  pub write-no-later : (xs : List Sent) (x : Sent) (ys : List Sent) → l .sent ≡ xs ++ (x ∷ ys) → (ms : List Name) → has (x .name) ms ≡ true
+      → (r : ℕ) → writes r x ≡ true → exceeds (written x .stamp) (newest r (l .sent) ms .stamp) ≡ false
+  unfolding writes writesOf
+  write-no-later xs x ys e ms m r w =
+      let i = placed xs x ys e in
+      let name : Sent → Name = λ z. z .name in
+      let stamp : Sent → Stamp = λ z. written z .stamp in
+      rw (← ap stamp (i .1), newest-has r ms)
+      (no-later _ _ (newest-most t (among t ms) r (t .count) (length xs) (i .0) (ap (λ (z : Sent). has (name z) ms) (i .1) ∙ m) (ap (writes r) (i .1) ∙ w)))
+
+  -- it has one of the registers
+  pub write-register : (xs : List Sent) (x : Sent) (ys : List Sent) → l .sent ≡ xs ++ (x ∷ ys) → (r : ℕ) → writes r x ≡ true → (0 < r) × (r ≤ registerCount)
+  unfolding writes fairRegister
+  write-register xs x ys e r w =
+      let i = placed xs x ys e in
+      let y = message t (length xs) .payload in
+      let both : writes r (sentAt t (length xs)) ≡ true = ap (writes r) (i .1) ∙ w in
+      let f = rw (and-left (eqb (y .kind) 6) _ both) at (p .formed .registers (length xs) (i .0)) in
+      let q = eqb-true (y .reg) r (and-right (eqb (y .kind) 6) _ both) in
+      (omega (arith, ltb-true 0 (y .reg) (and-left _ _ f), q), omega (arith, leb-true (y .reg) registerCount (and-right (ltb 0 (y .reg)) _ f), q))
 
   pub stamps-differ : (r : ℕ) (x y : Sent) (before between after : List Sent) → l .sent ≡ before ++ (x ∷ between ++ (y ∷ after))
       → writes r x ≡ true → writes r y ≡ true → written x .stamp ≡ written y .stamp → ⊥
@@ -105,27 +129,6 @@ module _ {n : ℕ} {t : Table} {l : Ledger} (p : Recorded n t l) where
 
 -- A LATER LEDGER
 
--- it has what was sent, and perhaps more
-pub record Grown (l k : Ledger) : Type 0 where
-  pub more : List Sent
-  pub is : k .sent ≡ l .sent ++ more
-
-moved-grown : (l : Ledger) (x : Step) → Grown l (moved l x)
-unfolding moved
-moved-grown l (carried s (Send c p) ms) = record { more = _ ∷ []; is = refl }
-moved-grown l (carried s (Handover r o) ms) = record { more = []; is = sym (append-nil (l .sent)) }
-moved-grown l (carried s (Stop c k) ms) = record { more = []; is = sym (append-nil (l .sent)) }
-
-pub grown : (l : Ledger) (xs : List Step) → Grown l (foldl moved l xs)
-grown l [] = record { more = []; is = sym (append-nil (l .sent)) }
-grown l (x ∷ xs) =
-    let a = moved-grown l x in
-    let b = grown (moved l x) xs in
-    record { more = a .more ++ b .more; is = b .is ∙ (ap (λ (ys : List Sent). ys ++ b .more) (a .is) ∙ append-assoc (l .sent) (a .more) (b .more)) }
-
-abbrev names : List Sent → List Name
-names xs = map (λ x. x .name) xs
-
 -- messages that are not among ms change no register
 newest-skips : (r : ℕ) (ms : List Name) (xs ys : List Sent) → Apart ms (names ys) → newest r (xs ++ ys) ms ≡ newest r xs ms
 unfolding has
@@ -141,8 +144,5 @@ pub register-later : {n : ℕ} {t u : Table} {l k : Ledger} → Recorded n t l �
     → registerAt l c r ≡ newest r (k .sent) (applied l c)
 register-later {l = l} {k = k} p q g c r = sym (rw (g .is) (newest-skips r (applied l c) (l .sent) (g .more) new))
   where
-    sent : sentNames k ≡ sentNames l ++ names (g .more)
-    sent = ap names (g .is) ∙ map-append (λ (x : Sent). x .name) (l .sent) (g .more)
-
     new : Apart (applied l c) (names (g .more))
-    new m e = apart-of (sentNames l) _ (rw sent at (distinct-sent q)) m (slot-sent p m (p .applied-sent c m e))
+    new m e = apart-of (sentNames l) _ (rw (names-grown g) at (distinct-sent q)) m (slot-sent p m (p .applied-sent c m e))

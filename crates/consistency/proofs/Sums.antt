@@ -1,18 +1,18 @@
 -- Sums over names: of any weight of a message they depend on the members alone; and what a panel shows, its registers too, is that of what was
 -- applied, for each part of a fair amount is what the payload keeps of it. Assumes nothing.
 use mathlib.Core.Path.{_≡_, refl, sym, ap, ap₂, subst, fun-ext, _∙_}
-use mathlib.Core.Bool.{Bool, true, false, cond, Bool·not-not}
+use mathlib.Core.Bool.{Bool, true, false, _||_, cond, Bool·not-not}
 use mathlib.Core.Logic.{_⊎_, inl, inr}
 use mathlib.Core.List.{List, [], _∷_, _++_, map}
-use Prim.Native.Nat.{ℕ, zero, suc, _+_, _<_}
+use Prim.Native.Nat.{ℕ, zero, suc, _+_, _≤_, _<_}
 use native.Mathlib.Omega.{arith}
 use lib.IntN.{pos, _-ℤ_}
 use lib.Dec.{eqb}
 use borrow.Author.Tests.{le-leb}
 use Rattle.lists.specs.Below.{sum}
 use Rattle.lists.specs.Build.{tabulateFrom, tabulate}
-use Rattle.lists.proofs.Tests.{and-left, refuted, contradiction, or-false, cond-apart}
-use Rattle.lists.proofs.Below.{sum-ext, sum-plus}
+use Rattle.lists.proofs.Tests.{and-left, refuted, contradiction, or-false, or-left, or-right, cond-apart}
+use Rattle.lists.proofs.Below.{sum-ext, sum-plus, sum-within}
 use Rattle.lists.proofs.Grow.{tabulate-suc, map-tabulate}
 use Rattle.lists.proofs.Clipped.{sum-none}
 use Rattle.model.specs.Tables.{classCount, registerCount, at, message}
@@ -28,10 +28,11 @@ use Rattle.model.specs.declared.Panel.{Panel}
 use Rattle.model.specs.declared.Table.{Table}
 use Rattle.model.specs.Facts.{Among}
 use Rattle.invariant.proofs.Bounds.{fair-parts}
-use Rattle.consistency.specs.Demand3.{same, has, Distinct, Sent, Ledger, applied, sentNames, remaining, weightOf, weights, above, below, ofClass, showing, Exactly}
-use Rattle.consistency.proofs.Names.{same-true, same-sym, has-tabulate-at, has-less, distinct-less}
+use Rattle.consistency.specs.Demand3.{same, has, Distinct, Sent, Ledger, applied, sentNames, remaining, weightOf, weights, above, below, ofClass, showing, Contains, Exactly}
+use Rattle.consistency.proofs.Names.{same-true, same-self, same-sym, has-tabulate-at, has-less, distinct-less}
 use Rattle.consistency.proofs.SlotNames.{nameAt, slots-differ}
 use Rattle.consistency.proofs.Ledger.{balance, sentOf, sentAt, senderAt, Slot, Recorded, slot-sent, sent-slot, distinct-sent}
+use Rattle.consistency.proofs.Grown.{names, Grown}
 use Rattle.consistency.proofs.Registers.{register-held, same-members-same-register}
 
 -- WEIGHTS
@@ -49,6 +50,23 @@ module _ (w : Sent → ℕ) where
       go true true k r r′ e f h = contradiction refl (f refl)
       go true false k r r′ e f h = omega arith
       go false b k r r′ e f h = h
+
+  -- messages sent later change no weight of the earlier ones
+  weight-first : (xs ys : List Sent) (m : Name) → has m (names xs) ≡ true → weightOf w (xs ++ ys) m ≡ weightOf w xs m
+  unfolding weightOf has
+  weight-first [] ys m e = contradiction e refl
+  weight-first (x ∷ xs) ys m e = go (same m (x .name)) (weight-first xs ys m) e
+    where
+      go : (b : Bool) → (has m (names xs) ≡ true → weightOf w (xs ++ ys) m ≡ weightOf w xs m) → (b || has m (names xs)) ≡ true
+          → cond b (w x) (weightOf w (xs ++ ys) m) ≡ cond b (w x) (weightOf w xs m)
+      go true f e = refl
+      go false f e = f e
+
+  weights-first : (xs ys : List Sent) (ms : List Name) → Contains (names xs) ms → weights w (xs ++ ys) ms ≡ weights w xs ms
+  unfolding weights has
+  weights-first xs ys [] f = refl
+  weights-first xs ys (m ∷ ms) f =
+      ap₂ _+_ (weight-first xs ys m (f m (or-left _ (same-self m)))) (weights-first xs ys ms (λ k e. f k (or-right (same k m) e)))
 
   -- names that differ, by index
   module _ (f : ℕ → Sent) where
@@ -145,6 +163,17 @@ module _ {n : ℕ} {t : Table} {l : Ledger} (k : Recorded n t l) where
       ∙ sum-ext (t .count) _ _ (λ j _. ap (λ x. cond x (w (sentAt t j)) 0) (f (nameAt t j)))
       ∙ sym (weights-members w ks e)
 
+  -- fewer messages, no greater a sum
+  pub fewer-no-greater : (w : Sent → ℕ) (ms ks : List Name) → Distinct ms → Distinct ks → Contains ks ms
+      → weights w (l .sent) ms ≤ weights w (l .sent) ks
+  fewer-no-greater w ms ks d e f =
+      rw (weights-members w ms d, weights-members w ks e)
+      (sum-within (t .count) _ _ (λ j _. go (has (nameAt t j) ms) (has (nameAt t j) ks) (w (sentAt t j)) (f (nameAt t j))))
+    where
+      go : (a b : Bool) (x : ℕ) → (a ≡ true → b ≡ true) → cond a x 0 ≤ cond b x 0
+      go true b x f = rw (f refl) (omega arith)
+      go false b x f = omega arith
+
   -- a panel shows the sums and the registers of whatever has the members that were applied
   panel-members : (c : ℕ) → Among n c → (ms : List Name) → Distinct ms → Exactly (applied l c) ms → panelOf t c ≡ showing (l .sent) ms
   unfolding panelOf shown sums classSums registers showing added withdrawn inClass
@@ -155,6 +184,10 @@ module _ {n : ℕ} {t : Table} {l : Ledger} (k : Recorded n t l) where
   -- what a panel shows
   pub panel-applied : (c : ℕ) → Among n c → panelOf t c ≡ showing (l .sent) (applied l c)
   panel-applied c h = panel-members c h (applied l c) (k .once c) (λ _. refl)
+
+  -- what was applied weighs the same in a later ledger
+  pub weights-later : {m : Ledger} → Grown l m → (w : Sent → ℕ) (c : ℕ) → weights w (l .sent) (applied l c) ≡ weights w (m .sent) (applied l c)
+  weights-later g w c = sym (rw (g .is) (weights-first w (l .sent) (g .more) (applied l c) (λ x e. slot-sent k x (k .applied-sent c x e))))
 
   -- WHAT REMAINS
 

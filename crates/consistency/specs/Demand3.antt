@@ -19,6 +19,7 @@ use Rattle.model.specs.Runs.{RunOutcome, fileRun}
 use Rattle.model.specs.declared.Name.{Name}
 use Rattle.model.specs.declared.Payload.{Payload}
 use Rattle.model.specs.declared.Sums.{Sums}
+use Rattle.model.specs.declared.Stamp.{Stamp}
 use Rattle.model.specs.declared.Register.{Register}
 use Rattle.model.specs.declared.Panel.{Panel}
 use Rattle.model.specs.declared.Table.{Table}
@@ -412,6 +413,40 @@ Finishes (answered s w a) f z = (a .finished ≡ f) × (a .sums ≡ cond f z noS
 Finishes (looked c a) f z = ⊥
 Finishes (listed s x) f z = f ≡ true → x .sums ≡ z
 
+-- BEGUN AND FINISHED are positions in the list: entry i, counted from 0, stands between moments i and i + 1
+
+-- entry i begins x: x is the message that it sends
+abbrev pub Begun : Head → List Call → ℕ → Sent → Type 0
+Begun h calls i x = moment h calls (suc i) .sent ≡ moment h calls i .sent ++ (x ∷ [])
+
+-- entry i applies m at c: it is an accepted handover to c, and m is in the set that it answers
+pub record Applies (h : Head) (calls : List Call) (i c : ℕ) (m : Name) : Type 0 where
+  pub entry : Entry
+  pub after : List Entry
+  pub there : drop i (entries h calls) ≡ entry ∷ after
+  pub said : Said
+  pub owner : ℕ
+  pub set : List Name
+  pub handover : steps (version h) entry ≡ carried said (Handover c owner) set ∷ []
+  pub member : has m set ≡ true
+
+-- entry i finishes m: it applies m at m's sender
+abbrev pub Finished : Head → List Call → ℕ → Name → Type 0
+Finished h calls i m = Applies h calls i (m .sender) m
+
+-- what c has in one ledger is within what d has in another
+pub record Within (l : Ledger) (c : ℕ) (k : Ledger) (d : ℕ) : Type 0 where
+  pub messages : Contains (applied k d) (applied l c)
+  -- each sum, of either kind and of any class, is over a larger set, and so no smaller: whatever messages weigh
+  pub sums : (w : Sent → ℕ) → weights w (l .sent) (applied l c) ≤ weights w (k .sent) (applied k d)
+  pub registers : NoLater (registerAt l c) (registerAt k d)
+
+-- at moment i, register r of c bears this stamp or a greater one; and so it does in a look at c there
+pub record Bears (h : Head) (calls : List Call) (i c r : ℕ) (stamp : Stamp) : Type 0 where
+  pub held : exceeds stamp (registerAt (moment h calls i) c r .stamp) ≡ false
+  pub shown : (a : LookAnswer) (after : List Entry) → drop i (entries h calls) ≡ looked c a ∷ after
+      → a .number ≡ 0 → exceeds stamp (getD (a .panel .registers) (r - 1) noRegister .stamp) ≡ false
+
 -- "Demand 3 is a single claim about the whole list, and not one for each call."
 pub record Consistent (h : Head) (calls : List Call) : Type 0 where
   -- "at any two moments of the list, what one controller has applied at one of them contains what another has applied at the
@@ -469,6 +504,27 @@ pub record Consistent (h : Head) (calls : List Call) : Type 0 where
       → let l = moment h calls i in
       let k = moment h calls j in
       registerAt l c r .stamp ≡ registerAt k d r .stamp → registerAt l c r .value ≡ registerAt k d r .value
+  -- "Take a sync begun after a report was finished at its sender: once the sync is finished, its answer includes the report": entry i
+  -- finishes m, a report, sync or write; behind it entry j begins s, a sync or another message; and entry k finishes s. From then on s's
+  -- sender has applied m
+  pub includes : (i j k later : ℕ) (m : Name) (s : Sent)
+      → Finished h calls i m → i < j → Begun h calls j s → Finished h calls k (s .name) → k < later
+      → has m (applied (moment h calls later) (s .name .sender)) ≡ true
+  -- and the answer of a finished sync is the two sums over all that its sender has then applied: that is what it rests on
+  pub answers : (j k : ℕ) (s : Sent) → Begun h calls j s → s .said .kind ≡ 2 → (f : Finished h calls k (s .name))
+      → let l = moment h calls (suc k) in
+      Finishes (f .entry) true (showing (l .sent) (applied l (s .name .sender)) .sums)
+  -- "Of two finished syncs, the later begun after the earlier was finished, the later answer rests on everything the earlier did": of
+  -- any two messages, x finished before y was begun
+  pub rests : (i j k : ℕ) (x : Name) (y : Sent)
+      → Finished h calls i x → i < j → Begun h calls j y → Finished h calls k (y .name)
+      → Within (moment h calls (suc i)) (x .sender) (moment h calls (suc k)) (y .name .sender)
+  -- "A finished write is found likewise: the register then bears its stamp or a greater one": entry b begins x, a write of register r, and
+  -- entry i finishes it; i, j and k as above
+  pub found : (b i j k later r : ℕ) (x s : Sent)
+      → Begun h calls b x → writes r x ≡ true
+      → Finished h calls i (x .name) → i < j → Begun h calls j s → Finished h calls k (s .name) → k < later
+      → Bears h calls later (s .name .sender) r (written x .stamp)
   -- "Whenever more than half of all controllers run and each of these has read every log to its end, each of these has applied
   -- exactly the messages sent, less those cut off with a stopped sender's log"
   pub ending : (i r : ℕ)

@@ -140,6 +140,11 @@ unfolding sum
 sum-plus zero f g = refl
 sum-plus (suc n) f g = omega (arith, sum-plus n f g)
 
+pub sum-within : (n : ℕ) (f g : ℕ → ℕ) → ((k : ℕ) → k < n → f k ≤ g k) → sum n f ≤ sum n g
+unfolding sum
+sum-within zero f g h = omega arith
+sum-within (suc n) f g h = omega (arith, sum-within n f g (λ k l. h k (omega arith)), h n (omega arith))
+
 pub sum-bound : (n : ℕ) (f : ℕ → ℕ) (b : ℕ) → ((k : ℕ) → k < n → f k ≤ b) → sum n f ≤ n * b
 unfolding sum
 sum-bound zero f b h = omega arith

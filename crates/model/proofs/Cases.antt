@@ -216,6 +216,30 @@ rivalSets =
     let once : ℕ → List (List ℕ) = λ k. times 6 ([] ∷ []) ++ (((100 + k) ∷ (200 + k) ∷ []) ∷ [] ∷ [] ∷ ((100 + k) ∷ (200 + k) ∷ []) ∷ []) in
     once 1 ++ once 3
 
+-- the list of RULES.md, section 29 (A list with a stale read): its first three records, and their sets; and all before the sync is finished
+finished : List (List ℕ)
+unfolding report handover
+finished = report 1 30 ∷ handover 2 1 ∷ handover 1 2 ∷ []
+
+asked : List (List ℕ)
+unfolding finished local sync handover
+asked = finished ++ (local 2 ∷ sync 2 ∷ handover 1 2 ∷ handover 2 1 ∷ [])
+
+finishedSets : List (List ℕ)
+finishedSets = [] ∷ [] ∷ (101 ∷ []) ∷ []
+
+-- of two controllers, 2 has finished a write of register 1; and then 1 a sync
+wrote : List (List ℕ)
+unfolding sync write handover
+wrote = sync 2 ∷ handover 1 2 ∷ handover 2 1 ∷ write 2 1 1500 ∷ handover 1 2 ∷ handover 2 1 ∷ []
+
+wroteSets : List (List ℕ)
+wroteSets = [] ∷ [] ∷ (201 ∷ []) ∷ [] ∷ [] ∷ (202 ∷ []) ∷ []
+
+sought : List (List ℕ)
+unfolding wrote sync handover
+sought = wrote ++ (sync 1 ∷ handover 2 1 ∷ handover 1 2 ∷ handover 1 1 ∷ handover 1 1 ∷ [])
+
 -- k reports of one sender, all under way
 full : ℕ → List (List ℕ)
 unfolding report times
@@ -232,7 +256,7 @@ numbered zero x = []
 numbered (suc k) x = x ∷ numbered k (suc x)
 
 table : List Row
-unfolding report classed sync handover stop local write minus times worked graded gradedSets underway further underwaySets three backed set settled rivals rivalSets full each numbered
+unfolding report classed sync handover stop local write minus times worked graded gradedSets underway further underwaySets three backed set settled rivals rivalSets finished asked finishedSets wrote wroteSets sought full each numbered
 table =
     -- P: the sets of the worked run; event 10 applies nothing
     case 3 worked (handover 3 1) 4096 0 ([] ∷ [] ∷ [] ∷ (101 ∷ []) ∷ [] ∷ [] ∷ (101 ∷ []) ∷ (301 ∷ []) ∷ [] ∷ [] ∷ (101 ∷ 301 ∷ []) ∷ [])
@@ -305,6 +329,13 @@ table =
     -- the sums over all that the receiver has then applied: before the set, and with it
     ∷ sums 1 1 (report 1 (minus 7) ∷ handover 1 1 ∷ report 1 5 ∷ handover 1 1 ∷ sync 1 ∷ []) (handover 1 1) (each 2 101 ++ ([] ∷ (103 ∷ []) ∷ [])) true (both 5 7)
     ∷ sums 1 1 (sync 1 ∷ report 1 5 ∷ report 1 (minus 360) ∷ []) (handover 1 1) ([] ∷ [] ∷ [] ∷ (101 ∷ 102 ∷ 103 ∷ []) ∷ []) true (both 5 360)
+    -- P: the list with a stale read: a local read lacks a report that is finished elsewhere, and a sync begun then has it; of a finished write
+    -- likewise, which a look shows once the sync is finished
+    ∷ sums 1 3 finished (local 2) (finishedSets ++ ([] ∷ [])) false noSums
+    ∷ sums 1 3 asked (handover 2 2) (finishedSets ++ ([] ∷ [] ∷ [] ∷ [] ∷ (101 ∷ 202 ∷ []) ∷ [])) true (both 30 0)
+    ∷ holds 1 2 wrote 1 wroteSets (noPanel .registers)
+    ∷ holds 1 2 sought 1 (wroteSets ++ ([] ∷ [] ∷ [] ∷ (201 ∷ []) ∷ (103 ∷ 202 ∷ []) ∷ []))
+    (stamped 1500 1 2 ∷ noRegister ∷ noRegister ∷ noRegister ∷ noRegister ∷ noRegister ∷ noRegister ∷ noRegister ∷ [])
     -- a local read: 7 before 8 before 10 before 18 before 15
     ∷ quiet 1 [] (1 ∷ 5 ∷ []) 4096 7 0
     ∷ quiet 1 [] (3 ∷ 5 ∷ 9 ∷ 0 ∷ []) 0 7 0
@@ -464,5 +495,5 @@ pub record AllCases : Type 0 where
   hold : results table ≡ expected table
 
 pub all-cases : AllCases
-unfolding computed flatten results expected table called played given report classed sync handover stop local write minus times worked graded gradedSets underway further underwaySets three backed set settled rivals rivalSets full each numbered
+unfolding computed flatten results expected table called played given report classed sync handover stop local write minus times worked graded gradedSets underway further underwaySets three backed set settled rivals rivalSets finished asked finishedSets wrote wroteSets sought full each numbered
 all-cases = record { hold = refl }

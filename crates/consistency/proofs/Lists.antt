@@ -1,0 +1,130 @@
+-- A list of calls is legal steps one after another from a fresh table, and each of its moments is one that they reach. Assumes nothing.
+use mathlib.Core.Path.{_≡_, refl, ap, _∙_}
+use mathlib.Core.List.{List, [], _∷_, _++_, flatMap, foldl, foldl-append, append-nil}
+use Prim.Native.Nat.{ℕ, suc, _+_, _-_, _≤_}
+use native.Mathlib.Numerals.{add-one}
+use native.Mathlib.Omega.{arith}
+use native.Mathlib.Decide.{decLt}
+use lib.ListN.{length, take, drop, take-append-drop}
+use lib.Seq.{take-add}
+use Rattle.model.specs.Tables.{start as begins, fresh}
+use Rattle.model.specs.Events.{appliedBy}
+use Rattle.model.specs.Calls.{EventAnswer, event}
+use Rattle.model.specs.declared.Name.{Name}
+use Rattle.model.specs.declared.Table.{Table}
+use Rattle.model.specs.declared.Event.{Event}
+use Rattle.broadcast.specs.State.{fresh as freshState}
+use Rattle.consistency.specs.Demand3.{Call, Entry, answered, left, Said, Step, carried, steps, did, Ledger, start, moved, ledger, sentNames, Head, Heads, version, controllers, opening, given, entries, moment, Contains}
+use Rattle.consistency.proofs.Bridge.{top}
+use Rattle.consistency.proofs.Ledger.{names-sent}
+use Rattle.consistency.proofs.Moments.{Course, course-append, course-first, course-rest, stepped, Takes, Gives, told, entries-version, did-append, entries-taken, transcript-course, Moment, first-moment, moment-after, Later, moment-later}
+use Rattle.consistency.proofs.Heads.{Opened, opened}
+
+-- the fresh table that a list starts from, and the table at a moment of it
+abbrev pub freshOf : Head → Table
+freshOf h = fresh (version h) (controllers h)
+
+abbrev pub tableAt : Head → List Call → ℕ → Table
+tableAt h calls i = foldl told (freshOf h) (take i (entries h calls))
+
+fresh-version : (h : Head) → freshOf h .version ≡ version h
+unfolding fresh begins
+fresh-version h = refl
+
+module _ (h : Head) (heads : Heads h) (calls : List Call) where
+  abbrev n : ℕ
+  n = controllers h
+
+  abbrev v : ℕ
+  v = version h
+
+  abbrev es : List Entry
+  es = entries h calls
+
+  abbrev b : Opened h
+  b = opened h heads
+
+  abbrev end : Table
+  end = foldl left (given h) calls
+
+  -- THE LIST is legal steps one after another, from a fresh table to the one that the last call left
+
+  whole : Course told Gives (freshOf h) es end
+  unfolding entries
+  whole = course-append told Gives (freshOf h) (opening h) (given h) _ end (b .course) (transcript-course (given h) calls)
+
+  taken : Course stepped Takes (freshOf h) (did v es) end
+  taken = entries-taken (freshOf h) (fresh-version h) es end whole
+
+  until : (i : ℕ) → Course told Gives (freshOf h) (take i es) (tableAt h calls i)
+  until i = course-first told Gives (freshOf h) (take i es) (drop i es) end (rw (take-append-drop i es) whole)
+
+  from : (i : ℕ) → Course told Gives (tableAt h calls i) (drop i es) end
+  from i = course-rest told Gives (freshOf h) (take i es) (drop i es) end (rw (take-append-drop i es) whole)
+
+  pub version-at : (i : ℕ) → tableAt h calls i .version ≡ v
+  version-at i = entries-version (freshOf h) (take i es) ∙ fresh-version h
+
+  -- what an entry answers is what the definitions give at its table
+  pub gives-at : (i : ℕ) (e : Entry) (after : List Entry) → drop i es ≡ e ∷ after → Gives (tableAt h calls i) e
+  unfolding Course
+  gives-at i e after q = (rw q at (from i)) .0
+
+  pub event-at : (i : ℕ) (s w : List ℕ) (a : EventAnswer) (after : List Entry) → drop i es ≡ answered s w a ∷ after → a ≡ event (tableAt h calls i) s (length w) .answer
+  unfolding Gives
+  event-at i s w a = gives-at i (answered s w a)
+
+  -- ITS MOMENTS
+
+  reached : {u : Table} (xs : List Step) → Course stepped Takes (freshOf h) xs u → Moment n (freshState top) u (ledger xs)
+  reached = moment-after (first-moment (b .allowed))
+
+  pub moment-at : (i : ℕ) → Moment n (freshState top) (tableAt h calls i) (moment h calls i)
+  moment-at i = reached (did v (take i es)) (entries-taken (freshOf h) (fresh-version h) (take i es) (tableAt h calls i) (until i))
+
+  pub moment-end : Moment n (freshState top) end (ledger (did v es))
+  moment-end = reached (did v es) taken
+
+  -- behind one entry more: the entries so far, the table that it leaves, and what its steps make of the ledger
+  one-more : (i : ℕ) (e : Entry) (after : List Entry) → drop i es ≡ e ∷ after → take (suc i) es ≡ take i es ++ (e ∷ [])
+  one-more i e after q = rw (← add-one i, take-add i 1 es, q)
+
+  pub moment-behind : (i : ℕ) (e : Entry) (after : List Entry) → drop i es ≡ e ∷ after
+      → Moment n (freshState top) (told (tableAt h calls i) e) (moment h calls (suc i))
+  moment-behind i e after q =
+      rw (ap (foldl told (freshOf h)) (one-more i e after q) ∙ foldl-append told (freshOf h) (take i es) (e ∷ [])) at (moment-at (suc i))
+
+  pub moment-next : (i : ℕ) (e : Entry) (after : List Entry) → drop i es ≡ e ∷ after → moment h calls (suc i) ≡ foldl moved (moment h calls i) (steps v e)
+  unfolding flatMap
+  moment-next i e after q =
+      ap (λ (xs : List Entry). ledger (did v xs)) (one-more i e after q)
+      ∙ ap ledger (did-append v (take i es) (e ∷ []) ∙ ap (λ (xs : List Step). did v (take i es) ++ xs) (append-nil (steps v e)))
+      ∙ foldl-append moved start (did v (take i es)) (steps v e)
+
+  -- of two moments, the second k entries on; and so of any two in order
+  later-by : (i k : ℕ) → Later n (freshState top) (tableAt h calls i) (foldl told (tableAt h calls i) (take k (drop i es))) (moment h calls i) (moment h calls (i + k))
+  later-by i k =
+      let xs = take k (drop i es) in
+      let c = course-first told Gives (tableAt h calls i) xs (drop k (drop i es)) end (rw (take-append-drop k (drop i es)) (from i)) in
+      rw (take-add i k es, did-append v (take i es) xs, foldl-append moved start (did v (take i es)) (did v xs))
+      (moment-later (moment-at i) (did v xs) (entries-taken _ (version-at i) xs _ c))
+
+  pub later-at : (i j : ℕ) → i ≤ j → Later n (freshState top) (tableAt h calls i) (foldl told (tableAt h calls i) (take (j - i) (drop i es))) (moment h calls i) (moment h calls j)
+  later-at i j le = let q : i + (j - i) ≡ j = omega (arith, le) in rw q at (later-by i (j - i))
+
+  -- what holds of a moment and a later one, and either way round, holds of any two
+  pub any-two : (P : Ledger → Ledger → Type 0) → ((t u : Table) (l k : Ledger) → Later n (freshState top) t u l k → P l k) → ((l k : Ledger) → P l k → P k l)
+      → (i j : ℕ) → P (moment h calls i) (moment h calls j)
+  any-two P f turned i j = elim (decLt j i) [
+    | no l ↦ f _ _ _ _ (later-at i j (omega arith))
+    | yes l ↦ turned _ _ (f _ _ _ _ (later-at j i (omega arith)))
+  ]
+
+  pub sent : (before after : List Step) (s : Said) (e : Event) (ms : List Name) → did v es ≡ before ++ (carried s e ms ∷ after) → Contains (sentNames (ledger before)) ms
+  unfolding Takes Course
+  sent before after s e ms q x w =
+      let p = rw q at taken in
+      let t = foldl stepped (freshOf h) before in
+      let m = reached before (course-first stepped Takes (freshOf h) before (carried s e ms ∷ after) end p) in
+      let a = course-rest stepped Takes (freshOf h) before (carried s e ms ∷ after) end p .0 in
+      names-sent (m .recorded) (appliedBy t e) x (rw (a .set) at w)

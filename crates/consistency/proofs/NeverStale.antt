@@ -1,0 +1,130 @@
+-- A reading is never stale: whoever has applied a message has applied all that anybody had applied when it was sent. Of what two
+-- controllers have applied one contains the other, and the message cannot be in what was applied before it was sent. Assumes nothing.
+use mathlib.Core.Path.{_≡_, refl, ap, _∙_}
+use mathlib.Core.Logic.{inl, inr}
+use mathlib.Core.Bool.{true, false}
+use mathlib.Core.List.{List, [], _∷_, _++_, map-append, append-assoc}
+use Prim.Native.Nat.{ℕ, suc, _-_, _≤_, _<_}
+use native.Mathlib.Omega.{arith}
+use native.Mathlib.Decide.{decLt}
+use lib.ListN.{getD, drop}
+use borrow.Author.Tests.{eq-eqb}
+use Rattle.lists.proofs.Tests.{or-left, or-right, refuted, contradiction}
+use Rattle.lists.proofs.Build.{getD-tabulate}
+use Rattle.model.specs.Tables.{registerCount, noRegister}
+use Rattle.model.specs.Registers.{exceeds}
+use Rattle.model.specs.declared.Name.{Name}
+use Rattle.model.specs.declared.Panel.{Panel}
+use Rattle.model.specs.declared.Event.the-variants.{Handover}
+use Rattle.model.specs.declared.LookAnswer.{LookAnswer}
+use Rattle.consistency.specs.Demand3.{has, Call, Entry, looked, Said, carried, steps, put, Sent, Ledger, applied, moved, writes, written, newest, sentNames, showing, finishing, Head, Heads, version, controllers, entries, moment, Finishes, Begun, Applies, Finished, Within, Bears}
+use Rattle.consistency.proofs.Names.{same-self, has-append, flatten-last, apart-of}
+use Rattle.consistency.proofs.Ledger.{Recorded, slot-sent, distinct-sent}
+use Rattle.consistency.proofs.Grown.{names, names-grown}
+use Rattle.consistency.proofs.Registers.{write-no-later, write-register}
+use Rattle.consistency.proofs.Moments.{Gives}
+use Rattle.consistency.proofs.MomentFacts.{comparable, within, look-shows}
+use Rattle.consistency.proofs.HandoverFacts.{finishing-own, entry-finishes}
+use Rattle.consistency.proofs.Lists.{tableAt, version-at, gives-at, moment-at, moment-behind, moment-next, later-at}
+
+module _ (h : Head) (heads : Heads h) (calls : List Call) where
+  abbrev n : ℕ
+  n = controllers h
+
+  abbrev upTo : ℕ → Ledger
+  upTo i = moment h calls i
+
+  recorded : (i : ℕ) → Recorded n (tableAt h calls i) (upTo i)
+  recorded i = moment-at h heads calls i .recorded
+
+  -- WHAT WAS APPLIED
+
+  applied-sent : (i c : ℕ) (m : Name) → has m (applied (upTo i) c) ≡ true → has m (sentNames (upTo i)) ≡ true
+  applied-sent i c m e = slot-sent (recorded i) m (recorded i .applied-sent c m e)
+
+  -- by an entry, and from then on
+  pub applied-then : {i c : ℕ} {m : Name} → Applies h calls i c m → has m (applied (upTo (suc i)) c) ≡ true
+  unfolding moved put
+  applied-then {i} {c} {m} a =
+      rw (moment-next h heads calls i (a .entry) (a .after) (a .there), a .handover, eq-eqb c c refl, flatten-last (upTo i .sets c) (a .set), has-append m (applied (upTo i) c) (a .set))
+      (or-right (has m (applied (upTo i) c)) (a .member))
+
+  pub applied-since : {i c : ℕ} {m : Name} (k : ℕ) → i < k → Applies h calls i c m → has m (applied (upTo k) c) ≡ true
+  applied-since {i} {c} {m} k b a = later-at h heads calls (suc i) k b .grown .kept c m (applied-then a)
+
+  -- WHAT A HANDOVER ANSWERS besides its set
+
+  pub syncs : (i r o : ℕ) (q : Said) (ms : List Name) (e : Entry) (after : List Entry) → drop i (entries h calls) ≡ e ∷ after
+      → steps (version h) e ≡ carried q (Handover r o) ms ∷ []
+      → let l = upTo (suc i) in
+      Finishes e (finishing (l .sent) ms r) (showing (l .sent) (applied l r) .sums)
+  syncs i r o q ms e after p is =
+      entry-finishes (moment-at h heads calls i .related .formed) r o q ms e (gives-at h heads calls i e after p) (rw (version-at h heads calls i) is)
+      (moment-behind h heads calls i e after p .recorded)
+
+  -- A MESSAGE that entry j begins
+
+  module _ (j : ℕ) (s : Sent) (b : Begun h calls j s) where
+    -- it was not sent before
+    unsent : (i : ℕ) → i ≤ j → has (s .name) (sentNames (upTo i)) ≡ false
+    unfolding has
+    unsent i le = refuted _ (λ e.
+        let m = s .name in
+        let then : has m (sentNames (upTo j)) ≡ true = ap (has m) (names-grown (later-at h heads calls i j le .grown)) ∙ has-append m (sentNames (upTo i)) _ ∙ or-left _ e in
+        let all : sentNames (upTo (suc j)) ≡ sentNames (upTo j) ++ (m ∷ []) = ap names b ∙ map-append (λ (x : Sent). x .name) (upTo j .sent) (s ∷ []) in
+        contradiction (or-left _ (same-self m)) (apart-of (sentNames (upTo j)) (m ∷ []) (rw all at (distinct-sent (recorded (suc j)))) m then))
+
+    -- who has applied it has done so since
+    since : (k d : ℕ) → has (s .name) (applied (upTo k) d) ≡ true → j < k
+    since k d e = elim (decLt j k) [
+      | yes l ↦ l
+      | no l ↦ contradiction (applied-sent k d (s .name) e) (unsent k (omega arith))
+    ]
+
+    -- and where somebody has, it is among the messages sent
+    pub record Placed (k : ℕ) : Type 0 where
+      pub before : List Sent
+      pub after : List Sent
+      pub is : upTo k .sent ≡ before ++ (s ∷ after)
+
+    placed : (k d : ℕ) → has (s .name) (applied (upTo k) d) ≡ true → Placed k
+    placed k d e =
+        let g = later-at h heads calls (suc j) k (since k d e) .grown in
+        record { before = upTo j .sent; after = g .more; is = g .is ∙ (ap (λ (xs : List Sent). xs ++ g .more) b ∙ append-assoc (upTo j .sent) (s ∷ []) (g .more)) }
+
+    -- WHOEVER HAS APPLIED IT has applied all that anybody had applied before it was begun
+    pub never-stale : (i k c d : ℕ) → i ≤ j → has (s .name) (applied (upTo k) d) ≡ true → Within (upTo i) c (upTo k) d
+    never-stale i k c d le e =
+        let w = later-at h heads calls i k (omega (arith, le, since k d e)) in
+        within w c d (elim (comparable w c d) [
+          | inl f ↦ contradiction (applied-sent i c (s .name) (f (s .name) e)) (unsent i le)
+          | inr f ↦ f
+        ])
+
+    -- if it is a sync and entry k finishes it, that entry says so and gives the sums
+    pub answered-so : (k : ℕ) → s .said .kind ≡ 2 → (f : Finished h calls k (s .name))
+        → let l = upTo (suc k) in
+        Finishes (f .entry) true (showing (l .sent) (applied l (s .name .sender)) .sums)
+    answered-so k z f =
+        let p = placed (suc k) (s .name .sender) (applied-then f) in
+        let own : finishing (upTo (suc k) .sent) (f .set) (s .name .sender) ≡ true = rw (p .is) (finishing-own (p .before) s (p .after) (f .set) z (f .member)) in
+        rw own at (syncs k (s .name .sender) (f .owner) (f .said) (f .set) (f .entry) (f .after) (f .there) (f .handover))
+
+    -- if it is a write, whoever has applied it bears its stamp or a greater one
+    pub bears : (k c r : ℕ) → writes r s ≡ true → has (s .name) (applied (upTo k) c) ≡ true → Bears h calls k c r (written s .stamp)
+    unfolding Gives showing
+    bears k c r w e = record { held = held; shown = λ a after q z. rw (shows a after q z) held }
+      where
+        there : Placed k
+        there = placed k c e
+
+        held : exceeds (written s .stamp) (newest r (upTo k .sent) (applied (upTo k) c) .stamp) ≡ false
+        held = write-no-later (recorded k) (there .before) s (there .after) (there .is) (applied (upTo k) c) e r w
+
+        shows : (a : LookAnswer) (after : List Entry) → drop k (entries h calls) ≡ looked c a ∷ after → a .number ≡ 0
+            → getD (a .panel .registers) (r - 1) noRegister ≡ newest r (upTo k .sent) (applied (upTo k) c)
+        shows a after q z =
+            let d = write-register (recorded k) (there .before) s (there .after) (there .is) r w in
+            ap (λ (y : Panel). getD (y .registers) (r - 1) noRegister) (look-shows (moment-at h heads calls k) c a (gives-at h heads calls k (looked c a) after q) z)
+            ∙ getD-tabulate registerCount _ noRegister (r - 1) (omega (arith, d .0, d .1))
+            ∙ ap (λ x. newest x (upTo k .sent) (applied (upTo k) c)) (omega (arith, d .0))
