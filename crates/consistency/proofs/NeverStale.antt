@@ -49,7 +49,7 @@ module _ (h : Head) (heads : Heads h) (calls : List Call) where
       rw (moment-next h heads calls i (a .entry) (a .after) (a .there), a .handover, eq-eqb c c refl, flatten-last (upTo i .sets c) (a .set), has-append m (applied (upTo i) c) (a .set))
       (or-right (has m (applied (upTo i) c)) (a .member))
 
-  pub applied-since : {i c : ℕ} {m : Name} (k : ℕ) → i < k → Applies h calls i c m → has m (applied (upTo k) c) ≡ true
+  applied-since : {i c : ℕ} {m : Name} (k : ℕ) → i < k → Applies h calls i c m → has m (applied (upTo k) c) ≡ true
   applied-since {i} {c} {m} k b a = later-at h heads calls (suc i) k b .grown .kept c m (applied-then a)
 
   -- WHAT A HANDOVER ANSWERS besides its set
@@ -100,6 +100,11 @@ module _ (h : Head) (heads : Heads h) (calls : List Call) where
           | inl f ↦ contradiction (applied-sent i c (s .name) (f (s .name) e)) (unsent i le)
           | inr f ↦ f
         ])
+
+    -- so of an entry before j, and of one that applies it and whatever comes then
+    pub included : {i k c d : ℕ} {m : Name} (later : ℕ) → Applies h calls i c m → i < j → Applies h calls k d (s .name) → k < later
+        → has m (applied (upTo later) d) ≡ true
+    included {i} {k} {c} {d} {m} later f le g r = never-stale (suc i) later c d le (applied-since later r g) .messages m (applied-then f)
 
     -- if it is a sync and entry k finishes it, that entry says so and gives the sums
     pub answered-so : (k : ℕ) → s .said .kind ≡ 2 → (f : Finished h calls k (s .name))

@@ -23,7 +23,7 @@ use Rattle.consistency.proofs.Moments.{Gives}
 use Rattle.consistency.proofs.MomentFacts.{Comparable, comparable, InOrder, OneValue, snapshots, values, in-order, look-shows, read-gives, read-rests, moment-ending, ending-shows, ending-gives}
 use Rattle.consistency.proofs.HandoverFacts.{line-sums}
 use Rattle.consistency.proofs.Lists.{tableAt, version-at, gives-at, event-at, moment-at, moment-end, moment-behind, any-two, sent}
-use Rattle.consistency.proofs.NeverStale.{applied-then, applied-since, syncs, never-stale, answered-so, bears}
+use Rattle.consistency.proofs.NeverStale.{applied-then, syncs, never-stale, included, answered-so, bears}
 
 -- one call more
 extended : (t : Table) (cs : List Call) (x : Call) → transcript t (cs ++ (x ∷ [])) ≡ transcript t cs ++ (entry (foldl left t cs) x ∷ [])
@@ -55,14 +55,10 @@ demand-3 h heads calls = record {
   stamps = λ i. stamps-differ (moment-at h heads calls i .recorded);
   snapshots = any-two h heads calls InOrder (λ t u l k. snapshots) (λ l k f c d. ⊎-swap (f d c));
   values = any-two h heads calls OneValue (λ t u l k. values) (λ l k f c d r e. sym (f d c r (sym e)));
-  includes = λ i j k later m s f l b g r.
-      never-stale h heads calls j s b (suc i) later (m .sender) (s .name .sender) l (applied-since h heads calls later r g) .messages m (applied-then h heads calls f);
+  includes = λ i j k later m s f l b g q. included h heads calls j s b later f l g q;
   answers = λ j k s b z f. answered-so h heads calls j s b k z f;
   rests = λ i j k x y f l b g. never-stale h heads calls j y b (suc i) (suc k) (x .sender) (y .name .sender) l (applied-then h heads calls g);
-  found = λ a i j k later r x s e w f l b g q.
-      let c = s .name .sender in
-      bears h heads calls a x e later c r w
-      (never-stale h heads calls j s b (suc i) later (x .name .sender) c l (applied-since h heads calls later q g) .messages (x .name) (applied-then h heads calls f));
+  found = λ a i j k later r x s e w f l b g q. bears h heads calls a x e later (s .name .sender) r w (included h heads calls j s b later f l g q);
   ending = λ i r e on. moment-ending (moment-at h heads calls i) e r on;
   ending-look = λ i r e on.
       let now = take i calls in
