@@ -345,7 +345,9 @@ static inline size_t furnacejade_put_classed_report(uint8_t *out, size_t room, u
     return 6;
 }
 
-/* Kind 2: a sync by its sender, 3 bytes. It is refused (11) while a message of the sender's own is pending. */
+/* Kind 2: a sync by its sender, 3 bytes. The handover with which the sender applies it answers finished 1 and the sums: whatever
+ * was finished at its own sender before the sync was sent is in them. It is refused (11) while a message of the sender's own is
+ * pending. */
 static inline size_t furnacejade_put_sync(uint8_t *out, size_t room, uint8_t sender) {
     if (room < 3) return 0;
     out[0] = 2;
@@ -376,7 +378,7 @@ static inline size_t furnacejade_put_stop(uint8_t *out, size_t room, uint8_t con
 }
 
 /* Kind 5: a local read of a controller's sums, 3 bytes. It sends no message and leaves the table as it is; the sums stand in
- * the answer. It is refused (18) while a message of the controller's own is pending. */
+ * the answer, and may lack what is finished elsewhere. It is refused (18) while a message of the controller's own is pending. */
 static inline size_t furnacejade_put_local_read(uint8_t *out, size_t room, uint8_t controller) {
     if (room < 3) return 0;
     out[0] = 2;

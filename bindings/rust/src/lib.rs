@@ -51,6 +51,30 @@
 //! # }
 //! ```
 //!
+//! A message is finished when its own sender has applied it. What was finished before a sync was sent is in the answer
+//! of the sync; a local read may lack it:
+//!
+//! ```
+//! use furnacejade::{event, fresh, Record, Refusal, Sums, SCRATCH};
+//!
+//! # fn main() -> Result<(), Refusal> {
+//! let mut table = fresh(1, 3)?;
+//! let mut scratch = [0; SCRATCH];
+//! let mut play = |record: Record| event(&mut table, &record.bytes(), &mut scratch).map(|(answer, _)| answer);
+//! let handover = |receiver, owner| Record::Handover { receiver, owner };
+//!
+//! play(Record::Report { sender: 1, amount: 30 })?;
+//! play(handover(2, 1))?;
+//! assert_eq!(play(handover(1, 2))?.applied().len(), 1); // the report is finished
+//! assert_eq!(play(Record::LocalRead { controller: 2 })?.sums, Sums::BLANK);
+//! play(Record::Sync { sender: 2 })?;
+//! play(handover(1, 2))?;
+//! assert_eq!(play(handover(2, 1))?.sync_answer(), None);
+//! assert_eq!(play(handover(2, 2))?.sync_answer(), Some(Sums { added: 30, withdrawn: 0 }));
+//! # Ok(())
+//! # }
+//! ```
+//!
 //! A supervisor sets one of eight registers, a belt speed say, at any controller, right behind a sync of its own that is
 //! finished. Every panel shows the write with the greatest [`Stamp`] among those that its controller has applied:
 //!

@@ -22,8 +22,8 @@ pub enum Record {
         /// What the eggs weigh, [`Class::XL`] to [`Class::S`].
         class: Class,
     },
-    /// A sender asks for the sums after everything that is under way before this message. It has no message of its own
-    /// pending.
+    /// A sender asks for the sums, and gets them when it applies this message: whatever was finished at its own sender
+    /// before this message was sent is then in them. It has no message of its own pending.
     Sync {
         /// The controller that sends it.
         sender: u8,
@@ -42,8 +42,8 @@ pub enum Record {
         /// How many entries of its log are kept.
         kept: u16,
     },
-    /// A controller asks for the sums that its panel shows, without a message; the table stays as it is. It has no
-    /// message of its own pending.
+    /// A controller asks for the sums that its panel shows, without a message; the table stays as it is. They may lack
+    /// what is finished elsewhere. It has no message of its own pending.
     LocalRead {
         /// The controller that reads.
         controller: u8,
