@@ -258,21 +258,47 @@ numbered (suc k) x = x ∷ numbered k (suc x)
 table : List Row
 unfolding report classed sync handover stop local write minus times worked graded gradedSets underway further underwaySets three backed set settled rivals rivalSets finished asked finishedSets wrote wroteSets sought full each numbered
 table =
+    -- The check ends at the first row that fails, and so rows that refuse an edit of a definition stand first.
     -- P: the sets of the worked run; event 10 applies nothing
     case 3 worked (handover 3 1) 4096 0 ([] ∷ [] ∷ [] ∷ (101 ∷ []) ∷ [] ∷ [] ∷ (101 ∷ []) ∷ (301 ∷ []) ∷ [] ∷ [] ∷ (101 ∷ 301 ∷ []) ∷ [])
-    -- P: its lines, with both sums
+    -- P: n = 4, two marks: not applied; three: applied
+    ∷ quiet 4 (report 1 5 ∷ handover 1 1 ∷ handover 2 1 ∷ []) (handover 1 2) 4096 0 4
+    ∷ case 4 (report 1 5 ∷ handover 1 1 ∷ handover 2 1 ∷ handover 1 2 ∷ handover 3 1 ∷ []) (handover 1 3) 4096 0 ([] ∷ [] ∷ [] ∷ [] ∷ [] ∷ (101 ∷ []) ∷ [])
+    -- a report: 8 before 9 before 10 before 12 before 15
+    ∷ quiet 1 [] (report 2 361) 0 8 0
+    ∷ quiet 2 (stop 1 0 ∷ []) (report 1 361) 0 9 1
+    ∷ quiet 2 (report 1 1 ∷ stop 1 1 ∷ []) (report 1 360) 0 10 2
+    -- of version 2: 7 before 8, and 9 before 17 before 10
+    ∷ quiet₂ 1 [] (report 2 361) 0 7 0
+    ∷ quiet₂ 2 (stop 1 0 ∷ []) (classed 1 361 5) 0 9 1
+    ∷ quiet₂ 2 (stop 1 0 ∷ []) (classed 1 360 5) 0 17 1
+    ∷ quiet₂ 2 (stop 1 0 ∷ []) (classed 1 360 4) 0 10 1
+    -- P: a local read counts what its panel has applied, in both versions; the answer's sums are else those of an own sync that is finished
+    ∷ sums 1 1 [] (local 1) ([] ∷ []) false noSums
+    ∷ sums 2 1 (classed 1 30 2 ∷ handover 1 1 ∷ classed 1 (minus 37) 4 ∷ handover 1 1 ∷ []) (local 1) (each 2 101 ++ ([] ∷ [])) false (both 30 37)
+    ∷ sums 1 2 (report 2 9 ∷ handover 1 2 ∷ []) (local 1) ([] ∷ [] ∷ [] ∷ []) false noSums
+    ∷ sums 1 1 (report 1 5 ∷ []) (handover 1 1) ([] ∷ (101 ∷ []) ∷ []) false noSums
+    ∷ sums 1 1 (report 1 5 ∷ handover 1 1 ∷ sync 1 ∷ []) (handover 1 1) ([] ∷ (101 ∷ []) ∷ [] ∷ (102 ∷ []) ∷ []) true (both 5 0)
+    -- the sums over all that the receiver has then applied: before the set, and with it
+    ∷ sums 1 1 (report 1 (minus 7) ∷ handover 1 1 ∷ report 1 5 ∷ handover 1 1 ∷ sync 1 ∷ []) (handover 1 1) (each 2 101 ++ ([] ∷ (103 ∷ []) ∷ [])) true (both 5 7)
+    ∷ sums 1 1 (sync 1 ∷ report 1 5 ∷ report 1 (minus 360) ∷ []) (handover 1 1) ([] ∷ [] ∷ [] ∷ (101 ∷ 102 ∷ 103 ∷ []) ∷ []) true (both 5 360)
+    -- P: each register has dates of its own, from 1; values 0 and 4,294,967,295; nothing is shown of a write that is pending
+    ∷ holds 1 1 (set 1 7 ++ (set 1 4294967295 ++ (set 8 0 ++ (sync 1 ∷ handover 1 1 ∷ write 1 2 9 ∷ [])))) 1 (each 7 101 ++ ([] ∷ []))
+    (stamped 4294967295 2 1 ∷ noRegister ∷ noRegister ∷ noRegister ∷ noRegister ∷ noRegister ∷ noRegister ∷ stamped 0 1 1 ∷ [])
+    -- P: the date decides before the writer: of two rivals, 1 writes again after it has applied both
+    ∷ holds 1 2 (rivals ++ (sync 1 ∷ handover 2 1 ∷ handover 1 2 ∷ write 1 3 900 ∷ handover 2 2 ∷ handover 2 1 ∷ handover 2 2 ∷ [])) 2
+    (rivalSets ++ ([] ∷ [] ∷ (105 ∷ []) ∷ [] ∷ (105 ∷ []) ∷ [] ∷ (106 ∷ []) ∷ []))
+    (noRegister ∷ noRegister ∷ stamped 900 2 1 ∷ noRegister ∷ noRegister ∷ noRegister ∷ noRegister ∷ noRegister ∷ [])
+    -- and here the others. P: the lines of the worked run, with both sums
     ∷ lists (1 ∷ 3 ∷ flatten (worked ++ (handover 3 1 ∷ []))) 4096 16384 0
     (52 ∷ 32 ∷ 49 ∷ 32 ∷ 51 ∷ 48 ∷ 32 ∷ 48 ∷ 32 ∷ 49 ∷ 46 ∷ 49 ∷ 10
     ∷ 55 ∷ 32 ∷ 50 ∷ 32 ∷ 51 ∷ 48 ∷ 32 ∷ 48 ∷ 32 ∷ 49 ∷ 46 ∷ 49 ∷ 10
     ∷ 56 ∷ 32 ∷ 50 ∷ 32 ∷ 51 ∷ 48 ∷ 32 ∷ 50 ∷ 32 ∷ 51 ∷ 46 ∷ 49 ∷ 10
     ∷ 49 ∷ 49 ∷ 32 ∷ 51 ∷ 32 ∷ 51 ∷ 48 ∷ 32 ∷ 50 ∷ 32 ∷ 49 ∷ 46 ∷ 49 ∷ 32 ∷ 51 ∷ 46 ∷ 49 ∷ 10
     ∷ [])
-    -- P: n = 4, two marks: not applied; three: applied
-    ∷ quiet 4 (report 1 5 ∷ handover 1 1 ∷ handover 2 1 ∷ []) (handover 1 2) 4096 0 4
-    ∷ case 4 (report 1 5 ∷ handover 1 1 ∷ handover 2 1 ∷ handover 1 2 ∷ handover 3 1 ∷ []) (handover 1 3) 4096 0 ([] ∷ [] ∷ [] ∷ [] ∷ [] ∷ (101 ∷ []) ∷ [])
     -- P: n = 1
     ∷ case 1 (report 1 5 ∷ []) (handover 1 1) 4096 0 ([] ∷ (101 ∷ []) ∷ [])
-    -- P: and so for each other n
+    -- P: and for each other n the marks of a majority
     ∷ takes 2 2
     ∷ takes 3 2
     ∷ takes 5 3
@@ -320,15 +346,6 @@ table =
     ∷ 56 ∷ 32 ∷ 49 ∷ 32 ∷ 53 ∷ 48 ∷ 32 ∷ 48 ∷ 32 ∷ 49 ∷ 46 ∷ 50 ∷ 10
     ∷ 49 ∷ 50 ∷ 32 ∷ 51 ∷ 32 ∷ 51 ∷ 48 ∷ 32 ∷ 48 ∷ 32 ∷ 49 ∷ 46 ∷ 49 ∷ 10
     ∷ [])
-    -- P: a local read counts what its panel has applied, in both versions; the answer's sums are else those of an own sync that is finished
-    ∷ sums 1 1 [] (local 1) ([] ∷ []) false noSums
-    ∷ sums 2 1 (classed 1 30 2 ∷ handover 1 1 ∷ classed 1 (minus 37) 4 ∷ handover 1 1 ∷ []) (local 1) (each 2 101 ++ ([] ∷ [])) false (both 30 37)
-    ∷ sums 1 2 (report 2 9 ∷ handover 1 2 ∷ []) (local 1) ([] ∷ [] ∷ [] ∷ []) false noSums
-    ∷ sums 1 1 (report 1 5 ∷ []) (handover 1 1) ([] ∷ (101 ∷ []) ∷ []) false noSums
-    ∷ sums 1 1 (report 1 5 ∷ handover 1 1 ∷ sync 1 ∷ []) (handover 1 1) ([] ∷ (101 ∷ []) ∷ [] ∷ (102 ∷ []) ∷ []) true (both 5 0)
-    -- the sums over all that the receiver has then applied: before the set, and with it
-    ∷ sums 1 1 (report 1 (minus 7) ∷ handover 1 1 ∷ report 1 5 ∷ handover 1 1 ∷ sync 1 ∷ []) (handover 1 1) (each 2 101 ++ ([] ∷ (103 ∷ []) ∷ [])) true (both 5 7)
-    ∷ sums 1 1 (sync 1 ∷ report 1 5 ∷ report 1 (minus 360) ∷ []) (handover 1 1) ([] ∷ [] ∷ [] ∷ (101 ∷ 102 ∷ 103 ∷ []) ∷ []) true (both 5 360)
     -- P: the list with a stale read: a local read lacks a report that is finished elsewhere, and a sync begun then has it; of a finished write
     -- likewise, which a look shows once the sync is finished
     ∷ sums 1 3 finished (local 2) (finishedSets ++ ([] ∷ [])) false noSums
@@ -393,15 +410,6 @@ table =
     ∷ quiet 1 [] (0 ∷ 1 ∷ []) 0 6 0
     ∷ quiet 1 [] (1 ∷ 9 ∷ []) 0 6 0
     ∷ quiet 1 [] (3 ∷ 1 ∷ 9 ∷ 0 ∷ []) 0 7 0
-    -- a report: 8 before 9 before 10 before 12 before 15
-    ∷ quiet 1 [] (report 2 361) 0 8 0
-    ∷ quiet 2 (stop 1 0 ∷ []) (report 1 361) 0 9 1
-    ∷ quiet 2 (report 1 1 ∷ stop 1 1 ∷ []) (report 1 360) 0 10 2
-    -- of version 2: 7 before 8, and 9 before 17 before 10
-    ∷ quiet₂ 1 [] (report 2 361) 0 7 0
-    ∷ quiet₂ 2 (stop 1 0 ∷ []) (classed 1 361 5) 0 9 1
-    ∷ quiet₂ 2 (stop 1 0 ∷ []) (classed 1 360 5) 0 17 1
-    ∷ quiet₂ 2 (stop 1 0 ∷ []) (classed 1 360 4) 0 10 1
     -- P: the 64th message is accepted (above), and the 65th gives 12
     ∷ quiet 2 (full 64) (report 1 1) 0 12 64
     ∷ quiet 1 [] (report 1 1) 4095 15 0
@@ -468,16 +476,9 @@ table =
     -- P: the greatest sum: 64 reports, all taken back and applied at once
     ∷ shows 1 1 (times 64 (report 1 (minus 360) ∷ []) ++ (handover 1 1 ∷ [])) 1 (times 64 ([] ∷ []) ++ (numbered 64 101 ∷ [])) (both 0 23040)
     (both 0 23040 ∷ noSums ∷ noSums ∷ noSums ∷ noSums ∷ [])
-    -- P: each register has dates of its own, from 1; values 0 and 4,294,967,295; nothing is shown of a write that is pending
-    ∷ holds 1 1 (set 1 7 ++ (set 1 4294967295 ++ (set 8 0 ++ (sync 1 ∷ handover 1 1 ∷ write 1 2 9 ∷ [])))) 1 (each 7 101 ++ ([] ∷ []))
-    (stamped 4294967295 2 1 ∷ noRegister ∷ noRegister ∷ noRegister ∷ noRegister ∷ noRegister ∷ noRegister ∷ stamped 0 1 1 ∷ [])
     -- P: two writers with one date: the greater writer's value, on both panels
     ∷ holds 1 2 rivals 1 rivalSets (noRegister ∷ noRegister ∷ stamped 500 1 2 ∷ noRegister ∷ noRegister ∷ noRegister ∷ noRegister ∷ noRegister ∷ [])
     ∷ holds 1 2 rivals 2 rivalSets (noRegister ∷ noRegister ∷ stamped 500 1 2 ∷ noRegister ∷ noRegister ∷ noRegister ∷ noRegister ∷ noRegister ∷ [])
-    -- P: the date decides before the writer: 1 writes after it has applied both
-    ∷ holds 1 2 (rivals ++ (sync 1 ∷ handover 2 1 ∷ handover 1 2 ∷ write 1 3 900 ∷ handover 2 2 ∷ handover 2 1 ∷ handover 2 2 ∷ [])) 2
-    (rivalSets ++ ([] ∷ [] ∷ (105 ∷ []) ∷ [] ∷ (105 ∷ []) ∷ [] ∷ (106 ∷ []) ∷ []))
-    (noRegister ∷ noRegister ∷ stamped 900 2 1 ∷ noRegister ∷ noRegister ∷ noRegister ∷ noRegister ∷ noRegister ∷ [])
     -- P: the run with classes, its sets and what both panels show of each class
     ∷ shows 2 2 graded 1 gradedSets (both 42 2) (noSums ∷ both 30 0 ∷ noSums ∷ both 12 0 ∷ both 0 2 ∷ [])
     ∷ shows 2 2 graded 2 gradedSets (both 42 2) (noSums ∷ both 30 0 ∷ noSums ∷ both 12 0 ∷ both 0 2 ∷ [])
