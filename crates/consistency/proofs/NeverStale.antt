@@ -12,16 +12,15 @@ use borrow.Author.Tests.{eq-eqb}
 use Rattle.lists.proofs.Tests.{or-left, or-right, refuted, contradiction}
 use Rattle.lists.proofs.Build.{getD-tabulate}
 use Rattle.model.specs.Tables.{registerCount, noRegister}
-use Rattle.model.specs.Registers.{exceeds}
 use Rattle.model.specs.declared.Name.{Name}
 use Rattle.model.specs.declared.Panel.{Panel}
 use Rattle.model.specs.declared.Event.the-variants.{Handover}
 use Rattle.model.specs.declared.LookAnswer.{LookAnswer}
-use Rattle.consistency.specs.Demand3.{has, Call, Entry, looked, Said, carried, steps, put, Sent, Ledger, applied, moved, writes, written, newest, sentNames, showing, finishing, Head, Heads, version, controllers, entries, moment, Finishes, Begun, Applies, Finished, Within, Bears}
+use Rattle.consistency.specs.Demand3.{has, Call, Entry, looked, Said, carried, steps, put, Sent, Ledger, applied, moved, writes, written, newest, sentNames, showing, finishing, Head, Heads, version, controllers, entries, moment, Finishes, Begun, Applies, Finished, Within, OrLater, Bears}
 use Rattle.consistency.proofs.Names.{same-self, has-append, flatten-last, apart-of}
 use Rattle.consistency.proofs.Ledger.{Recorded, slot-sent, distinct-sent}
 use Rattle.consistency.proofs.Grown.{names, names-grown}
-use Rattle.consistency.proofs.Registers.{write-no-later, write-register}
+use Rattle.consistency.proofs.Registers.{write-or-later, write-one}
 use Rattle.consistency.proofs.Moments.{Gives}
 use Rattle.consistency.proofs.MomentFacts.{comparable, within, look-shows}
 use Rattle.consistency.proofs.HandoverFacts.{finishing-own, entry-finishes}
@@ -115,21 +114,21 @@ module _ (h : Head) (heads : Heads h) (calls : List Call) where
         let own : finishing (upTo (suc k) .sent) (f .set) (s .name .sender) ≡ true = rw (p .is) (finishing-own (p .before) s (p .after) (f .set) z (f .member)) in
         rw own at (syncs k (s .name .sender) (f .owner) (f .said) (f .set) (f .entry) (f .after) (f .there) (f .handover))
 
-    -- if it is a write, whoever has applied it bears its stamp or a greater one
-    pub bears : (k c r : ℕ) → writes r s ≡ true → has (s .name) (applied (upTo k) c) ≡ true → Bears h calls k c r (written s .stamp)
+    -- if it is a write, whoever has applied it has that register as it says, or a later one
+    pub bears : (k c r : ℕ) → writes r s ≡ true → has (s .name) (applied (upTo k) c) ≡ true → Bears h calls k c r (written s)
     unfolding Gives showing
     bears k c r w e = record { held = held; shown = λ a after q z. rw (shows a after q z) held }
       where
         there : Placed k
         there = placed k c e
 
-        held : exceeds (written s .stamp) (newest r (upTo k .sent) (applied (upTo k) c) .stamp) ≡ false
-        held = write-no-later (recorded k) (there .before) s (there .after) (there .is) (applied (upTo k) c) e r w
+        held : OrLater (written s) (newest r (upTo k .sent) (applied (upTo k) c))
+        held = write-or-later (recorded k) (there .before) s (there .after) (there .is) (applied (upTo k) c) e r w
 
         shows : (a : LookAnswer) (after : List Entry) → drop k (entries h calls) ≡ looked c a ∷ after → a .number ≡ 0
             → getD (a .panel .registers) (r - 1) noRegister ≡ newest r (upTo k .sent) (applied (upTo k) c)
         shows a after q z =
-            let d = write-register (recorded k) (there .before) s (there .after) (there .is) r w in
+            let d = write-one (recorded k) (there .before) s (there .after) (there .is) r w in
             ap (λ (y : Panel). getD (y .registers) (r - 1) noRegister) (look-shows (moment-at h heads calls k) c a (gives-at h heads calls k (looked c a) after q) z)
             ∙ getD-tabulate registerCount _ noRegister (r - 1) (omega (arith, d .0, d .1))
             ∙ ap (λ x. newest x (upTo k .sent) (applied (upTo k) c)) (omega (arith, d .0))

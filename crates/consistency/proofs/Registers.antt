@@ -1,29 +1,27 @@
 -- Registers: those that the ledger gives are those that the table holds, and so no two writes of one have the same stamp, fewer messages give
 -- none a later stamp, and a stamp has one value; and a later ledger still gives those of an earlier one. Assumes nothing.
 use mathlib.Core.Path.{_≡_, refl, sym, ap, _∙_}
-use mathlib.Core.Bool.{Bool, true, false, _&&_, cond}
+use mathlib.Core.Bool.{Bool, true, _&&_, cond}
 use mathlib.Core.List.{List, [], _∷_, _++_, append-nil, append-assoc, foldl-append}
 use Prim.Native.Nat.{ℕ, zero, suc, _+_, _≤_, _<_}
 use native.Mathlib.Omega.{arith}
 use lib.ListN.{length, length-append}
 use lib.Seq.{getD-at}
-use lib.Dec.{eqb, ltb}
-use borrow.Author.Tests.{eqb-true, ltb-true, leb-true}
+use lib.Dec.{eqb}
 use Rattle.lists.specs.Build.{tabulateFrom, tabulate}
-use Rattle.lists.proofs.Tests.{and-left, and-right, or-left, or-false, refuted, contradiction}
+use Rattle.lists.proofs.Tests.{or-left, or-false, refuted, contradiction}
 use Rattle.lists.proofs.Build.{length-tabulate, getD-tabulate}
 use Rattle.lists.proofs.Grow.{tabulate-suc}
 use Rattle.model.specs.Tables.{registerCount, noRegister, at, message}
-use Rattle.model.specs.Registers.{exceeds, wins, writes as writesOf, newest as newestIn, registerOf, dateOf}
-use Rattle.model.specs.WellFormed.{fairRegister}
+use Rattle.model.specs.Registers.{wins, writes as writesOf, newest as newestIn, registerOf, dateOf}
 use Rattle.model.specs.declared.Name.{Name}
 use Rattle.model.specs.declared.Payload.{Payload}
 use Rattle.model.specs.declared.Stamp.{Stamp}
 use Rattle.model.specs.declared.Register.{Register}
 use Rattle.model.specs.declared.Table.{Table}
 use Rattle.model.specs.Facts.{Among}
-use Rattle.model.proofs.Registers.{no-later, newest-most, newest-held, held-most, held-within, newest-ext, same-stamp-slot, same-stamp-same}
-use Rattle.consistency.specs.Demand3.{same, has, Sent, Ledger, applied, writes, written, newest, registerAt, dateFor, sentNames, Contains, Exactly, NoLater}
+use Rattle.model.proofs.Registers.{no-later, write-register, newest-or-later, newest-held, held-most, held-within, newest-ext, same-stamp-slot, same-stamp-same}
+use Rattle.consistency.specs.Demand3.{same, has, Sent, Ledger, applied, writes, written, newest, registerAt, dateFor, sentNames, Contains, Exactly, NoLater, OrLater}
 use Rattle.consistency.proofs.Names.{same-self, Apart, apart-of}
 use Rattle.consistency.proofs.SlotNames.{nameAt}
 use Rattle.consistency.proofs.Ledger.{saidOf, sentAt, Recorded, slot-sent, distinct-sent}
@@ -91,27 +89,21 @@ module _ {n : ℕ} {t : Table} {l : Ledger} (p : Recorded n t l) where
       let b : length xs < t .count = omega (arith, length-append xs (x ∷ ys), ap length q, length-tabulate (t .count) (sentAt t)) in
       (b, sym (getD-tabulate (t .count) (sentAt t) x (length xs) b) ∙ rw q (getD-at xs x ys x (length xs) refl))
 
-  -- a write among messages is not later than their register
-  pub write-no-later : (xs : List Sent) (x : Sent) (ys : List Sent) → l .sent ≡ xs ++ (x ∷ ys) → (ms : List Name) → has (x .name) ms ≡ true
-      → (r : ℕ) → writes r x ≡ true → exceeds (written x .stamp) (newest r (l .sent) ms .stamp) ≡ false
+  -- among messages with this write, their register is it or a later one
+  pub write-or-later : (xs : List Sent) (x : Sent) (ys : List Sent) → l .sent ≡ xs ++ (x ∷ ys) → (ms : List Name) → has (x .name) ms ≡ true
+      → (r : ℕ) → writes r x ≡ true → OrLater (written x) (newest r (l .sent) ms)
   unfolding writes writesOf
-  write-no-later xs x ys e ms m r w =
+  write-or-later xs x ys e ms m r w =
       let i = placed xs x ys e in
-      let name : Sent → Name = λ z. z .name in
-      let stamp : Sent → Stamp = λ z. written z .stamp in
-      rw (← ap stamp (i .1), newest-has r ms)
-      (no-later _ _ (newest-most t (among t ms) r (t .count) (length xs) (i .0) (ap (λ (z : Sent). has (name z) ms) (i .1) ∙ m) (ap (writes r) (i .1) ∙ w)))
+      let s = length xs in
+      let f : among t ms s ≡ true = ap (λ (z : Sent). has (z .name) ms) (i .1) ∙ m in
+      let g : writes r (sentAt t s) ≡ true = ap (writes r) (i .1) ∙ w in
+      rw (← i .1, newest-has r ms) (newest-or-later t (p .formed) (among t ms) r s (i .0) f g)
 
-  -- it has one of the registers
-  pub write-register : (xs : List Sent) (x : Sent) (ys : List Sent) → l .sent ≡ xs ++ (x ∷ ys) → (r : ℕ) → writes r x ≡ true → (0 < r) × (r ≤ registerCount)
-  unfolding writes fairRegister
-  write-register xs x ys e r w =
-      let i = placed xs x ys e in
-      let y = message t (length xs) .payload in
-      let both : writes r (sentAt t (length xs)) ≡ true = ap (writes r) (i .1) ∙ w in
-      let f = rw (and-left (eqb (y .kind) 6) _ both) at (p .formed .registers (length xs) (i .0)) in
-      let q = eqb-true (y .reg) r (and-right (eqb (y .kind) 6) _ both) in
-      (omega (arith, ltb-true 0 (y .reg) (and-left _ _ f), q), omega (arith, leb-true (y .reg) registerCount (and-right (ltb 0 (y .reg)) _ f), q))
+  -- and it is one of the registers
+  pub write-one : (xs : List Sent) (x : Sent) (ys : List Sent) → l .sent ≡ xs ++ (x ∷ ys) → (r : ℕ) → writes r x ≡ true → (0 < r) × (r ≤ registerCount)
+  unfolding writes writesOf
+  write-one xs x ys e r w = let i = placed xs x ys e in write-register t (p .formed) r (length xs) (i .0) (ap (writes r) (i .1) ∙ w)
 
   pub stamps-differ : (r : ℕ) (x y : Sent) (before between after : List Sent) → l .sent ≡ before ++ (x ∷ between ++ (y ∷ after))
       → writes r x ≡ true → writes r y ≡ true → written x .stamp ≡ written y .stamp → ⊥

@@ -19,7 +19,6 @@ use Rattle.model.specs.Runs.{RunOutcome, fileRun}
 use Rattle.model.specs.declared.Name.{Name}
 use Rattle.model.specs.declared.Payload.{Payload}
 use Rattle.model.specs.declared.Sums.{Sums}
-use Rattle.model.specs.declared.Stamp.{Stamp}
 use Rattle.model.specs.declared.Register.{Register}
 use Rattle.model.specs.declared.Panel.{Panel}
 use Rattle.model.specs.declared.Table.{Table}
@@ -441,11 +440,15 @@ pub record Within (l : Ledger) (c : ℕ) (k : Ledger) (d : ℕ) : Type 0 where
   pub sums : (w : Sent → ℕ) → weights w (l .sent) (applied l c) ≤ weights w (k .sent) (applied k d)
   pub registers : NoLater (registerAt l c) (registerAt k d)
 
--- at moment i, register r of c bears this stamp or a greater one; and so it does in a look at c there
-pub record Bears (h : Head) (calls : List Call) (i c r : ℕ) (stamp : Stamp) : Type 0 where
-  pub held : exceeds stamp (registerAt (moment h calls i) c r .stamp) ≡ false
+-- a register is this one, its value and its stamp, or has a greater stamp
+abbrev pub OrLater : Register → Register → Type 0
+OrLater y z = (z ≡ y) ⊎ (exceeds (z .stamp) (y .stamp) ≡ true)
+
+-- so is register r of c at moment i, and in a look at c there
+pub record Bears (h : Head) (calls : List Call) (i c r : ℕ) (y : Register) : Type 0 where
+  pub held : OrLater y (registerAt (moment h calls i) c r)
   pub shown : (a : LookAnswer) (after : List Entry) → drop i (entries h calls) ≡ looked c a ∷ after
-      → a .number ≡ 0 → exceeds stamp (getD (a .panel .registers) (r - 1) noRegister .stamp) ≡ false
+      → a .number ≡ 0 → OrLater y (getD (a .panel .registers) (r - 1) noRegister)
 
 -- "Demand 3 is a single claim about the whole list, and not one for each call."
 pub record Consistent (h : Head) (calls : List Call) : Type 0 where
@@ -524,7 +527,7 @@ pub record Consistent (h : Head) (calls : List Call) : Type 0 where
   pub found : (b i j k later r : ℕ) (x s : Sent)
       → Begun h calls b x → writes r x ≡ true
       → Finished h calls i (x .name) → i < j → Begun h calls j s → Finished h calls k (s .name) → k < later
-      → Bears h calls later (s .name .sender) r (written x .stamp)
+      → Bears h calls later (s .name .sender) r (written x)
   -- "Whenever more than half of all controllers run and each of these has read every log to its end, each of these has applied
   -- exactly the messages sent, less those cut off with a stopped sender's log"
   pub ending : (i r : ℕ)

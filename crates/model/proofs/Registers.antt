@@ -8,9 +8,9 @@ use native.Mathlib.Omega.{arith}
 use lib.Dec.{eqb, ltb}
 use borrow.Author.Tests.{ltb-true, ltb-false, leb-true, eqb-true, eq-eqb}
 use Rattle.lists.proofs.Tests.{and-left, and-right, or-cases, or-false, or-left, or-right, refuted, cond-case, below-suc}
-use Rattle.model.specs.Tables.{noRegister, message}
+use Rattle.model.specs.Tables.{registerCount, noRegister, message}
 use Rattle.model.specs.Registers.{exceeds, wins, writes, written, newest}
-use Rattle.model.specs.WellFormed.{fairDate}
+use Rattle.model.specs.WellFormed.{fairRegister, fairDate}
 use Rattle.model.specs.Facts.{WellFormed}
 use Rattle.model.specs.declared.Stamp.{Stamp}
 use Rattle.model.specs.declared.Register.{Register}
@@ -177,6 +177,14 @@ module _ (t : Table) (w : WellFormed t) where
       (λ _ e. leb-true (message t s .date) (t .count) (and-right (ltb 0 (message t s .date)) _ e))
       (λ _ e. omega (arith, eqb-true (message t s .date) 0 e)) (w .dates s h)
 
+  -- and its register is from 1 to 8
+  pub write-register : (r s : ℕ) → s < t .count → writes r (message t s) ≡ true → (0 < r) × (r ≤ registerCount)
+  unfolding fairRegister
+  write-register r s h e =
+      let d = rw (write-kind r s e) at (w .registers s h) in
+      let q = register-of r s e in
+      (omega (arith, q, ltb-true 0 (message t s .payload .reg) (and-left _ _ d)), omega (arith, q, leb-true (message t s .payload .reg) registerCount (and-right (ltb 0 (message t s .payload .reg)) _ d)))
+
   -- writes of one register have different stamps
   pub same-stamp-slot : (r i j : ℕ) → i < t .count → j < t .count → writes r (message t i) ≡ true → writes r (message t j) ≡ true
       → written (message t i) .stamp ≡ written (message t j) .stamp → i ≡ j
@@ -189,6 +197,19 @@ module _ (t : Table) (w : WellFormed t) where
   same-stamp-same {r = r} (none e) (some s h p v d) q = absurd (omega (arith, write-date r s h v .0, ap (λ (x : Stamp). x .date) (rw (e, d) at q)))
   same-stamp-same {r = r} (some s h p v e) (none d) q = absurd (omega (arith, write-date r s h v .0, ap (λ (x : Stamp). x .date) (rw (e, d) at q)))
   same-stamp-same {r = r} (some s h p v e) (some i j u x d) q = e ∙ ap (λ k. written (message t k)) (same-stamp-slot r s i h j v x (rw (e, d) at q)) ∙ sym d
+
+  -- a write that counts is the newest, or the newest exceeds it
+  pub newest-or-later : (f : ℕ → Bool) (r s : ℕ) → s < t .count → f s ≡ true → writes r (message t s) ≡ true
+      → let y = newest (t .count) t f r in
+      let z = written (message t s) in
+      (y ≡ z) ⊎ (exceeds (y .stamp) (z .stamp) ≡ true)
+  newest-or-later f r s h p v = go (exceeds (newest (t .count) t f r .stamp) (written (message t s) .stamp)) refl
+    where
+      go : (b : Bool) → exceeds (newest (t .count) t f r .stamp) (written (message t s) .stamp) ≡ b
+          → (newest (t .count) t f r ≡ written (message t s)) ⊎ (exceeds (newest (t .count) t f r .stamp) (written (message t s) .stamp) ≡ true)
+      go true e = inr e
+      go false e =
+          inl (same-stamp-same {g = f} (newest-held t f r (t .count)) (some s h p v refl) (later-antisym _ _ (not-exceeds _ _ e) (newest-most t f r (t .count) s h p v)))
 
   -- of two sets together: that of the first wins, if its stamp exceeds that of the second
   pub newest-joined : (f g h : ℕ → Bool) (r : ℕ) → ((s : ℕ) → s < t .count → h s ≡ (f s || g s))
