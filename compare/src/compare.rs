@@ -94,15 +94,15 @@ fn differ_plain(what: &str, same: bool) -> Result<(), String> {
 }
 
 /// The names of the set, however wrong its size is.
-fn set(answer: &Answer) -> Vec<demand3::Name> {
+pub fn set(answer: &Answer) -> Vec<demand3::Name> {
     answer.names[..answer.size.min(64)].iter().map(|x| (x.sender as usize, x.number.0 as usize)).collect()
 }
 
-fn sums(sums: Sums) -> demand3::Sums {
+pub fn sums(sums: Sums) -> demand3::Sums {
     (sums.added as usize, sums.withdrawn as usize)
 }
 
-fn register(Register { value, stamp }: Register) -> demand3::Register {
+pub fn register(Register { value, stamp }: Register) -> demand3::Register {
     ((stamp.date as usize, stamp.writer as usize), value)
 }
 
@@ -193,10 +193,18 @@ fn list_head(case: &Case, engine: &dyn Engine) -> Option<(Ledger, Table)> {
     }
 }
 
-/// What breaks demand 3 in the answers of one engine. Wherever the ending speaks, looks and local reads are added to
-/// the list.
+/// What breaks demand 3 in the answers of one engine.
 pub fn demand3(case: &Case, engine: &dyn Engine) -> Result<(), String> {
-    let Some((mut ledger, table)) = list_head(case, engine) else { return Ok(()) };
+    match ledger_of(case, engine).as_ref().and_then(Ledger::broken) {
+        Some(text) => Err(format!("demand 3: {text}")),
+        None => Ok(()),
+    }
+}
+
+/// The ledger of a case over the answers of one engine, up to the first call that breaks demand 3. Wherever the ending
+/// speaks, looks and local reads are added to the list.
+pub fn ledger_of(case: &Case, engine: &dyn Engine) -> Option<Ledger> {
+    let (mut ledger, table) = list_head(case, engine)?;
     let mut side = Side { engine, table };
     let look = |ledger: &mut Ledger, t: &Table, c: usize| {
         let LookAnswer { number, panel } = engine.look(t, c);
@@ -209,8 +217,8 @@ pub fn demand3(case: &Case, engine: &dyn Engine) -> Result<(), String> {
             let answer = side.event(&local_read(c), SCRATCH).answer;
             ledger.ending_read(c, answer.number.number(), sums(answer.sums));
         }
-        if let Some(text) = ledger.broken() {
-            return Err(format!("demand 3: {text}"));
+        if ledger.broken().is_some() {
+            break;
         }
         match case.calls.get(step) {
             Some(Call::Event { bytes, scratch }) => {
@@ -222,5 +230,5 @@ pub fn demand3(case: &Case, engine: &dyn Engine) -> Result<(), String> {
             None => {}
         }
     }
-    Ok(())
+    Some(ledger)
 }

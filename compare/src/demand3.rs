@@ -1,6 +1,7 @@
 //! Demand 3, checked over one list of calls. It reads arguments and answers only, as docs/RULES.md says of the list,
 //! and shares nothing with the reference.
 
+use crate::never_stale::{NeverStale, Own, Shown};
 use std::collections::{BTreeMap, BTreeSet};
 
 /// A message: sender, number.
@@ -76,6 +77,7 @@ pub struct Ledger {
     moments: BTreeSet<Vec<Name>>,
     /// The eight registers that any controller held at any moment, each once.
     snapshots: BTreeSet<[Register; 8]>,
+    pub readings: NeverStale,
     broken: Option<String>,
 }
 
@@ -92,6 +94,7 @@ impl Ledger {
             applied: vec![BTreeSet::new(); n],
             moments: BTreeSet::from([vec![]]),
             snapshots: BTreeSet::from([[((0, 0), 0); 8]]),
+            readings: NeverStale::new(n),
             broken: None,
         }
     }
@@ -104,6 +107,12 @@ impl Ledger {
     fn expect(&mut self, holds: bool, what: impl FnOnce() -> String) {
         if !holds && self.broken.is_none() {
             self.broken = Some(what());
+        }
+    }
+
+    fn expect_right(&mut self, found: Result<(), String>) {
+        if let Err(text) = found {
+            self.expect(false, || text);
         }
     }
 
@@ -144,6 +153,7 @@ impl Ledger {
         self.logs[c - 1].push(name);
         let new = self.sent.insert(name, content).is_none();
         self.expect(new, || format!("{name:?} is sent twice"));
+        self.readings.begin(name, &self.applied[c - 1]);
         (1..=self.n).for_each(|r| self.in_order(r));
     }
 
@@ -197,6 +207,7 @@ impl Ledger {
             self.expect(once, || format!("{r} applies {name:?} twice"));
         }
         if !set.is_empty() {
+            self.found(r, set);
             self.contained(r);
             self.in_order(r);
             self.snapshot(r);
@@ -206,6 +217,24 @@ impl Ledger {
         }
     }
 
+    /// Where messages of r's own are finished, r has all that was finished before they were begun.
+    fn found(&mut self, r: usize, set: &[Name]) {
+        let write = |x: &Content| x.write.map(|Written { place, gives }| (place, gives.0));
+        let own = |name: &Name| self.sent.get(name).map(|x| Own { name: *name, sync: x.sync, write: write(x) });
+        let own: Vec<Own> = set.iter().filter(|name| name.0 == r).filter_map(own).collect();
+        if !own.is_empty() {
+            let shown = self.panel(r);
+            let found = self.readings.finish(&own, &self.applied[r - 1], &shown);
+            self.expect_right(found);
+        }
+    }
+
+    /// What the panel of r would show.
+    fn panel(&self, r: usize) -> Shown {
+        let classes = std::array::from_fn(|class| self.sums(r, |x| x.class == class));
+        Shown { sums: self.sums(r, |_| true), classes, stamps: self.registers(r).map(|(stamp, _)| stamp) }
+    }
+
     /// A handover to r whose set holds a sync of r's own says that it is finished, and gives the sums over all that r has
     /// then applied. Any other gives zeros.
     fn finishing(&mut self, r: usize, set: &[Name], Figures { finished, sums }: Figures) {
@@ -213,7 +242,7 @@ impl Ledger {
         let right = set.iter().any(own_sync);
         self.expect(finished == right as u8, || format!("a handover to {r} of {set:?} answers finished {finished}"));
         match right {
-            true => self.shows(r, sums),
+            true => self.reads(r, sums),
             false => self.expect(sums == (0, 0), || format!("a handover to {r} finishes no sync and gives {sums:?}")),
         }
     }
@@ -237,6 +266,7 @@ impl Ledger {
         let missing: Vec<Name> = own.filter(|name| !self.applied[c - 1].contains(name)).collect();
         self.expect(missing.is_empty(), || format!("a local read of {c}, which has sent and not applied {missing:?}"));
         if let Some(sums) = sums {
+            self.readings.local_read(sums);
             self.shows(c, sums);
         }
     }
@@ -289,6 +319,13 @@ impl Ledger {
         (part(1), part(-1))
     }
 
+    /// The sums of a finished sync or of a line: they are never stale.
+    fn reads(&mut self, c: usize, sums: Sums) {
+        let fresh = self.readings.sums(c, sums);
+        self.expect_right(fresh);
+        self.shows(c, sums);
+    }
+
     /// The sums that a look at a controller shows, a local read or a finished sync gives, or a line of a listing has.
     fn shows(&mut self, c: usize, sums: Sums) {
         let right = self.sums(c, |_| true);
@@ -310,6 +347,8 @@ impl Ledger {
         if c < 1 || c > self.n {
             return self.expect(false, || format!("an accepted look at {c}"));
         }
+        let fresh = self.readings.look(c, &Shown { sums, classes, stamps: registers.map(|(stamp, _)| stamp) });
+        self.expect_right(fresh);
         self.shows(c, sums);
         for (class, shown) in classes.into_iter().enumerate() {
             let right = self.sums(c, |x| x.class == class);
@@ -344,7 +383,7 @@ impl Ledger {
             if let Some(Line { controller, sums, .. }) = line {
                 let named = rest[2] as usize == controller;
                 ledger.expect(named, || format!("the line of event {event} names {controller}"));
-                ledger.shows(rest[2] as usize, sums);
+                ledger.reads(rest[2] as usize, sums);
             }
             rest = &rest[1 + rest[0] as usize..];
         }

@@ -5,6 +5,7 @@ use crate::engine::{Engine, Reference};
 use crate::records::{classed_report, file_of, handover, local_read, report, report_in, stop, sync};
 use crate::reference::{State, LISTING, MAX_MESSAGES, SCRATCH};
 use crate::runs::follow;
+use crate::stale_edges;
 use crate::tables::meaning;
 use crate::write_edges::{self, WITH_SET_POINT};
 use furnacejade::{Answer, Class, Controller, ForwardNumber, Panel, Payload, Sums, Table};
@@ -23,8 +24,11 @@ const UNDER_WAY: &str =
     "0103040101001E0401010014030302010303020202050203030201030301020303010202050103030301030303010303030203030302";
 const UNDER_WAY_LISTING: &str = "4 2 30 0 1.1\n7 1 30 0 1.1\n8 1 50 0 1.2\n12 3 30 0 1.1\n13 3 50 0 1.2\n";
 
+/// A finished report, a local read of another controller that lacks it, and a sync of that controller that includes it.
+const NEVER_STALE: &str = "0103040101001E0303020103030102020502020202030301020303020103030202020502";
+
 /// What the program prints for each file.
-pub const PRINTED: [(&str, &str); 17] = [
+pub const PRINTED: [(&str, &str); 18] = [
     (WHOLE_RUN, "controllers 3\n4 1 30 0 1.1\n7 2 30 0 1.1\n8 2 30 2 3.1\n11 3 30 2 1.1 3.1\nend 11 0\n"),
     ("01", "end 0 1\n"),
     ("0103", "controllers 3\nend 0 0\n"),
@@ -42,6 +46,7 @@ pub const PRINTED: [(&str, &str); 17] = [
     ("02010706010900000005", "controllers 1\nend 0 19\n"),
     ("010102020107060101000005DC", "controllers 1\nend 1 11\n"),
     ("0101020601", "controllers 1\nend 0 7\n"),
+    (NEVER_STALE, "controllers 3\n3 1 30 0 1.1\n8 2 30 0 1.1 2.2\nend 9 0\n"),
 ];
 
 pub fn bytes_of(hexadecimal: &str) -> Vec<u8> {
@@ -597,6 +602,7 @@ pub fn check(engine: &dyn Engine) -> Result<(), String> {
     reports_under_way(engine)?;
     local_reads(engine)?;
     write_edges::check(engine)?;
+    stale_edges::check(engine)?;
     sixty_four_under_way(engine)?;
     many_local_reads(engine)?;
     lengths_kept(engine)?;

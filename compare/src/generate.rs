@@ -3,14 +3,14 @@
 use crate::broken_tables::table_broken;
 use crate::case::Case;
 use crate::file_cases::{file_limits, file_long, file_mangled, file_questions};
-use crate::list_cases::{boundaries, cut_off, drained, fresh_any, full, list, rivals, set_points, under_way};
+use crate::list_cases::{boundaries, cut_off, drained, fresh_any, full, list, readings, rivals, set_points, under_way};
 use crate::random::Random;
 use crate::table_cases::{table_flipped, table_good, table_random};
 
 /// A kind of case: its name, and how to make one.
 pub type CaseKind = (&'static str, fn(&mut Random) -> Case);
 
-pub const KINDS: [CaseKind; 22] = [
+pub const KINDS: [CaseKind; 23] = [
     ("list", list),
     ("table", table_good),
     ("broken table", table_broken),
@@ -29,6 +29,7 @@ pub const KINDS: [CaseKind; 22] = [
     ("fresh", fresh_any),
     ("full list", full),
     ("rival writers", rivals),
+    ("readings", readings),
     ("long file", file_long),
     ("list", list),
     ("table", table_good),

@@ -94,6 +94,26 @@ impl Making {
         self.calls.extend((1..=self.state.n).map(Call::Look));
     }
 
+    /// Handovers among a sender and as few others as make a majority with it, until it has applied all that it has sent or
+    /// they have read all of each other.
+    fn finish(&mut self, random: &mut Random, sender: usize) {
+        let n = self.state.n;
+        let mut others: Vec<usize> = (1..=n).filter(|c| *c != sender).collect();
+        let mut group: Vec<usize> = (0..n / 2).map(|_| others.swap_remove(random.below(others.len()))).collect();
+        group.push(sender);
+        let links: Vec<(usize, usize)> = group.iter().flat_map(|r| group.iter().map(|o| (*r, *o))).collect();
+        while !with_none_pending(&self.state).contains(&sender) {
+            let all = &self.state.controllers;
+            let waits = |(r, o): &&(usize, usize)| all[r - 1].running && all[r - 1].read[o - 1] < all[o - 1].log.len();
+            let unread: Vec<(usize, usize)> = links.iter().filter(waits).copied().collect();
+            if unread.is_empty() {
+                break;
+            }
+            let (receiver, owner) = random.pick(&unread);
+            self.event(handover(receiver, owner));
+        }
+    }
+
     fn hand_over_all(&mut self, random: &mut Random) {
         let run = drain(random, &mut self.state);
         self.calls.extend(as_calls(run));
@@ -212,6 +232,41 @@ pub fn rivals(random: &mut Random) -> Case {
     }
     making.hand_over_all(random);
     making.looks();
+    making.case()
+}
+
+/// A message is finished with the help of few, and then a sync of another controller, which mostly lacks it; and so on.
+/// Some reports are left under way, some senders stop, and most moments are read.
+pub fn readings(random: &mut Random) -> Case {
+    let (version, n) = (any_version(random), random.pick(&[1, 2, 3, 3, 3, 4, 5, 5, 7]));
+    let mut making = Making::fresh(version, n);
+    for _ in 0..random.between(1, 4) {
+        let sender = random.between(1, n);
+        match random.below(4) {
+            0 => making.reports(random, sender, 3),
+            1 => _ = making.event(sync(sender)),
+            2 => {
+                making.event(sync(sender));
+                making.finish(random, sender);
+                making.event(write(sender, 1, any_value(random)));
+            }
+            _ => making.reports(random, sender, 1),
+        }
+        if !random.one_in(8) {
+            making.finish(random, sender);
+        }
+        if random.one_in(8) {
+            let kept = highest_read(&making.state, sender);
+            making.event(stop(sender, kept));
+        }
+        if random.one_in(2) {
+            making.reads();
+        }
+        let reader = 1 + (sender + random.below(n.max(2) - 1)) % n;
+        making.event(sync(reader));
+        making.finish(random, reader);
+        making.reads();
+    }
     making.case()
 }
 

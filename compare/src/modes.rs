@@ -2,7 +2,9 @@
 
 use crate::case::{hexadecimal, Call, Case, Head};
 use crate::check::{demand3_failure, failure, kept_cases, report_and_exit, smallest};
+use crate::compare::ledger_of;
 use crate::engine::{Engine, Faulty, Library, Reference};
+use crate::never_stale::Tally;
 use crate::reference::{self, State, LISTING, SCRATCH};
 use crate::{edges, faults, generate, minimise, subsets, tables};
 use furnacejade::{Answer, Controller, Message, Payload, Refusal, Stamp, Sums, Table};
@@ -171,6 +173,7 @@ struct Counts {
     local_reads: usize,
     both: BothSums,
     set: SetPoints,
+    readings: Tally,
 }
 
 /// How many writes were accepted, and how many of them with a date that another write of the register has; how many
@@ -199,6 +202,13 @@ fn has_both(sums: Sums) -> usize {
 }
 
 impl Counts {
+    /// What a list had to find of what was finished.
+    fn readings(&mut self, case: &Case) {
+        if let Some(ledger) = ledger_of(case, &Reference) {
+            self.readings.add(&ledger.readings.tally);
+        }
+    }
+
     fn head(&mut self, head: &Head) -> Table {
         match head {
             Head::Table(t) => (**t).clone(),
@@ -273,8 +283,10 @@ pub fn count(cases: usize, seed: u64) {
         local_reads: 0,
         both: BothSums::default(),
         set: SetPoints::default(),
+        readings: Tally::default(),
     };
     for (_, case) in (0..cases).map(|index| generate::case(seed, index)) {
+        counts.readings(&case);
         let mut table = counts.head(&case.head);
         for call in &case.calls {
             match call {
@@ -283,7 +295,8 @@ pub fn count(cases: usize, seed: u64) {
             }
         }
     }
-    let Counts { events, looks, files, sizes, most_pending, kept_pending, most_own, local_reads, both, set } = counts;
+    let Counts { events, looks, files, sizes, most_pending, kept_pending, most_own, local_reads, both, set, readings } =
+        counts;
     println!("events by number {events:?}\nlooks by number {looks:?}\nfiles by number {files:?}");
     println!("sets by size {sizes:?}");
     println!("most pending at a set {most_pending}; sets that left others pending {kept_pending}");
@@ -295,6 +308,10 @@ pub fn count(cases: usize, seed: u64) {
     let SetPoints { writes, rivals, looks, several, again } = set;
     println!("writes accepted {writes}, of them with the date of a rival {rivals}");
     println!("looks that show a register {looks}, several {several}, one that was written again {again}");
+    let Tally { syncs, lacking, second_syncs, looks, stale_reads } = readings;
+    println!("syncs finished that were begun after another's message was {syncs}, after another's sync {second_syncs}");
+    println!("syncs finished whose sender lacked something finished when they were begun {lacking}");
+    println!("looks that must find a finished write of another {looks}; stale local reads {stale_reads}");
 }
 
 /// Runs the executable on one input.
