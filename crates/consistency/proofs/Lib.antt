@@ -27,6 +27,6 @@ pub mod MomentFacts
 pub mod HandoverFacts
 pub mod FileRuns
 pub mod Heads
-pub mod Lists
+pub mod CallLists
 pub mod NeverStale
 pub mod Theorem

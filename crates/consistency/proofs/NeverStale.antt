@@ -24,7 +24,7 @@ use Rattle.consistency.proofs.Registers.{write-or-later, write-one}
 use Rattle.consistency.proofs.Moments.{Gives}
 use Rattle.consistency.proofs.MomentFacts.{comparable, within, look-shows}
 use Rattle.consistency.proofs.HandoverFacts.{finishing-own, entry-finishes}
-use Rattle.consistency.proofs.Lists.{tableAt, version-at, gives-at, moment-at, moment-behind, moment-next, later-at}
+use Rattle.consistency.proofs.CallLists.{tableAt, version-at, gives-at, moment-at, moment-behind, moment-next, later-at}
 
 module _ (h : Head) (heads : Heads h) (calls : List Call) where
   abbrev n : ℕ

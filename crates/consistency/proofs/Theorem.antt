@@ -22,7 +22,7 @@ use Rattle.consistency.proofs.Sums.{of-payload, weights-weigh, same-mem
 use Rattle.consistency.proofs.Moments.{Gives}
 use Rattle.consistency.proofs.MomentFacts.{Comparable, comparable, InOrder, OneValue, snapshots, values, in-order, look-shows, read-gives, read-rests, moment-ending, ending-shows, ending-gives}
 use Rattle.consistency.proofs.HandoverFacts.{line-sums}
-use Rattle.consistency.proofs.Lists.{tableAt, version-at, gives-at, event-at, moment-at, moment-end, moment-behind, any-two, sent}
+use Rattle.consistency.proofs.CallLists.{tableAt, version-at, gives-at, event-at, moment-at, moment-end, moment-behind, any-two, sent}
 use Rattle.consistency.proofs.NeverStale.{applied-then, syncs, never-stale, included, answered-so, bears}
 
 -- one call more
