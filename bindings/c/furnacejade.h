@@ -345,9 +345,9 @@ static inline size_t furnacejade_put_classed_report(uint8_t *out, size_t room, u
     return 6;
 }
 
-/* Kind 2: a sync by its sender, 3 bytes. The handover with which the sender applies it answers finished 1 and the sums: whatever
- * was finished at its own sender before the sync was sent is in them. It is refused (11) while a message of the sender's own is
- * pending. */
+/* Kind 2: a sync by its sender, 3 bytes. The handover with which the sender applies it answers finished 1 and the sums. In them
+ * is every message of any controller that was finished, which is applied by the one who sent it, before the sync was sent. It
+ * is refused (11) while a message of the sender's own is pending. */
 static inline size_t furnacejade_put_sync(uint8_t *out, size_t room, uint8_t sender) {
     if (room < 3) return 0;
     out[0] = 2;

@@ -247,6 +247,24 @@ const GIVEN: &[List] = &[
             look 3: 0 0",
     },
     List {
+        what: "the same of two controllers",
+        version: 1,
+        n: 2,
+        calls: "sync 2
+            1 from 2
+            2 from 1: finished 0 0 2.1
+            write 2 1 1500
+            1 from 2
+            2 from 1: 0 0 2.2
+            look 1: 0 0
+            sync 1
+            2 from 1
+            1 from 2
+            1 from 1: 0 0 2.1
+            1 from 1: finished 0 0 1.3 2.2
+            look 1: 0 0; register 1 1500 by 1 2",
+    },
+    List {
         what: "of two writes with one date, the greater writer's is found",
         version: 1,
         n: 3,
@@ -540,6 +558,103 @@ const WRONG: &[(List, &str)] = &[
     ),
     (
         List {
+            what: "a sync rests on less than a report did",
+            version: 1,
+            n: 3,
+            calls: "report 3 7
+                1 from 3
+                report 1 4
+                2 from 1
+                2 from 1
+                1 from 2: 7 0 3.1
+                1 from 2: 11 0 1.2
+                sync 2
+                1 from 2
+                2 from 1
+                2 from 2: finished 4 0 1.2 2.3",
+        },
+        "rests on less: (2, 3) is finished without (3, 1), on which (1, 2) rested, finished before it was begun",
+    ),
+    (
+        List {
+            what: "of two messages finished at once the one that was begun later lacks a report",
+            version: 1,
+            n: 3,
+            calls: "sync 2
+                report 1 30
+                3 from 1
+                1 from 3: 30 0 1.1
+                report 2 4
+                3 from 2
+                3 from 2
+                2 from 3
+                2 from 3
+                2 from 3: finished 4 0 2.1 2.2",
+        },
+        "not included: (2, 2) is finished without (1, 1), finished before it was begun",
+    ),
+    (
+        List {
+            what: "of two reports finished at once the second is not included",
+            version: 1,
+            n: 3,
+            calls: "report 1 30
+                report 1 -7
+                2 from 1
+                2 from 1
+                1 from 2: 30 7 1.1 1.2
+                sync 2
+                1 from 2
+                1 from 2
+                2 from 1
+                2 from 2: finished 30 0 1.1 2.3",
+        },
+        "not included: (2, 3) is finished without (1, 2), finished before it was begun",
+    ),
+    (
+        List {
+            what: "of two reports finished at once the first is not included",
+            version: 1,
+            n: 3,
+            calls: "report 1 30
+                report 1 -7
+                2 from 1
+                2 from 1
+                1 from 2: 30 7 1.1 1.2
+                sync 2
+                1 from 2
+                1 from 2
+                2 from 1
+                2 from 2: finished 0 7 1.2 2.3",
+        },
+        "not included: (2, 3) is finished without (1, 1), finished before it was begun",
+    ),
+    (
+        List {
+            what: "a sync reads less than a report before the last message that was finished",
+            version: 1,
+            n: 3,
+            calls: "sync 2
+                1 from 2
+                report 1 30
+                1 from 1: 0 0 2.1
+                3 from 1
+                3 from 1
+                1 from 3
+                1 from 3: 30 0 1.2
+                2 from 1: finished 0 0 2.1
+                sync 2
+                3 from 2: 0 0 2.1
+                3 from 2
+                2 from 3
+                2 from 3
+                2 from 3
+                2 from 1: finished 29 0 1.2 2.2",
+        },
+        "reads less: 2 gives (29, 0), and (30, 0) was reached before (2, 2) was begun",
+    ),
+    (
+        List {
             what: "a look reads less behind a finished sync",
             version: 1,
             n: 3,
@@ -574,6 +689,26 @@ const WRONG: &[(List, &str)] = &[
                 look 2: 30 5; class 2 30 4",
         },
         "reads less of class 2: 2 shows (30, 4), and (30, 5) was reached before (2, 3) was begun",
+    ),
+    (
+        List {
+            what: "a look reads less withdrawn of another class, which the last message that was finished lacked",
+            version: 2,
+            n: 3,
+            calls: "report 3 1 1
+                1 from 3
+                1 from 1: 1 0 3.1
+                report 1 -5 4
+                2 from 1
+                2 from 1
+                1 from 2: 1 5 1.2
+                3 from 1: 1 0 3.1
+                sync 2
+                1 from 2
+                2 from 2: finished 1 5 1.2 2.3 3.1
+                look 2: 1 5; class 1 1 0; class 4 0 4",
+        },
+        "reads less of class 4: 2 shows (0, 4), and (0, 5) was reached before (2, 3) was begun",
     ),
     (
         List {
@@ -632,6 +767,30 @@ const WRONG: &[(List, &str)] = &[
     ),
     (
         List {
+            what: "of two rival writes the lesser is found, which was finished last",
+            version: 1,
+            n: 3,
+            calls: "sync 1
+                sync 2
+                1 from 2
+                2 from 1
+                1 from 2: finished 0 0 1.1 2.1
+                2 from 1: finished 0 0 1.1 2.1
+                write 1 1 1500
+                write 2 1 1600
+                1 from 2
+                2 from 1
+                2 from 1: 0 0 1.3 2.3
+                1 from 2: 0 0 1.3 2.3
+                sync 3
+                1 from 3
+                3 from 1: finished 0 0 1.1 1.3 2.1 2.3 3.1
+                look 3: 0 0; register 1 1500 by 1 1",
+        },
+        "not found: register 1 of 3 bears (1, 1), and (1, 2) was finished before (3, 1) was begun",
+    ),
+    (
+        List {
             what: "a register reads earlier than an earlier reading had it, by a write that is not finished",
             version: 1,
             n: 3,
@@ -658,6 +817,31 @@ const WRONG: &[(List, &str)] = &[
                 look 3: 0 0",
         },
         "reads earlier: register 1 of 3 bears (0, 0), and (1, 2) was reached before (3, 4) was begun",
+    ),
+    (
+        List {
+            what: "the same, where the last message that was finished had no register",
+            version: 1,
+            n: 3,
+            calls: "report 3 1
+                sync 2
+                1 from 3
+                1 from 2
+                1 from 1: 1 0 2.1 3.1
+                2 from 1
+                2 from 1: finished 1 0 2.1 3.1
+                write 2 1 1500
+                1 from 2
+                1 from 2: 1 0 2.3
+                sync 1
+                3 from 1
+                1 from 1: finished 1 0 1.4
+                3 from 1: 1 0 3.1
+                sync 3
+                3 from 1: finished 1 0 1.4 2.1 2.3 3.3
+                look 3: 1 0",
+        },
+        "reads earlier: register 1 of 3 bears (0, 0), and (1, 2) was reached before (3, 3) was begun",
     ),
     // These are wrong for another reason: what they lack was not finished before, or they are no reading of a sender.
     (

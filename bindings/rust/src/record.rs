@@ -22,8 +22,9 @@ pub enum Record {
         /// What the eggs weigh, [`Class::XL`] to [`Class::S`].
         class: Class,
     },
-    /// A sender asks for the sums, and gets them when it applies this message: whatever was finished at its own sender
-    /// before this message was sent is then in them. It has no message of its own pending.
+    /// A sender asks for the sums, and gets them when it applies this message. In them is every message of any controller
+    /// that was finished, which is applied by the one who sent it, before this one was sent. The sender has no message of
+    /// its own pending.
     Sync {
         /// The controller that sends it.
         sender: u8,

@@ -113,6 +113,10 @@ module _ {n : ℕ} {t : Table} {l : Ledger} (r : Recorded n t l) where
       let o = has-tabulate-at (nameAt t) m (t .count) (sym (ap (has m) sent-names) ∙ e) in
       record { which = o .which; below = o .below; named = sym (same-true m (nameAt t (o .which)) (o .passes)) }
 
+  -- what was applied was sent
+  pub applied-known : (c : ℕ) (m : Name) → has m (flatten (l .sets c)) ≡ true → has m (sentNames l) ≡ true
+  applied-known c m e = slot-sent m (r .applied-sent c m e)
+
   -- whatever an event answers was sent before it
   pub names-sent : (S : Slots) (m : Name) → has m (namesOf t S) ≡ true → has m (sentNames l) ≡ true
   names-sent S m e = slot-sent m (names-slot t S m e)

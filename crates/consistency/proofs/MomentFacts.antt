@@ -1,4 +1,4 @@
--- What the claim says of one moment or of two: containment, snapshots, order, looks, local reads, and the ending. Assumes nothing.
+-- What the claim says of one moment or of two: containment, what is within what, snapshots, order, looks, local reads, and the ending. Assumes nothing.
 use mathlib.Core.Path.{_≡_, refl, sym, ap, ap₂, _∙_}
 use mathlib.Core.Logic.{_⊎_, inl, inr, _↔_}
 use mathlib.Core.Bool.{true, false, false≢true}
@@ -87,7 +87,7 @@ comparable {n} {s₀} {t} {u} {l} {k} w c d = go (w .first) (w .second) (naming 
       | inr w ↦ inl (subset-contains (m′ .related) (m′ .recorded) (m .related) (m .recorded) d c y x w)
     ]
 
--- SNAPSHOTS, at a moment and later
+-- WITHIN, and SNAPSHOTS, at a moment and later
 
 -- of every two controllers they are in order; and where two stamps are the same, so are the values
 abbrev pub InOrder : Ledger → Ledger → Type 0

@@ -3,22 +3,23 @@
 use mathlib.Core.Path.{_≡_, refl, ap, _∙_}
 use mathlib.Core.Logic.{inl, inr}
 use mathlib.Core.Bool.{true, false}
-use mathlib.Core.List.{List, [], _∷_, _++_, map-append, append-assoc}
-use Prim.Native.Nat.{ℕ, suc, _-_, _≤_, _<_}
+use mathlib.Core.List.{List, [], _∷_, _++_, map-append, append-assoc, foldl}
+use Prim.Native.Nat.{ℕ, suc, _+_, _-_, _≤_, _<_}
 use native.Mathlib.Omega.{arith}
 use native.Mathlib.Decide.{decLt}
-use lib.ListN.{getD, drop}
+use lib.ListN.{length, getD, drop}
 use borrow.Author.Tests.{eq-eqb}
 use Rattle.lists.proofs.Tests.{or-left, or-right, refuted, contradiction}
 use Rattle.lists.proofs.Build.{getD-tabulate}
 use Rattle.model.specs.Tables.{registerCount, noRegister}
 use Rattle.model.specs.declared.Name.{Name}
+use Rattle.model.specs.declared.Payload.{Payload}
 use Rattle.model.specs.declared.Panel.{Panel}
-use Rattle.model.specs.declared.Event.the-variants.{Handover}
+use Rattle.model.specs.declared.Event.the-variants.{Send, Handover}
 use Rattle.model.specs.declared.LookAnswer.{LookAnswer}
-use Rattle.consistency.specs.Demand3.{has, Call, Entry, looked, Said, carried, steps, put, Sent, Ledger, applied, moved, writes, written, newest, sentNames, showing, finishing, Head, Heads, version, controllers, entries, moment, Finishes, Begun, Applies, Finished, Within, OrLater, Bears}
+use Rattle.consistency.specs.Demand3.{name, has, Call, Entry, looked, Said, carried, steps, put, Sent, Ledger, applied, moved, writes, written, newest, dateFor, sentNames, showing, finishing, Head, Heads, version, controllers, entries, moment, Finishes, Begun, Applies, Finished, Within, OrLater, Bears}
 use Rattle.consistency.proofs.Names.{same-self, has-append, flatten-last, apart-of}
-use Rattle.consistency.proofs.Ledger.{Recorded, slot-sent, distinct-sent}
+use Rattle.consistency.proofs.Ledger.{Recorded, applied-known, distinct-sent}
 use Rattle.consistency.proofs.Grown.{names, names-grown}
 use Rattle.consistency.proofs.Registers.{write-or-later, write-one}
 use Rattle.consistency.proofs.Moments.{Gives}
@@ -36,12 +37,21 @@ module _ (h : Head) (heads : Heads h) (calls : List Call) where
   recorded : (i : ℕ) → Recorded n (tableAt h calls i) (upTo i)
   recorded i = moment-at h heads calls i .recorded
 
-  -- WHAT WAS APPLIED
+  -- EVERY accepted handover applies its set, and every accepted report, sync or write begins its message: neither word asks for more
 
-  applied-sent : (i c : ℕ) (m : Name) → has m (applied (upTo i) c) ≡ true → has m (sentNames (upTo i)) ≡ true
-  applied-sent i c m e = slot-sent (recorded i) m (recorded i .applied-sent c m e)
+  pub applies-so : (i c o : ℕ) (q : Said) (ms : List Name) (e : Entry) (after : List Entry) (m : Name) → drop i (entries h calls) ≡ e ∷ after
+      → steps (version h) e ≡ carried q (Handover c o) ms ∷ [] → has m ms ≡ true → Applies h calls i c m
+  applies-so i c o q ms e after m p is x = record { entry = e; after = after; there = p; said = q; owner = o; set = ms; handover = is; member = x }
 
-  -- by an entry, and from then on
+  pub begins-so : (i c : ℕ) (q : Said) (p : Payload) (ms : List Name) (e : Entry) (after : List Entry) → drop i (entries h calls) ≡ e ∷ after
+      → steps (version h) e ≡ carried q (Send c p) ms ∷ []
+      → let l = upTo i in
+      Begun h calls i (record { name = name c (length (l .log c) + 1); date = dateFor l c q; payload = p; said = q })
+  unfolding moved
+  begins-so i c q p ms e after w is = ap (λ (l : Ledger). l .sent) (moment-next h heads calls i e after w ∙ ap (foldl moved (upTo i)) is)
+
+  -- WHAT WAS APPLIED, by an entry, and from then on
+
   pub applied-then : {i c : ℕ} {m : Name} → Applies h calls i c m → has m (applied (upTo (suc i)) c) ≡ true
   unfolding moved put
   applied-then {i} {c} {m} a =
@@ -77,7 +87,7 @@ module _ (h : Head) (heads : Heads h) (calls : List Call) where
     since : (k d : ℕ) → has (s .name) (applied (upTo k) d) ≡ true → j < k
     since k d e = elim (decLt j k) [
       | yes l ↦ l
-      | no l ↦ contradiction (applied-sent k d (s .name) e) (unsent k (omega arith))
+      | no l ↦ contradiction (applied-known (recorded k) d (s .name) e) (unsent k (omega arith))
     ]
 
     -- and where somebody has, it is among the messages sent
@@ -96,7 +106,7 @@ module _ (h : Head) (heads : Heads h) (calls : List Call) where
     never-stale i k c d le e =
         let w = later-at h heads calls i k (omega (arith, le, since k d e)) in
         within w c d (elim (comparable w c d) [
-          | inl f ↦ contradiction (applied-sent i c (s .name) (f (s .name) e)) (unsent i le)
+          | inl f ↦ contradiction (applied-known (recorded i) c (s .name) (f (s .name) e)) (unsent i le)
           | inr f ↦ f
         ])
 

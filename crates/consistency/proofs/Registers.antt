@@ -12,7 +12,7 @@ use Rattle.lists.specs.Build.{tabulateFrom, tabulate}
 use Rattle.lists.proofs.Tests.{or-left, or-false, refuted, contradiction}
 use Rattle.lists.proofs.Build.{length-tabulate, getD-tabulate}
 use Rattle.lists.proofs.Grow.{tabulate-suc}
-use Rattle.model.specs.Tables.{registerCount, noRegister, at, message}
+use Rattle.model.specs.Tables.{registerCount, noRegister, at}
 use Rattle.model.specs.Registers.{wins, writes as writesOf, newest as newestIn, registerOf, dateOf}
 use Rattle.model.specs.declared.Name.{Name}
 use Rattle.model.specs.declared.Payload.{Payload}
@@ -24,7 +24,7 @@ use Rattle.model.proofs.Registers.{no-later, write-register, newest-or-later, n
 use Rattle.consistency.specs.Demand3.{same, has, Sent, Ledger, applied, writes, written, newest, registerAt, dateFor, sentNames, Contains, Exactly, NoLater, OrLater}
 use Rattle.consistency.proofs.Names.{same-self, Apart, apart-of}
 use Rattle.consistency.proofs.SlotNames.{nameAt}
-use Rattle.consistency.proofs.Ledger.{saidOf, sentAt, Recorded, slot-sent, distinct-sent}
+use Rattle.consistency.proofs.Ledger.{saidOf, sentAt, Recorded, applied-known, distinct-sent}
 use Rattle.consistency.proofs.Grown.{names, Grown, names-grown}
 
 -- BY SLOTS
@@ -80,7 +80,7 @@ module _ {n : ℕ} {t : Table} {l : Ledger} (p : Recorded n t l) where
       rw (newest-has r ms, newest-has r ks)
       (same-stamp-same t (p .formed) (newest-held t (among t ms) r (t .count)) (newest-held t (among t ks) r (t .count)))
 
-  -- ONE WRITE
+  -- WRITES
 
   -- a message sent has the slot of its place
   placed : (xs : List Sent) (x : Sent) (ys : List Sent) → l .sent ≡ xs ++ (x ∷ ys) → (length xs < t .count) × (sentAt t (length xs) ≡ x)
@@ -137,4 +137,4 @@ pub register-later : {n : ℕ} {t u : Table} {l k : Ledger} → Recorded n t l �
 register-later {l = l} {k = k} p q g c r = sym (rw (g .is) (newest-skips r (applied l c) (l .sent) (g .more) new))
   where
     new : Apart (applied l c) (names (g .more))
-    new m e = apart-of (sentNames l) _ (rw (names-grown g) at (distinct-sent q)) m (slot-sent p m (p .applied-sent c m e))
+    new m e = apart-of (sentNames l) _ (rw (names-grown g) at (distinct-sent q)) m (applied-known p c m e)

@@ -31,7 +31,7 @@ use Rattle.invariant.proofs.Bounds.{fair-parts}
 use Rattle.consistency.specs.Demand3.{same, has, Distinct, Sent, Ledger, applied, sentNames, remaining, weightOf, weights, above, below, ofClass, showing, Contains, Exactly}
 use Rattle.consistency.proofs.Names.{same-true, same-self, same-sym, has-tabulate-at, has-less, distinct-less}
 use Rattle.consistency.proofs.SlotNames.{nameAt, slots-differ}
-use Rattle.consistency.proofs.Ledger.{balance, sentOf, sentAt, senderAt, Slot, Recorded, slot-sent, sent-slot, distinct-sent}
+use Rattle.consistency.proofs.Ledger.{balance, sentOf, sentAt, senderAt, Slot, Recorded, slot-sent, sent-slot, applied-known, distinct-sent}
 use Rattle.consistency.proofs.Grown.{names, Grown}
 use Rattle.consistency.proofs.Registers.{register-held, same-members-same-register}
 
@@ -187,7 +187,7 @@ module _ {n : ℕ} {t : Table} {l : Ledger} (k : Recorded n t l) where
 
   -- what was applied weighs the same in a later ledger
   pub weights-later : {m : Ledger} → Grown l m → (w : Sent → ℕ) (c : ℕ) → weights w (l .sent) (applied l c) ≡ weights w (m .sent) (applied l c)
-  weights-later g w c = sym (rw (g .is) (weights-first w (l .sent) (g .more) (applied l c) (λ x e. slot-sent k x (k .applied-sent c x e))))
+  weights-later g w c = sym (rw (g .is) (weights-first w (l .sent) (g .more) (applied l c) (applied-known k c)))
 
   -- WHAT REMAINS
 

@@ -444,7 +444,7 @@ pub record Within (l : Ledger) (c : ℕ) (k : Ledger) (d : ℕ) : Type 0 where
 abbrev pub OrLater : Register → Register → Type 0
 OrLater y z = (z ≡ y) ⊎ (exceeds (z .stamp) (y .stamp) ≡ true)
 
--- so is register r of c at moment i, and in a look at c there
+-- register r of c is y, or has a greater stamp: at moment i, and in a look at c there
 pub record Bears (h : Head) (calls : List Call) (i c r : ℕ) (y : Register) : Type 0 where
   pub held : OrLater y (registerAt (moment h calls i) c r)
   pub shown : (a : LookAnswer) (after : List Entry) → drop i (entries h calls) ≡ looked c a ∷ after
@@ -509,7 +509,7 @@ pub record Consistent (h : Head) (calls : List Call) : Type 0 where
       registerAt l c r .stamp ≡ registerAt k d r .stamp → registerAt l c r .value ≡ registerAt k d r .value
   -- "Take a sync begun after a report was finished at its sender: once the sync is finished, its answer includes the report": entry i
   -- finishes m, a report, sync or write; behind it entry j begins s, a sync or another message; and entry k finishes s. From then on s's
-  -- sender has applied m
+  -- sender has applied m. "Local reads are exempt": no field says this of them
   pub includes : (i j k later : ℕ) (m : Name) (s : Sent)
       → Finished h calls i m → i < j → Begun h calls j s → Finished h calls k (s .name) → k < later
       → has m (applied (moment h calls later) (s .name .sender)) ≡ true

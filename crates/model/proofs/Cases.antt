@@ -264,7 +264,7 @@ table =
     -- P: n = 4, two marks: not applied; three: applied
     ∷ quiet 4 (report 1 5 ∷ handover 1 1 ∷ handover 2 1 ∷ []) (handover 1 2) 4096 0 4
     ∷ case 4 (report 1 5 ∷ handover 1 1 ∷ handover 2 1 ∷ handover 1 2 ∷ handover 3 1 ∷ []) (handover 1 3) 4096 0 ([] ∷ [] ∷ [] ∷ [] ∷ [] ∷ (101 ∷ []) ∷ [])
-    -- a report: 8 before 9 before 10 before 12 before 15
+    -- a report: 8 before 9 before 10; 12 and 15 stand below
     ∷ quiet 1 [] (report 2 361) 0 8 0
     ∷ quiet 2 (stop 1 0 ∷ []) (report 1 361) 0 9 1
     ∷ quiet 2 (report 1 1 ∷ stop 1 1 ∷ []) (report 1 360) 0 10 2
@@ -289,7 +289,7 @@ table =
     ∷ holds 1 2 (rivals ++ (sync 1 ∷ handover 2 1 ∷ handover 1 2 ∷ write 1 3 900 ∷ handover 2 2 ∷ handover 2 1 ∷ handover 2 2 ∷ [])) 2
     (rivalSets ++ ([] ∷ [] ∷ (105 ∷ []) ∷ [] ∷ (105 ∷ []) ∷ [] ∷ (106 ∷ []) ∷ []))
     (noRegister ∷ noRegister ∷ stamped 900 2 1 ∷ noRegister ∷ noRegister ∷ noRegister ∷ noRegister ∷ noRegister ∷ [])
-    -- and here the others. P: the lines of the worked run, with both sums
+    -- The others. P: the lines of the worked run, with both sums
     ∷ lists (1 ∷ 3 ∷ flatten (worked ++ (handover 3 1 ∷ []))) 4096 16384 0
     (52 ∷ 32 ∷ 49 ∷ 32 ∷ 51 ∷ 48 ∷ 32 ∷ 48 ∷ 32 ∷ 49 ∷ 46 ∷ 49 ∷ 10
     ∷ 55 ∷ 32 ∷ 50 ∷ 32 ∷ 51 ∷ 48 ∷ 32 ∷ 48 ∷ 32 ∷ 49 ∷ 46 ∷ 49 ∷ 10
