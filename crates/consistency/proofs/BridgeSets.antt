@@ -12,7 +12,7 @@ use Rattle.lists.proofs.Tests.{and-left, and-right, both, bool-eq, contradictio
 use Rattle.lists.proofs.Below.{count-found, count-pos}
 use Rattle.lists.proofs.Build.{getD-tabulate}
 use Rattle.model.specs.Tables.{seats, capacity, absent, held}
-use Rattle.model.specs.Delivery.{Slots, has, majority, markCount, beforeCount, goesBefore, applicable}
+use Rattle.model.specs.Delivery.{Slots, has, majority, markCount, goesBefore, applicable}
 use Rattle.model.specs.declared.Controller.{Controller}
 use Rattle.model.specs.declared.Table.{Table}
 use Rattle.model.specs.Facts.{WellFormed}
@@ -75,7 +75,7 @@ module _ (n : ℕ) (slots : ℕ) (name : ℕ → ℕ) (c : Controller) (counted 
       go (no p) = contradiction e (outside j h (omega arith))
 
   chosen-closed : SlotClosed (system n) slots name (held c) (marksOf c) chosen
-  unfolding markCount goesBefore beforeCount
+  unfolding markCount goesBefore
   chosen-closed = let w = applicable-largest n (c .pending) .closed in record {
     pending = λ x e. let p = chosen-at x e in (p .0, applicable-held n (c .pending) x (omega arith) (p .1));
     marks = λ x e. let p = chosen-at x e in
@@ -93,7 +93,7 @@ module _ (n : ℕ) (slots : ℕ) (name : ℕ → ℕ) (c : Controller) (counted 
     in-run j h = getD-tabulate capacity u false j h
 
     listed-closed : ClosedSlots capacity (inBuffer n (c .pending)) (candidate n (c .pending)) (precedes n (c .pending)) R
-    unfolding markCount goesBefore beforeCount
+    unfolding markCount goesBefore
     listed-closed = record {
       chosen = λ x h e. let p = sym (in-run x h) ∙ e in
           both (w .pending x p .1) (le-leb (majority n) (count (min n seats) (λ f. ltb (marksOf c x f) absent)) (w .marks x p));

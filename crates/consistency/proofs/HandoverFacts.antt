@@ -25,7 +25,7 @@ use Rattle.model.specs.declared.Command.{Command}
 use Rattle.model.specs.declared.Command.the-variants.{Act, Read}
 use Rattle.model.specs.Facts.{WellFormed}
 use Rattle.model.proofs.Allowed.{handover-allowed}
-use Rattle.consistency.specs.Demand3.{has, Line, Entry, answered, looked, listed, Said, carried, stepsOf, steps, Sent, Ledger, applied, showing, finishing, Finishes}
+use Rattle.consistency.specs.Demand3.{has, Line, Entry, answered, looked, counted, listed, Said, carried, stepsOf, steps, Sent, Ledger, applied, showing, finishing, Finishes}
 use Rattle.consistency.proofs.Names.{any-tabulate}
 use Rattle.consistency.proofs.SlotNames.{nameAt, has-names}
 use Rattle.consistency.proofs.Ledger.{sentAt, Recorded}
@@ -124,4 +124,5 @@ module _ {n : ℕ} {t : Table} (formed : WellFormed t) (r o : ℕ) (q : Said) (m
       let h = handed (answered s w a) g is k in
       call-answers formed r o q ms (h .0) (h .1) s w a g (call-carries (a .number) (t .version) s _ q (Handover r o) _ ms is)
   entry-finishes (looked c a) g is k = absurd (cons-ne-nil _ [] (sym is))
+  entry-finishes (counted c a b x) g is k = absurd (cons-ne-nil _ [] (sym is))
   entry-finishes (listed s x) g is k = λ f. line-sums s x g is k (λ none. contradiction f (rw none (finishing-none (l .sent) r)))

@@ -15,7 +15,7 @@ use Rattle.lists.proofs.Clipped.{any-none}
 use Rattle.model.specs.Tables.{scratchSize, yes?, at, message, place, held, applied as appliedAt, Among}
 use Rattle.model.specs.Events.{panelOf}
 use Rattle.model.specs.Records.{byte, sizeOf, decode}
-use Rattle.model.specs.WellFormed.{named, wellFormed, inLog}
+use Rattle.model.specs.WellFormed.{inLog}
 use Rattle.model.specs.Questions.{firstNo, lentTable, kindQuestions, recordQuestions, ownPending, commandQuestions, scratchRoom, stepQuestions}
 use Rattle.model.specs.Calls.{EventAnswer, answering, accepted, settled, event, look}
 use Rattle.model.specs.declared.Name.{Name}
@@ -25,8 +25,8 @@ use Rattle.model.specs.declared.Table.{Table}
 use Rattle.model.specs.declared.Command.the-variants.{Read}
 use Rattle.model.specs.declared.LookAnswer.{LookAnswer}
 use Rattle.model.specs.Facts.{WellFormed}
-use Rattle.model.proofs.Tested.{named-at, named-of, tested}
-use Rattle.model.proofs.Allowed.{no-no, ReadAllowed, read-allowed}
+use Rattle.model.proofs.Tested.{named-of, tested}
+use Rattle.model.proofs.Allowed.{look-asked, look-passed, ReadAllowed, read-allowed}
 use Rattle.invariant.proofs.Stores.{seated}
 use Rattle.broadcast.specs.State.{State}
 use Rattle.broadcast.specs.Delivery.{Subset}
@@ -144,14 +144,12 @@ in-order m r c j k b e f =
 module _ {n : ℕ} {s₀ : State} {t : Table} {l : Ledger} (m : Moment n s₀ t l) where
   -- a look that is not refused names a controller
   look-named : (c : ℕ) → look t c .number ≡ 0 → Among n c
-  unfolding look lentTable
-  look-named c e =
-      let h = named-at t c (no-no 7 (named t c) [] (no-no 3 (wellFormed t) _ e .1) .0) in
-      omega (arith, m .related .size)
+  unfolding look
+  look-named c e = omega (arith, look-asked t c e .1, m .related .size)
 
   look-is : (c : ℕ) → Among n c → look t c ≡ record { number = 0; panel = panelOf t c }
-  unfolding look lentTable firstNo
-  look-is c h = rw (tested t (m .related .formed), named-of t c (omega (arith, m .related .size)))
+  unfolding look
+  look-is c h = rw (look-passed t c (tested t (m .related .formed)) (omega (arith, m .related .size)))
 
   pub look-shows : (c : ℕ) (a : LookAnswer) → a ≡ look t c → a .number ≡ 0 → a .panel ≡ showing (l .sent) (applied l c)
   look-shows c a e z =

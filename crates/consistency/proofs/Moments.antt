@@ -10,7 +10,7 @@ use Rattle.model.specs.Events.{withSent, next, controllerOf, resulting, panelOf
 use Rattle.model.specs.Records.{behind, decode}
 use Rattle.model.specs.WellFormed.{wellFormed}
 use Rattle.model.specs.Questions.{firstNo, commandQuestions, lentTable, stepQuestions}
-use Rattle.model.specs.Calls.{EventAnswer, Outcome, answering, accepted, refused, event, look}
+use Rattle.model.specs.Calls.{EventAnswer, Outcome, answering, accepted, refused, event, look, countBefore}
 use Rattle.model.specs.declared.Table.{Table}
 use Rattle.model.specs.declared.Event.{Event}
 use Rattle.model.specs.declared.Event.the-variants.{Send, Handover, Stop}
@@ -20,7 +20,7 @@ use Rattle.model.proofs.Allowed.{FreshAllowed, no-no, step-asked}
 use Rattle.model.proofs.Steps.{answering-number, settled-case}
 use Rattle.broadcast.specs.State.{State, fresh as freshState}
 use Rattle.broadcast.specs.Events.{Run, start as stays, then}
-use Rattle.consistency.specs.Demand3.{Call, singleEvent, panelLook, Line, Entry, answered, looked, listed, entry, left, transcript, said, Step, carried, stepsOf, steps, did, Ledger, start, moved}
+use Rattle.consistency.specs.Demand3.{Call, singleEvent, panelLook, beforeCount, Line, Entry, answered, looked, counted, listed, entry, left, transcript, said, Step, carried, stepsOf, steps, did, Ledger, start, moved}
 use Rattle.consistency.proofs.Bridge.{top, system, Related}
 use Rattle.consistency.proofs.BridgeNext.{fresh-related, next-related}
 use Rattle.consistency.proofs.Reader.{written, written-set}
@@ -68,12 +68,14 @@ lineAfter c o = written (panelOf (o .table) c .sums) (o .answer .names)
 unfoldable pub Gives : Table → Entry → Type 0
 Gives t (answered s w a) = a ≡ event t s (length w) .answer
 Gives t (looked c a) = a ≡ look t c
+Gives t (counted c a b x) = x ≡ countBefore t c a b
 Gives t (listed s x) = (firstNo (commandQuestions t (decode (t .version) s)) ≡ 0) × (x ≡ lineAfter (controllerOf (decode (t .version) s)) (accepted t s))
 
 -- the table that an entry leaves
 unfoldable pub told : Table → Entry → Table
 told t (answered s w a) = event t s (length w) .table
 told t (looked c a) = t
+told t (counted c a b x) = t
 told t (listed s x) = accepted t s .table
 
 -- so an accepted event call: no question refuses its record, and it gives the record's answer
@@ -109,6 +111,7 @@ pub entry-taken : (t : Table) (e : Entry) → Gives t e → Course stepped Takes
 unfolding Gives told steps Course
 entry-taken t (answered s w a) q = rw q (event-taken t s w)
 entry-taken t (looked c a) q = refl
+entry-taken t (counted c a b x) q = refl
 entry-taken t (listed s x) q = rw (q .1, written-set) (accepted-taken t s (q .0))
 
 -- THE VERSION, which no entry changes
@@ -131,6 +134,7 @@ told-version : (t : Table) (e : Entry) → told t e .version ≡ t .version
 unfolding told event refused
 told-version t (answered s w a) = settled-case (λ (o : Outcome). o .table .version ≡ t .version) t s _ (λ _. accepted-version t s) (λ _. refl)
 told-version t (looked c a) = refl
+told-version t (counted c a b x) = refl
 told-version t (listed s x) = accepted-version t s
 
 pub entries-version : (t : Table) (es : List Entry) → foldl told t es .version ≡ t .version
@@ -157,6 +161,7 @@ unfolding Course Gives told transcript entry left
 transcript-course t [] = refl
 transcript-course t (singleEvent s w ∷ cs) = (refl, transcript-course (event t s (length w) .table) cs)
 transcript-course t (panelLook c ∷ cs) = (refl, transcript-course t cs)
+transcript-course t (beforeCount c a b ∷ cs) = (refl, transcript-course t cs)
 
 -- MOMENTS
 

@@ -14,7 +14,7 @@ use Rattle.model.specs.Tables.{classCount, registerCount, scratchSize, messageN
 use Rattle.model.specs.Records.{byte, kind, word, long, behind, decode}
 use Rattle.model.specs.Registers.{exceeds, wins}
 use Rattle.model.specs.Questions.{firstNo, fileQuestions}
-use Rattle.model.specs.Calls.{EventAnswer, event, freshTable, look}
+use Rattle.model.specs.Calls.{EventAnswer, event, freshTable, look, countBefore}
 use Rattle.model.specs.Runs.{RunOutcome, fileRun}
 use Rattle.model.specs.declared.Name.{Name}
 use Rattle.model.specs.declared.Payload.{Payload}
@@ -27,6 +27,7 @@ use Rattle.model.specs.declared.Event.the-variants.{Send, Handover, Stop}
 use Rattle.model.specs.declared.Command.{Command}
 use Rattle.model.specs.declared.Command.the-variants.{Act, Read}
 use Rattle.model.specs.declared.LookAnswer.{LookAnswer}
+use Rattle.model.specs.declared.CountAnswer.{CountAnswer}
 
 -- NAMES
 
@@ -57,10 +58,12 @@ less (x ∷ xs) ys = cond (has x ys) (less xs ys) (x ∷ less xs ys)
 
 -- THE CALLS
 
--- "In the list stand the single-event call, with any bytes and any scratch, and the panel look at any number."
+-- "In the list stand the single-event call, with any bytes and any scratch, and the panel look at any number"; and the count of "goes
+-- before", at any number and of any two names
 pub data Call : Type 0 where
   singleEvent : (bytes scratch : List ℕ) → Call
   panelLook : (controller : ℕ) → Call
+  beforeCount : (controller : ℕ) (first second : Name) → Call
 
 -- what a listing line says: the set applied, and the two sums
 pub record Line : Type 0 where
@@ -72,16 +75,19 @@ pub record Line : Type 0 where
 pub data Entry : Type 0 where
   answered : (bytes scratch : List ℕ) → EventAnswer → Entry
   looked : (controller : ℕ) → LookAnswer → Entry
+  counted : (controller : ℕ) (first second : Name) → CountAnswer → Entry
   listed : (bytes : List ℕ) → Line → Entry
 
 unfoldable pub entry : Table → Call → Entry
 entry t (singleEvent s w) = answered s w (event t s (length w) .answer)
 entry t (panelLook c) = looked c (look t c)
+entry t (beforeCount c a b) = counted c a b (countBefore t c a b)
 
 -- the table that a call leaves
 unfoldable pub left : Table → Call → Table
 left t (singleEvent s w) = event t s (length w) .table
 left t (panelLook c) = t
+left t (beforeCount c a b) = t
 
 -- Each call gets the table that the last one left.
 unfoldable pub transcript : Table → List Call → List Entry
@@ -121,7 +127,7 @@ said v s = record { kind = kind s; amount = amountIn s; class = classIn v s; reg
 pub data Step : Type 0 where
   carried : Said → Event → (set : List Name) → Step
 
--- "An event or call that a request adds stands in a list for what it does": a local read moves nothing
+-- "An event or call that a request adds stands in a list for what it does": a local read moves nothing, nor does a count
 unfoldable pub stepsOf : Said → Command → List Name → List Step
 stepsOf r (Act e) ms = carried r e ms ∷ []
 stepsOf r (Read c) ms = []
@@ -130,6 +136,7 @@ stepsOf r (Read c) ms = []
 unfoldable pub steps : ℕ → Entry → List Step
 steps v (answered s w a) = cond (eqb (a .number) 0) (stepsOf (said v s) (decode v s) (a .names)) []
 steps v (looked c a) = []
+steps v (counted c a b x) = []
 steps v (listed s x) = stepsOf (said v s) (decode v s) (x .set)
 
 -- what entries did
@@ -410,6 +417,7 @@ pub record ReadGives (h : Head) (calls : List Call) (r : ℕ) (scratch : List �
 unfoldable pub Finishes : Entry → Bool → Sums → Type 0
 Finishes (answered s w a) f z = (a .finished ≡ f) × (a .sums ≡ cond f z noSums)
 Finishes (looked c a) f z = ⊥
+Finishes (counted c a b x) f z = ⊥
 Finishes (listed s x) f z = f ≡ true → x .sums ≡ z
 
 -- BEGUN AND FINISHED are positions in the list: entry i, counted from 0, stands between moments i and i + 1

@@ -15,8 +15,8 @@ use Rattle.model.specs.Delivery.{Slots, has}
 use Rattle.model.specs.Registers.{wins, writes, written, newest, registerOf, registers}
 use Rattle.model.specs.Events.{sentMessage, sent, received, handoverSet, deliver, subject, after, withSent, next, appliedBy, shown, panelOf}
 use Rattle.model.specs.Sized.{Sized}
-use Rattle.model.specs.WellFormed.{named, wellFormed}
-use Rattle.model.specs.Questions.{ask, firstNo, lentTable, eventQuestions}
+use Rattle.model.specs.WellFormed.{wellFormed}
+use Rattle.model.specs.Questions.{firstNo, eventQuestions}
 use Rattle.model.specs.Calls.{look}
 use Rattle.model.specs.declared.Message.{Message}
 use Rattle.model.specs.declared.Register.{Register}
@@ -26,8 +26,8 @@ use Rattle.model.specs.declared.Table.{Table}
 use Rattle.model.specs.declared.Event.{Event}
 use Rattle.model.specs.declared.Event.the-variants.{Send, Handover, Stop}
 use Rattle.model.specs.Facts.{Among, WellFormed}
-use Rattle.model.proofs.Tested.{named-of, facts, tested}
-use Rattle.model.proofs.Allowed.{send-allowed, handover-allowed, subject-allowed}
+use Rattle.model.proofs.Tested.{facts, tested}
+use Rattle.model.proofs.Allowed.{look-passed, send-allowed, handover-allowed, subject-allowed}
 use Rattle.model.proofs.Registers.{no-later, zero-first, newest-same, newest-last, newest-joined}
 use Rattle.invariant.proofs.Stores.{seated, message-old}
 use Rattle.invariant.proofs.Sizes.{next-case, next-n}
@@ -106,14 +106,10 @@ register-next t e z w q c h r =
 abbrev pub lookedAt : Table → ℕ → ℕ → Register
 lookedAt t c i = getD (look t c .panel .registers) i noRegister
 
-passed : (t : Table) (c : ℕ) → WellFormed t → Among (t .n) c → firstNo (lentTable t ∷ ask 8 (named t c) ∷ []) ≡ 0
-unfolding firstNo lentTable
-passed t c w h = rw (tested t w, named-of t c h) refl
-
 looked-register : (t : Table) (c : ℕ) → WellFormed t → Among (t .n) c → (i : ℕ) → i < registerCount → lookedAt t c i ≡ registerOf t (at t c) (suc i)
 unfolding look panelOf shown registers
 looked-register t c w h i l =
-    ap (λ (p : Panel). getD (p .registers) i noRegister) (cond-true (panelOf t c) noPanel (eq-eqb _ 0 (passed t c w h)))
+    ap (λ (p : Panel). getD (p .registers) i noRegister) (cond-true (panelOf t c) noPanel (eq-eqb _ 0 (look-passed t c (tested t w) h)))
     ∙ getD-tabulate registerCount (λ i. registerOf t (at t c) (suc i)) noRegister i l
 
 -- before an accepted event and after it

@@ -14,8 +14,8 @@ use Rattle.lists.proofs.Clipped.{any-none}
 use Rattle.model.specs.Tables.{classCount, noSums, noPanel, at, message, withController}
 use Rattle.model.specs.Events.{subject, next, withSent, appliedBy, weigh, plus, sums, classSums, shown, panelOf, finishes}
 use Rattle.model.specs.Records.{behind, decode}
-use Rattle.model.specs.WellFormed.{named, wellFormed}
-use Rattle.model.specs.Questions.{ask, firstNo, lentTable, stepQuestions}
+use Rattle.model.specs.WellFormed.{wellFormed}
+use Rattle.model.specs.Questions.{firstNo, lentTable, lookQuestions, stepQuestions}
 use Rattle.model.specs.Calls.{Outcome, answering, accepted, refused, event, look}
 use Rattle.model.specs.declared.Sums.{Sums}
 use Rattle.model.specs.declared.Panel.{Panel}
@@ -27,7 +27,7 @@ use Rattle.model.specs.declared.Command.{Command}
 use Rattle.model.specs.declared.Command.the-variants.{Act, Read}
 use Rattle.model.specs.Facts.{WellFormed}
 use Rattle.model.proofs.Tested.{facts}
-use Rattle.model.proofs.Allowed.{no-no}
+use Rattle.model.proofs.Allowed.{no-no, look-asked}
 use Rattle.model.proofs.Steps.{settled-case}
 use Rattle.invariant.proofs.Bounds.{Bounded, bounded, sums-bounded, class-bounded}
 use Rattle.invariant.proofs.Classes.{classes-add-up}
@@ -48,10 +48,10 @@ every-tabulate P f i zero h = tt
 every-tabulate P f i (suc n) h = (h i, every-tabulate P f (suc i) n h)
 
 look-case : (P : Panel → Type 0) → P noPanel → ((t : Table) → WellFormed t → (x : Controller) → P (shown t x)) → (t : Table) (c : ℕ) → P (look t c .panel)
-unfolding look panelOf lentTable
+unfolding look panelOf
 look-case P none some t c =
-    let k = firstNo (lentTable t ∷ ask 8 (named t c) ∷ []) in
-    cond-case P (eqb k 0) (shown t (at t c)) noPanel (λ e. some t (facts t (no-no 3 (wellFormed t) _ (eqb-true k 0 e) .0)) (at t c)) (λ _. none)
+    let k = firstNo (lookQuestions t c) in
+    cond-case P (eqb k 0) (shown t (at t c)) noPanel (λ e. some t (facts t (look-asked t c (eqb-true k 0 e) .0)) (at t c)) (λ _. none)
 
 pub look-bounded : (t : Table) (c : ℕ) → BoundedPanel (look t c .panel)
 unfolding shown tabulate tabulateFrom

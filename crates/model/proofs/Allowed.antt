@@ -14,8 +14,8 @@ use Rattle.lists.proofs.Below.{count-pos}
 use Rattle.model.specs.Tables.{seats, capacity, sync, write, yes?, at, message, place, held}
 use Rattle.model.specs.Events.{subject, controllerOf}
 use Rattle.model.specs.Records.{byte, kind, word, long, reportClass, reported, decode}
-use Rattle.model.specs.WellFormed.{named, fairAmount, fairClass, fairRegister, known}
-use Rattle.model.specs.Questions.{Question, ask, firstNo, freshQuestions, fileQuestions, kindQuestions, recordQuestions, ownPending, unread, keepable, eventQuestions, commandQuestions, scratchRoom, stepQuestions, lineFits}
+use Rattle.model.specs.WellFormed.{named, fairAmount, fairClass, fairRegister, known, wellFormed}
+use Rattle.model.specs.Questions.{Question, ask, firstNo, freshQuestions, fileQuestions, lentTable, lookQuestions, kindQuestions, recordQuestions, ownPending, unread, keepable, eventQuestions, commandQuestions, scratchRoom, stepQuestions, lineFits}
 use Rattle.model.specs.declared.Payload.{Payload}
 use Rattle.model.specs.declared.Table.{Table}
 use Rattle.model.specs.declared.Event.{Event}
@@ -23,13 +23,24 @@ use Rattle.model.specs.declared.Event.the-variants.{Send, Handover, Stop
 use Rattle.model.specs.declared.Command.{Command}
 use Rattle.model.specs.declared.Command.the-variants.{Act, Read}
 use Rattle.model.specs.Facts.{Among}
-use Rattle.model.proofs.Tested.{named-at, all-named}
+use Rattle.model.proofs.Tested.{named-at, named-of, all-named}
 
 -- no no: the first answer was yes, and there is no no behind it
 pub no-no : (k : ℕ) (b : Bool) (qs : List Question) → firstNo (ask (suc k) b ∷ qs) ≡ 0 → (b ≡ true) × (firstNo qs ≡ 0)
 unfolding firstNo
 no-no k true qs e = (refl, e)
 no-no k false qs e = absurd (omega (arith, e))
+
+-- a table that may be looked at, and a controller at which
+pub look-asked : (t : Table) (c : ℕ) → firstNo (lookQuestions t c) ≡ 0 → (wellFormed t ≡ true) × Among (t .n) c
+unfolding lookQuestions lentTable
+look-asked t c e =
+    let q = no-no 3 (wellFormed t) _ e in
+    (q .0, named-at t c (no-no 7 (named t c) [] (q .1) .0))
+
+pub look-passed : (t : Table) (c : ℕ) → wellFormed t ≡ true → Among (t .n) c → firstNo (lookQuestions t c) ≡ 0
+unfolding firstNo lookQuestions lentTable
+look-passed t c w h = rw (w, named-of t c h) refl
 
 -- no question has the number 0, which stands for no refusal
 pub data Numbered : List Question → Type 0 where

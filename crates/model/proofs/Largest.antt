@@ -10,14 +10,14 @@ use native.Mathlib.Decide.{ℕ-discrete}
 use lib.ListN.{length, getD, set, length-set}
 use lib.Seq.{ext-getD, getD-set-same, getD-set-other}
 use lib.Dec.{eqb, leb, ltb}
-use borrow.Author.Tests.{eqb-true, eqb-false, ltb-true, leb-true}
+use borrow.Author.Tests.{eqb-true, eqb-false, ltb-true, leb-true, le-ltb, le-leb}
 use Rattle.lists.specs.Below.{count, Within}
 use Rattle.lists.specs.Build.{tabulateFrom, tabulate}
 use Rattle.lists.proofs.Tests.{cond-case, and-left, and-right, both, bool-eq, contradiction}
-use Rattle.lists.proofs.Below.{all-at, all-of, count-le, count-eq, count-pos, count-bound, apart-count}
+use Rattle.lists.proofs.Below.{all-at, all-of, count-le, count-eq, count-pos, count-none, count-bound, apart-count}
 use Rattle.lists.proofs.Build.{length-tabulate, getD-tabulate}
-use Rattle.model.specs.Tables.{seats, capacity, yes?, entry, mark}
-use Rattle.model.specs.Delivery.{Slots, has, clears, round, settle, largest, majority, markCount, beforeCount, goesBefore, applicable}
+use Rattle.model.specs.Tables.{seats, capacity, absent, entry, mark}
+use Rattle.model.specs.Delivery.{Slots, has, clears, round, settle, largest, majority, markCount, goesBefore, applicable}
 use Rattle.model.specs.Largest.{Closed, Largest, Reached, candidates, removal, inBuffer, candidate, precedes}
 use Rattle.model.specs.declared.Pending.{Pending}
 
@@ -174,13 +174,40 @@ pub majority-more : (n : ℕ) → min n seats < majority n + majority n
 unfolding majority
 majority-more n = omega arith
 
--- two majorities meet, so two messages do not each go before the other
-pub not-both-before : (n : ℕ) (p q : Pending) → goesBefore n p q ≡ true → goesBefore n q p ≡ true → ⊥
-unfolding goesBefore beforeCount
-not-both-before n p q e f =
-    let a = leb-true (majority n) (count (min n seats) (λ k. ltb (mark p k) (mark q k))) e in
-    let b = leb-true (majority n) (count (min n seats) (λ k. ltb (mark q k) (mark p k))) f in
-    let c = apart-count (min n seats) (λ k. ltb (mark p k) (mark q k)) (λ k. ltb (mark q k) (mark p k))
-    (λ k hk x y. omega (arith, ltb-true (mark p k) (mark q k) x, ltb-true (mark q k) (mark p k) y)) in
-    let d = majority-more n in
+-- THE COUNT OF "GOES BEFORE"
+
+-- it is from 0 to n
+pub before-bound : (n : ℕ) (p q : Pending) → goesBefore n p q ≤ n
+unfolding goesBefore
+before-bound n p q = omega (arith, count-bound (min n seats) (λ f. ltb (mark p f) (mark q f)))
+
+-- a message against itself counts 0
+pub before-itself : (n : ℕ) (p : Pending) → goesBefore n p p ≡ 0
+unfolding goesBefore
+before-itself n p = count-none (min n seats) _ (λ f _. le-ltb (mark p f) (mark p f) (omega arith))
+
+-- no controller puts each of two messages first: the counts of both directions add up to at most n
+pub before-both : (n : ℕ) (p q : Pending) → goesBefore n p q + goesBefore n q p ≤ n
+unfolding goesBefore
+before-both n p q =
+    let h = apart-count (min n seats) (λ f. ltb (mark p f) (mark q f)) (λ f. ltb (mark q f) (mark p f))
+    (λ f _ x y. omega (arith, ltb-true (mark p f) (mark q f) x, ltb-true (mark q f) (mark p f) y)) in
     omega arith
+
+-- line 16 asks whether more than n/2 controllers put s first: that is the count against the majority
+pub precedes-count : (n : ℕ) (P : List Pending) (s t : ℕ) → (precedes n P s t ≡ true) ↔ (n < 2 * goesBefore n (entry P s) (entry P t))
+precedes-count n P s t =
+    let h = majority-half n (goesBefore n (entry P s) (entry P t)) in
+    ((λ e. h .0 (leb-true (majority n) _ e)), (λ l. le-leb (majority n) _ (h .1 l)))
+
+-- two majorities meet, so two messages do not each go before the other
+pub not-both-before : (n : ℕ) (p q : Pending) → majority n ≤ goesBefore n p q → majority n ≤ goesBefore n q p → ⊥
+not-both-before n p q e f = omega (arith, majority-half n (goesBefore n p q) .0 e, majority-half n (goesBefore n q p) .0 f, before-both n p q)
+
+-- the set, said of the marks alone
+pub applicable-marks : (n : ℕ) (P : List Pending)
+    → applicable n P
+    ≡ largest capacity (inBuffer n P) (λ s. leb (majority n) (count (min n seats) (λ f. ltb (mark (entry P s) f) absent)))
+    (λ s t. leb (majority n) (count (min n seats) (λ f. ltb (mark (entry P s) f) (mark (entry P t) f))))
+unfolding applicable markCount goesBefore
+applicable-marks n P = refl

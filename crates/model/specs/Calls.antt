@@ -1,16 +1,18 @@
--- What each call answers and leaves: the single event, the fresh table, the panel look.
-use Prim.Native.Nat.{ℕ}
-use mathlib.Core.Bool.{Bool, false, cond}
+-- What each call answers and leaves: the single event, the fresh table, the panel look, the count of "goes before".
+use Prim.Native.Nat.{ℕ, zero, suc}
+use mathlib.Core.Bool.{Bool, false, _&&_, cond}
 use mathlib.Core.List.{List, [], _∷_}
 use lib.ListN.{length, replicate}
 use lib.Dec.{eqb}
 use Rattle.lists.specs.Build.{over, overlay}
-use Rattle.model.specs.Tables.{capacity, scratchSize, noName, noSums, noPanel, fresh, zeroTable}
+use Rattle.model.specs.Tables.{capacity, scratchSize, yes?, noName, noSums, noPanel, unheld, fresh, zeroTable, at, message, entry}
+use Rattle.model.specs.Delivery.{goesBefore}
 use Rattle.model.specs.Events.{subject, next, appliedBy, resulting, panelOf, namesOf, finishes}
 use Rattle.model.specs.Records.{behind, decode}
-use Rattle.model.specs.WellFormed.{named}
-use Rattle.model.specs.Questions.{ask, firstNo, freshQuestions, lentTable, stepQuestions}
+use Rattle.model.specs.Questions.{firstNo, freshQuestions, lentTable, lookQuestions, stepQuestions}
+use Rattle.model.specs.declared.Message.{Message}
 use Rattle.model.specs.declared.Name.{Name}
+use Rattle.model.specs.declared.Pending.{Pending}
 use Rattle.model.specs.declared.Sums.{Sums}
 use Rattle.model.specs.declared.Table.{Table}
 use Rattle.model.specs.declared.Command.{Command}
@@ -18,6 +20,7 @@ use Rattle.model.specs.declared.Command.the-variants.{Act, Read}
 use Rattle.model.specs.declared.Answer.{Answer}
 use Rattle.model.specs.declared.FreshAnswer.{FreshAnswer}
 use Rattle.model.specs.declared.LookAnswer.{LookAnswer}
+use Rattle.model.specs.declared.CountAnswer.{CountAnswer}
 
 -- THE SINGLE EVENT
 
@@ -95,5 +98,30 @@ freshTable v n =
 
 unfoldable pub look : Table → ℕ → LookAnswer
 look t c =
-    let k = firstNo (lentTable t ∷ ask 8 (named t c) ∷ []) in
+    let k = firstNo (lookQuestions t c) in
     record { number = k; panel = cond (eqb k 0) (panelOf t c) noPanel }
+
+-- HOW MANY PUT IT FIRST: the count of "goes before", of two messages that are pending at a controller, by their names
+
+-- whether m is the message of this name
+unfoldable pub isNamed : Name → Message → Bool
+isNamed a m = eqb (m .sender) (a .sender) && eqb (m .number .0) (a .number .0)
+
+-- what buffer P has of the message of this name, among the first k slots; every mark is absent if it is not pending there
+unfoldable pub pendingBelow : ℕ → Table → List Pending → Name → Pending
+pendingBelow zero t P a = unheld
+pendingBelow (suc s) t P a =
+    let r = pendingBelow s t P a in
+    cond (yes? (entry P s .held) && isNamed a (message t s)) (entry P s) r
+
+-- the same of the whole run: every mark is absent if it is not of the run either
+unfoldable pub pendingOf : Table → List Pending → Name → Pending
+pendingOf t P a = pendingBelow (t .count) t P a
+
+-- how many controllers have, in the buffer of c, a smaller forward number for message a than for message b
+unfoldable pub countBefore : Table → ℕ → Name → Name → CountAnswer
+countBefore t c a b =
+    let k = firstNo (lookQuestions t c) in
+    let P = at t c .pending in
+    let x = goesBefore (t .n) (pendingOf t P a) (pendingOf t P b) in
+    record { number = k; count = cond (eqb k 0) x 0 }

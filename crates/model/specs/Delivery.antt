@@ -18,13 +18,9 @@ majority n = n / 2 + 1
 unfoldable pub markCount : ℕ → Pending → ℕ
 markCount n p = count (min n seats) (λ f. ltb (mark p f) absent)
 
--- how many of n controllers have a smaller forward number for p than for q
-unfoldable pub beforeCount : ℕ → Pending → Pending → ℕ
-beforeCount n p q = count (min n seats) (λ f. ltb (mark p f) (mark q f))
-
--- the relation of line 16
-unfoldable pub goesBefore : ℕ → Pending → Pending → Bool
-goesBefore n p q = leb (majority n) (beforeCount n p q)
+-- "goes before": how many of n controllers have a smaller forward number for p than for q. The relation of line 16 is that a majority has.
+unfoldable pub goesBefore : ℕ → Pending → Pending → ℕ
+goesBefore n p q = count (min n seats) (λ f. ltb (mark p f) (mark q f))
 
 -- a set of slots: a Bool for each
 abbrev pub Slots : Type 0
@@ -60,4 +56,4 @@ applicable n P =
     largest capacity
     (λ s. yes? (entry P s .held))
     (λ s. leb (majority n) (markCount n (entry P s)))
-    (λ s t. goesBefore n (entry P s) (entry P t))
+    (λ s t. leb (majority n) (goesBefore n (entry P s) (entry P t)))

@@ -40,4 +40,4 @@ module _ (n : ℕ) (P : List Pending) where
   candidate s = leb (majority n) (markCount n (entry P s))
 
   abbrev pub precedes : ℕ → ℕ → Bool
-  precedes s t = goesBefore n (entry P s) (entry P t)
+  precedes s t = leb (majority n) (goesBefore n (entry P s) (entry P t))

@@ -40,6 +40,10 @@ fileQuestions s = ask 1 (leb 2 (length s) && leb (length s) 65535) ∷ freshQues
 unfoldable pub lentTable : Table → Question
 lentTable t = ask 4 (wellFormed t)
 
+-- questions 4 and 8, of a table that is lent to be looked at, and of a controller
+unfoldable pub lookQuestions : Table → ℕ → List Question
+lookQuestions t c = lentTable t ∷ ask 8 (named t c) ∷ []
+
 -- questions 6 and 7, in version v, of a record of this kind with so many bytes behind its length byte
 unfoldable pub kindQuestions : ℕ → ℕ → ℕ → List Question
 kindQuestions v n k =

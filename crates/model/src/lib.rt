@@ -129,6 +129,13 @@ pub struct LookAnswer {
     pub panel: Panel,
 }
 
+// What the count of "goes before" answers: how many controllers have a smaller forward number for the one message than for the other.
+#[repr(C)]
+pub struct CountAnswer {
+    pub number: u8,
+    pub count: usize,
+}
+
 // What a file run answers: the refusal number, the events accepted, the listing bytes written and the last table.
 #[repr(C)]
 pub struct RunAnswer {

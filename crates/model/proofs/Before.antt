@@ -1,0 +1,114 @@
+-- What the count of "goes before" that a call answers is: from 0 to n; of a message against itself 0; of both directions together at most
+-- n; and of two pending messages, line 16's relation against the majority. Assumes nothing.
+use mathlib.Core.Path.{_≡_, refl, sym, ap, ap₂, _∙_}
+use mathlib.Core.Bool.{Bool, true, false, _&&_, cond}
+use mathlib.Core.List.{List}
+use Prim.Native.Nat.{ℕ, zero, suc, min, _+_, _≤_, _<_}
+use native.Mathlib.Omega.{arith}
+use native.Mathlib.Decide.{ℕ-discrete}
+use lib.ListN.{getD-replicate}
+use lib.Dec.{eqb, leb, ltb}
+use borrow.Author.Tests.{eqb-true, eq-eqb}
+use Rattle.lists.proofs.Tests.{cond-case, cond-true, cond-false, and-left, and-right, both, contradiction}
+use Rattle.lists.proofs.Below.{count-ext}
+use Rattle.model.specs.Tables.{seats, yes?, unheld, at, message, entry, held, mark}
+use Rattle.model.specs.Delivery.{majority, markCount, goesBefore}
+use Rattle.model.specs.Largest.{precedes}
+use Rattle.model.specs.Events.{nameOf}
+use Rattle.model.specs.Questions.{firstNo, lookQuestions}
+use Rattle.model.specs.Calls.{isNamed, pendingBelow, pendingOf, countBefore}
+use Rattle.model.specs.declared.Name.{Name}
+use Rattle.model.specs.declared.Pending.{Pending}
+use Rattle.model.specs.declared.Table.{Table}
+use Rattle.model.specs.Facts.{Among, WellFormed}
+use Rattle.model.proofs.Tested.{tested}
+use Rattle.model.proofs.Allowed.{look-passed}
+use Rattle.model.proofs.Largest.{before-bound, before-itself, before-both}
+
+-- WHAT A NAME STANDS FOR
+
+module _ (t : Table) (P : List Pending) (a : Name) where
+  -- slot s is in the buffer, and is the message of this name
+  abbrev pub here : ℕ → Bool
+  here s = yes? (entry P s .held) && isNamed a (message t s)
+
+  below-none : (k : ℕ) → ((s : ℕ) → s < k → here s ≡ false) → pendingBelow k t P a ≡ unheld
+  unfolding pendingBelow
+  below-none zero f = refl
+  below-none (suc k) f = cond-false _ _ (f k (omega arith)) ∙ below-none k (λ s h. f s (omega arith))
+
+  below-found : (k s : ℕ) → s < k → here s ≡ true → ((i : ℕ) → i < k → here i ≡ true → i ≡ s) → pendingBelow k t P a ≡ entry P s
+  unfolding pendingBelow
+  below-found zero s h e only = absurd (omega arith)
+  below-found (suc k) s h e only =
+      cond-case (λ (p : Pending). p ≡ entry P s) (here k) (entry P k) (pendingBelow k t P a)
+      (λ q. ap (entry P) (only k (omega arith) q))
+      (λ q. below-found k s (go q (ℕ-discrete s k)) e (λ i l. only i (omega arith)))
+    where
+      go : here k ≡ false → Dec (s ≡ k) → s < k
+      go q (yes p) = contradiction e (rw p q)
+      go q (no d) = omega arith
+
+  -- a message that is not pending here, or not of the run, has every mark absent
+  pub pending-none : ((s : ℕ) → s < t .count → here s ≡ false) → pendingOf t P a ≡ unheld
+  unfolding pendingOf
+  pending-none f = below-none (t .count) f
+
+  -- one that is pending here has the marks of its slot: no other slot has its name
+  pub pending-found : WellFormed t → (s : ℕ) → s < t .count → here s ≡ true → pendingOf t P a ≡ entry P s
+  unfolding pendingOf isNamed
+  pending-found w s h e = below-found (t .count) s h e (λ i l q. w .names i s l h (sender i q ∙ sym (sender s e)) (number i q ∙ sym (number s e)))
+    where
+      named : (i : ℕ) → here i ≡ true → isNamed a (message t i) ≡ true
+      named i q = and-right (yes? (entry P i .held)) _ q
+
+      sender : (i : ℕ) → here i ≡ true → message t i .sender ≡ a .sender
+      sender i q = eqb-true (message t i .sender) (a .sender) (and-left _ _ (named i q))
+
+      number : (i : ℕ) → here i ≡ true → message t i .number .0 ≡ a .number .0
+      number i q = eqb-true (message t i .number .0) (a .number .0) (and-right (eqb (message t i .sender) (a .sender)) _ (named i q))
+
+-- a message goes before one that has no mark by each of its own marks
+pub before-unheld : (n : ℕ) (p : Pending) → goesBefore n p unheld ≡ markCount n p
+unfolding goesBefore markCount
+before-unheld n p = count-ext (min n seats) _ _ (λ f h. ap (λ m. ltb (mark p f) (m .0)) (getD-replicate 7 f _ _ (omega arith)))
+
+-- WHAT THE CALL ANSWERS, on every table: a refusal counts 0
+
+module _ (t : Table) (c : ℕ) where
+  abbrev P : List Pending
+  P = at t c .pending
+
+  abbrev allowed : Bool
+  allowed = eqb (firstNo (lookQuestions t c)) 0
+
+  abbrev counted : Name → Name → ℕ
+  counted a b = goesBefore (t .n) (pendingOf t P a) (pendingOf t P b)
+
+  pub count-bounded : (a b : Name) → countBefore t c a b .count ≤ t .n
+  unfolding countBefore
+  count-bounded a b = cond-case (λ x. x ≤ t .n) allowed (counted a b) 0 (λ _. before-bound (t .n) _ _) (λ _. omega arith)
+
+  pub count-itself : (a : Name) → countBefore t c a a .count ≡ 0
+  unfolding countBefore
+  count-itself a = cond-case (λ x. x ≡ 0) allowed (counted a a) 0 (λ _. before-itself (t .n) _) (λ _. refl)
+
+  pub count-both : (a b : Name) → countBefore t c a b .count + countBefore t c b a .count ≤ t .n
+  unfolding countBefore
+  count-both a b = go allowed
+    where
+      go : (k : Bool) → cond k (counted a b) 0 + cond k (counted b a) 0 ≤ t .n
+      go true = before-both (t .n) _ _
+      go false = omega arith
+
+  -- of two messages that are pending at c, line 16's relation is the count against the majority
+  pub count-precedes : WellFormed t → Among (t .n) c → (s u : ℕ) → s < t .count → u < t .count → held (at t c) s ≡ true → held (at t c) u ≡ true
+      → precedes (t .n) P s u ≡ leb (majority (t .n)) (countBefore t c (nameOf (message t s)) (nameOf (message t u)) .count)
+  unfolding countBefore isNamed
+  count-precedes w h s u hs hu ps pu =
+      ap (leb (majority (t .n)))
+      (sym (cond-true (counted (nameOf (message t s)) (nameOf (message t u))) 0 (eq-eqb _ 0 (look-passed t c (tested t w) h))
+      ∙ ap₂ (goesBefore (t .n)) (found s hs ps) (found u hu pu)))
+    where
+      found : (s : ℕ) → s < t .count → held (at t c) s ≡ true → pendingOf t P (nameOf (message t s)) ≡ entry P s
+      found s h p = pending-found t P (nameOf (message t s)) w s h (both p (both (eq-eqb _ _ refl) (eq-eqb _ _ refl)))
