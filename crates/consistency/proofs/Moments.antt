@@ -20,7 +20,7 @@ use Rattle.model.proofs.Allowed.{FreshAllowed, no-no, step-asked}
 use Rattle.model.proofs.Steps.{answering-number, settled-case}
 use Rattle.broadcast.specs.State.{State, fresh as freshState}
 use Rattle.broadcast.specs.Events.{Run, start as stays, then}
-use Rattle.consistency.specs.Demand3.{Call, singleEvent, panelLook, beforeCount, Line, Entry, answered, looked, counted, listed, entry, left, transcript, said, Step, carried, stepsOf, steps, did, Ledger, start, moved}
+use Rattle.consistency.specs.Demand3.{Call, singleEvent, panelLook, goesBeforeCount, Line, Entry, answered, looked, counted, listed, entry, left, transcript, said, Step, carried, stepsOf, steps, did, Ledger, start, moved}
 use Rattle.consistency.proofs.Bridge.{top, system, Related}
 use Rattle.consistency.proofs.BridgeNext.{fresh-related, next-related}
 use Rattle.consistency.proofs.Reader.{written, written-set}
@@ -161,7 +161,7 @@ unfolding Course Gives told transcript entry left
 transcript-course t [] = refl
 transcript-course t (singleEvent s w ∷ cs) = (refl, transcript-course (event t s (length w) .table) cs)
 transcript-course t (panelLook c ∷ cs) = (refl, transcript-course t cs)
-transcript-course t (beforeCount c a b ∷ cs) = (refl, transcript-course t cs)
+transcript-course t (goesBeforeCount c a b ∷ cs) = (refl, transcript-course t cs)
 
 -- MOMENTS
 

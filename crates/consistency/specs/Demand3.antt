@@ -63,7 +63,7 @@ less (x ∷ xs) ys = cond (has x ys) (less xs ys) (x ∷ less xs ys)
 pub data Call : Type 0 where
   singleEvent : (bytes scratch : List ℕ) → Call
   panelLook : (controller : ℕ) → Call
-  beforeCount : (controller : ℕ) (first second : Name) → Call
+  goesBeforeCount : (controller : ℕ) (first second : Name) → Call
 
 -- what a listing line says: the set applied, and the two sums
 pub record Line : Type 0 where
@@ -81,13 +81,13 @@ pub data Entry : Type 0 where
 unfoldable pub entry : Table → Call → Entry
 entry t (singleEvent s w) = answered s w (event t s (length w) .answer)
 entry t (panelLook c) = looked c (look t c)
-entry t (beforeCount c a b) = counted c a b (countBefore t c a b)
+entry t (goesBeforeCount c a b) = counted c a b (countBefore t c a b)
 
 -- the table that a call leaves
 unfoldable pub left : Table → Call → Table
 left t (singleEvent s w) = event t s (length w) .table
 left t (panelLook c) = t
-left t (beforeCount c a b) = t
+left t (goesBeforeCount c a b) = t
 
 -- Each call gets the table that the last one left.
 unfoldable pub transcript : Table → List Call → List Entry

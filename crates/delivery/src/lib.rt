@@ -3,9 +3,10 @@ ghost use mathlib.Core.Path.{_≡_};
 ghost use mathlib.Core.Bool.{not, _&&_};
 ghost use Prim.Native.Nat.{_<_, _≤_};
 ghost use lib.ListN.{length, getD};
+ghost use lib.Dec.{leb};
 ghost use Rattle.lists.specs.Below.{tally};
 ghost use Rattle.model.specs.Tables.{capacity, scratchSize, yes?};
-ghost use Rattle.model.specs.Delivery.{has, majority, markCount, beforeCount, goesBefore, largest};
+ghost use Rattle.model.specs.Delivery.{has, majority, markCount, goesBefore, largest};
 ghost use Rattle.model.specs.Calls.{cleared};
 ghost use Rattle.delivery.specs.Apply.{Applied, among, Listed, Candidates, flag, RowFilled, RowsFilled, Removable, Settled};
 use model::ForwardNumber;
@@ -34,9 +35,9 @@ fn mark_count(n: usize, p: Pending) -> usize
     count
 }
 
-// How many of n controllers have a smaller forward number for p than for q; absent is not smaller than absent.
-fn before_count(n: usize, p: Pending, q: Pending) -> usize
-    ensures { λ r. ⌜ r ≡ beforeCount n p q ⌝ }
+// "Goes before": how many of n controllers have a smaller forward number for p than for q; absent is not smaller than absent.
+pub fn goes_before(n: usize, p: Pending, q: Pending) -> usize
+    ensures { λ r. ⌜ r ≡ goesBefore n p q ⌝ }
 {
     let first = p.marks;
     let second = q.marks;
@@ -99,11 +100,12 @@ fn candidates(n: usize, pending: [Pending; 64], size: usize, slots: [u8; 64]) ->
     Chosen { count, members }
 }
 
+// Line 16's relation: whether a majority has.
 fn flag(n: usize, m: usize, p: Pending, q: Pending) -> u8
     requires { ⌜ m ≡ majority n ⌝ }
-    ensures { λ r. ⌜ yes? r ≡ goesBefore n p q ⌝ }
+    ensures { λ r. ⌜ yes? r ≡ leb (majority n) (goesBefore n p q) ⌝ }
 {
-    numbers::flag(m <= before_count(n, p, q))
+    numbers::flag(m <= goes_before(n, p, q))
 }
 
 // Row i of the matrix: whether slot i goes before each slot in the buffer.

@@ -1,7 +1,7 @@
 // The calls that C and Rust make. Each hands what it is lent to the function that answers it and stores what comes back. Its
 // contract is an equation for its result and for all that it may write.
 ghost use mathlib.Core.Path.{_≡_};
-ghost use Rattle.model.specs.Calls.{look, freshTable};
+ghost use Rattle.model.specs.Calls.{look, countBefore, freshTable};
 ghost use Rattle.events.specs.Stepped.{Runs};
 ghost use Rattle.engine.specs.Called.{Counted};
 
@@ -26,6 +26,20 @@ pub extern "C" fn furnacejade_look(t: &model::Table, c: usize, answer: &mut mode
     ensures { λ _. ⌜ now (answer .exit) ≡ look (now (t .entry)) c ⌝ }
 {
     *answer = events::look_at(*t, c);
+}
+
+// How many controllers put the first message before the second, as controller c has it.
+#[no_mangle]
+pub extern "C" fn furnacejade_count_before(
+    t: &model::Table,
+    c: usize,
+    first: &model::Name,
+    second: &model::Name,
+    answer: &mut model::CountAnswer,
+)
+    ensures { λ _. ⌜ now (answer .exit) ≡ countBefore (now (t .entry)) c (now (first .entry)) (now (second .entry)) ⌝ }
+{
+    *answer = events::count_before(*t, c, *first, *second);
 }
 
 // The fresh table of a version, of n controllers.

@@ -17,6 +17,7 @@ use Rattle.model.specs.Largest.{precedes}
 use Rattle.model.specs.Events.{nameOf}
 use Rattle.model.specs.Questions.{firstNo, lookQuestions}
 use Rattle.model.specs.Calls.{isNamed, pendingBelow, pendingOf, countBefore}
+use Rattle.model.specs.declared.ForwardNumber.{ForwardNumber}
 use Rattle.model.specs.declared.Name.{Name}
 use Rattle.model.specs.declared.Pending.{Pending}
 use Rattle.model.specs.declared.Table.{Table}
@@ -71,7 +72,7 @@ module _ (t : Table) (P : List Pending) (a : Name) where
 -- a message goes before one that has no mark by each of its own marks
 pub before-unheld : (n : ℕ) (p : Pending) → goesBefore n p unheld ≡ markCount n p
 unfolding goesBefore markCount
-before-unheld n p = count-ext (min n seats) _ _ (λ f h. ap (λ m. ltb (mark p f) (m .0)) (getD-replicate 7 f _ _ (omega arith)))
+before-unheld n p = count-ext (min n seats) _ _ (λ f h. ap (λ (m : ForwardNumber). ltb (mark p f) (m .0)) (getD-replicate 7 f _ _ (omega arith)))
 
 -- WHAT THE CALL ANSWERS, on every table: a refusal counts 0
 
@@ -111,4 +112,5 @@ module _ (t : Table) (c : ℕ) where
       ∙ ap₂ (goesBefore (t .n)) (found s hs ps) (found u hu pu)))
     where
       found : (s : ℕ) → s < t .count → held (at t c) s ≡ true → pendingOf t P (nameOf (message t s)) ≡ entry P s
-      found s h p = pending-found t P (nameOf (message t s)) w s h (both p (both (eq-eqb _ _ refl) (eq-eqb _ _ refl)))
+      found s h p = pending-found t P (nameOf (message t s)) w s h
+          (both p (both (eq-eqb (message t s .sender) (message t s .sender) refl) (eq-eqb (message t s .number .0) (message t s .number .0) refl)))

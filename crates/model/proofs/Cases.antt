@@ -6,8 +6,8 @@ use Prim.Native.Nat.{ℕ, zero, suc, _+_, _*_, _/_, _%_, _-_}
 use mathlib.Core.Bool.{Bool, true, false, cond}
 use mathlib.Core.List.{List, [], _∷_, _++_, map, flatten}
 use lib.Dec.{eqb}
-use Rattle.model.specs.Tables.{noSums, noRegister, noPanel, fresh}
-use Rattle.model.specs.Calls.{EventAnswer, step, event, freshTable, look}
+use Rattle.model.specs.Tables.{messageNumber, noSums, noRegister, noPanel, fresh}
+use Rattle.model.specs.Calls.{EventAnswer, step, event, freshTable, look, countBefore}
 use Rattle.model.specs.Runs.{progress, fileRun}
 use Rattle.model.specs.declared.Name.{Name}
 use Rattle.model.specs.declared.Sums.{Sums}
@@ -56,9 +56,14 @@ data Call : Type 0 where
   single : List ℕ → ℕ → Call
   -- the panel look
   panel : ℕ → Call
+  -- the count of "goes before": the controller, and two messages, each as 100 times its sender plus its number
+  before : ℕ → ℕ → ℕ → Call
 
 data Case : Type 0 where
   events : ℕ → ℕ → List (List ℕ) → Call → Case
+  -- the count of "goes before" at each of n controllers, of one message and another and then of the other and the one: at the start and
+  -- behind each of the events
+  counts : ℕ → List (List ℕ) → ℕ → ℕ → Case
   -- a request for a fresh table
   request : ℕ → ℕ → Case
   -- a file, with no bytes lent
@@ -66,8 +71,8 @@ data Case : Type 0 where
   -- the records of a file past question 3, and how many bytes of scratch and of listing
   run : List ℕ → ℕ → ℕ → Case
 
--- the number; the set of each accepted event, a message as 100 times its sender plus its number; what a look shows, or in its sums the
--- answer's sums; whether an own sync is finished; and the lines of a run
+-- the number; the set of each accepted event, a message as 100 times its sender plus its number, or what is counted; what a look shows, or
+-- in its sums the answer's sums; whether an own sync is finished; and the lines of a run
 record Given : Type 0 where
   number : ℕ
   sets : List (List ℕ)
@@ -81,6 +86,9 @@ summed z = record { sums = z; classes = noPanel .classes; registers = noPanel .r
 abbrev coded : Name → ℕ
 coded m = m .sender * 100 + m .number .0
 
+abbrev name : ℕ → Name
+name x = record { sender = x / 100; number = messageNumber (x % 100) }
+
 -- the set of an accepted event; a refused one as 1000 plus its number
 abbrev setOf : EventAnswer → List ℕ
 setOf a = cond (eqb (a .number) 0) (map coded (a .names)) ((1000 + a .number) ∷ [])
@@ -90,6 +98,18 @@ called t (single s room) =
     let a = event t s room .answer in
     record { number = a .number; sets = cond (eqb (a .number) 0) (map coded (a .names) ∷ []) []; shown = summed (a .sums); finished = a .finished; lines = [] }
 called t (panel c) = let a = look t c in record { number = a .number; sets = []; shown = a .panel; finished = false; lines = [] }
+called t (before c x y) =
+    let a = countBefore t c (name x) (name y) in
+    record { number = a .number; sets = (a .count ∷ []) ∷ []; shown = noPanel; finished = false; lines = [] }
+
+-- both counts, at controllers 1 to c
+bothWays : Table → ℕ → ℕ → ℕ → List ℕ
+bothWays t zero x y = []
+bothWays t (suc c) x y = bothWays t c x y ++ (countBefore t (suc c) (name x) (name y) .count ∷ countBefore t (suc c) (name y) (name x) .count ∷ [])
+
+tracked : Table → List (List ℕ) → ℕ → ℕ → List (List ℕ)
+tracked t [] x y = bothWays t (t .n) x y ∷ []
+tracked t (r ∷ rs) x y = bothWays t (t .n) x y ∷ tracked (step t r 4096 .table) rs x y
 
 played : Table → List (List ℕ) → Call → Given
 played t [] c = called t c
@@ -100,6 +120,7 @@ played t (r ∷ rs) c =
 
 given : Case → Given
 given (events v n rs c) = played (fresh v n) rs c
+given (counts n rs x y) = record { number = 0; sets = tracked (fresh 1 n) rs x y; shown = noPanel; finished = false; lines = [] }
 given (request v n) = record { number = freshTable v n .number; sets = []; shown = noPanel; finished = false; lines = [] }
 given (file s) = record { number = fileRun s [] [] .answer .number; sets = []; shown = noPanel; finished = false; lines = [] }
 given (run s room space) =
@@ -240,6 +261,16 @@ sought : List (List ℕ)
 unfolding wrote sync handover
 sought = wrote ++ (sync 1 ∷ handover 2 1 ∷ handover 1 2 ∷ handover 1 1 ∷ handover 1 1 ∷ [])
 
+-- of four controllers, 1 has sent two messages, and 2 has two marks for the first; then 1 stops, and the second is cut off
+heard : List (List ℕ)
+unfolding report handover stop
+heard = report 1 5 ∷ report 1 6 ∷ handover 2 1 ∷ handover 2 2 ∷ stop 1 1 ∷ []
+
+-- how many controllers then put the one before the other at c
+counted : ℕ → ℕ → ℕ → ℕ → Row
+unfolding heard
+counted c x y k = row (events 1 4 heard (before c x y)) 0 ([] ∷ [] ∷ [] ∷ [] ∷ [] ∷ (k ∷ []) ∷ [])
+
 -- k reports of one sender, all under way
 full : ℕ → List (List ℕ)
 unfolding report times
@@ -256,11 +287,16 @@ numbered zero x = []
 numbered (suc k) x = x ∷ numbered k (suc x)
 
 table : List Row
-unfolding report classed sync handover stop local write minus times worked graded gradedSets underway further underwaySets three backed set settled rivals rivalSets finished asked finishedSets wrote wroteSets sought full each numbered
+unfolding report classed sync handover stop local write minus times worked graded gradedSets underway further underwaySets three backed set settled rivals rivalSets finished asked finishedSets wrote wroteSets sought heard counted full each numbered
 table =
     -- The check ends at the first row that fails, and so rows that refuse an edit of a definition stand first.
     -- P: the sets of the worked run; event 10 applies nothing
     case 3 worked (handover 3 1) 4096 0 ([] ∷ [] ∷ [] ∷ (101 ∷ []) ∷ [] ∷ [] ∷ (101 ∷ []) ∷ (301 ∷ []) ∷ [] ∷ [] ∷ (101 ∷ 301 ∷ []) ∷ [])
+    -- P: how many put 1.1 before 3.1, and 3.1 before 1.1, at each of its events
+    ∷ row (counts 3 (worked ++ (handover 3 1 ∷ [])) 101 301) 0
+    ((0 ∷ 0 ∷ 0 ∷ 0 ∷ 0 ∷ 0 ∷ []) ∷ (1 ∷ 0 ∷ 0 ∷ 0 ∷ 0 ∷ 0 ∷ []) ∷ (1 ∷ 0 ∷ 0 ∷ 0 ∷ 0 ∷ 0 ∷ []) ∷ (1 ∷ 0 ∷ 1 ∷ 0 ∷ 0 ∷ 0 ∷ [])
+    ∷ (0 ∷ 0 ∷ 1 ∷ 0 ∷ 0 ∷ 0 ∷ []) ∷ (0 ∷ 0 ∷ 1 ∷ 0 ∷ 0 ∷ 1 ∷ []) ∷ (0 ∷ 0 ∷ 1 ∷ 1 ∷ 0 ∷ 1 ∷ []) ∷ (0 ∷ 0 ∷ 0 ∷ 1 ∷ 0 ∷ 1 ∷ [])
+    ∷ (0 ∷ 0 ∷ 0 ∷ 0 ∷ 0 ∷ 1 ∷ []) ∷ (0 ∷ 0 ∷ 0 ∷ 0 ∷ 1 ∷ 1 ∷ []) ∷ (0 ∷ 0 ∷ 0 ∷ 0 ∷ 1 ∷ 1 ∷ []) ∷ (0 ∷ 0 ∷ 0 ∷ 0 ∷ 0 ∷ 0 ∷ []) ∷ [])
     -- P: n = 4, two marks: not applied; three: applied
     ∷ quiet 4 (report 1 5 ∷ handover 1 1 ∷ handover 2 1 ∷ []) (handover 1 2) 4096 0 4
     ∷ case 4 (report 1 5 ∷ handover 1 1 ∷ handover 2 1 ∷ handover 1 2 ∷ handover 3 1 ∷ []) (handover 1 3) 4096 0 ([] ∷ [] ∷ [] ∷ [] ∷ [] ∷ (101 ∷ []) ∷ [])
@@ -473,6 +509,26 @@ table =
     ∷ shows 1 1 (report 1 (minus 7) ∷ handover 1 1 ∷ stop 1 1 ∷ []) 1 ([] ∷ (101 ∷ []) ∷ [] ∷ []) (both 0 7) (both 0 7 ∷ noSums ∷ noSums ∷ noSums ∷ noSums ∷ [])
     ∷ shows 2 1 (classed 1 30 2 ∷ handover 1 1 ∷ classed 1 (minus 7) 4 ∷ handover 1 1 ∷ classed 1 (minus 5) 2 ∷ handover 1 1 ∷ []) 1 (each 3 101) (both 30 12)
     (noSums ∷ noSums ∷ both 30 5 ∷ noSums ∷ both 0 7 ∷ [])
+    -- a count: 4 before 8
+    ∷ row (events 1 0 [] (before 1 101 102)) 4 ((0 ∷ []) ∷ [])
+    ∷ row (events 1 2 [] (before 0 101 102)) 8 ((0 ∷ []) ∷ [])
+    ∷ row (events 1 2 [] (before 3 101 102)) 8 ((0 ∷ []) ∷ [])
+    -- P: a pending message before itself: none; before one that is cut off, that was never sent, or that no controller can have sent: each
+    -- of its marks; no mark before any of them
+    ∷ counted 2 101 101 0
+    ∷ counted 2 101 102 2
+    ∷ counted 2 102 101 0
+    ∷ counted 2 101 301 2
+    ∷ counted 2 101 1 2
+    ∷ counted 2 1 101 0
+    ∷ counted 2 101 25501 2
+    ∷ counted 2 100 25501 0
+    -- P: at a controller that has stopped, of two that are pending there
+    ∷ counted 1 101 102 1
+    ∷ counted 1 102 101 0
+    -- P: a pending message before one that was applied
+    ∷ row (events 1 1 (report 1 5 ∷ handover 1 1 ∷ report 1 6 ∷ []) (before 1 102 101)) 0 (each 1 101 ++ ([] ∷ (1 ∷ []) ∷ []))
+    ∷ row (events 1 1 (report 1 5 ∷ handover 1 1 ∷ report 1 6 ∷ []) (before 1 101 102)) 0 (each 1 101 ++ ([] ∷ (0 ∷ []) ∷ []))
     -- P: the greatest sum: 64 reports, all taken back and applied at once
     ∷ shows 1 1 (times 64 (report 1 (minus 360) ∷ []) ++ (handover 1 1 ∷ [])) 1 (times 64 ([] ∷ []) ++ (numbered 64 101 ∷ [])) (both 0 23040)
     (both 0 23040 ∷ noSums ∷ noSums ∷ noSums ∷ noSums ∷ [])
@@ -496,5 +552,5 @@ pub record AllCases : Type 0 where
   hold : results table ≡ expected table
 
 pub all-cases : AllCases
-unfolding computed flatten results expected table called played given report classed sync handover stop local write minus times worked graded gradedSets underway further underwaySets three backed set settled rivals rivalSets finished asked finishedSets wrote wroteSets sought full each numbered
+unfolding computed flatten results expected table called bothWays tracked played given report classed sync handover stop local write minus times worked graded gradedSets underway further underwaySets three backed set settled rivals rivalSets finished asked finishedSets wrote wroteSets sought heard counted full each numbered
 all-cases = record { hold = refl }

@@ -1,4 +1,4 @@
--- `before_count` counts the controllers that have a smaller number for the first. Assumes nothing.
+-- `goes_before` counts the controllers that have a smaller number for the first. Assumes nothing.
 use mathlib.Core.Path.{_≡_}
 use mathlib.Core.Logic.{⊎-elim}
 use Prim.Native.Nat.{_-_, _≤_, min}
@@ -8,10 +8,10 @@ use lib.ListN.{getD}
 use borrow.Author.Tests.{lt-ltb, le-ltb}
 use Rattle.lists.specs.Below
 use Rattle.lists.proofs.Loops.{count-start, count-yes, count-no, count-end}
-use Rattle.model.specs.Delivery.{beforeCount}
+use Rattle.model.specs.Delivery.{goesBefore}
 use borrow.Author.Needs.{needs}
-use Rattle.delivery.proofs.before_count.Statement.{statement}
-use Rattle.delivery.proofs.before_count.Tie as tie
+use Rattle.delivery.proofs.goes_before.Statement.{statement}
+use Rattle.delivery.proofs.goes_before.Tie as tie
 
 abbrev Inv-loop : tie.InvT-loop
 Inv-loop n first second end count₀ f₀ count f = (f ≤ end) × (end ≡ min n 7) × (count ≤ f) × (count ≡ Below.count f (λ g. ltb ((getD first g (record { 0 = 0 })) .0) ((getD second g (record { 0 = 0 })) .0)))
@@ -48,11 +48,11 @@ loop-again c =
     (c .if1 .came)
 
 returns : tie.Need-returns Inv-loop μ-loop
-unfolding beforeCount
+unfolding goesBefore
 returns c = count-end _ _ _ _ (omega arith) (c .before .loop .inv .3)
 
-pub before-count-spec : {M : Type 1} → statement M
-before-count-spec =
+pub goes-before-spec : {M : Type 1} → statement M
+goes-before-spec =
     tie.close
     (tie.spec
     Inv-loop
