@@ -1,5 +1,5 @@
 -- What a turn of the search for the pending message of a name keeps, and what its end gives: no slot past the array is pending. Assumes nothing.
-use mathlib.Core.Path.{_≡_, sym, ap, _∙_}
+use mathlib.Core.Path.{_≡_, refl, sym, ap, _∙_}
 use mathlib.Core.Bool.{Bool, true, false, _&&_}
 use mathlib.Core.List.{List}
 use Prim.Native.Nat.{ℕ, zero, suc, min, _+_}
@@ -10,6 +10,7 @@ use lib.ListN.{length, List·getD-eq-default}
 use Rattle.lists.proofs.Tests.{cond-true, cond-false}
 use Rattle.model.specs.Tables.{capacity, noPending, yes?, message, entry}
 use Rattle.model.specs.Calls.{isNamed, pendingBelow, pendingOf}
+use Rattle.model.specs.Parts.{part}
 use Rattle.model.specs.declared.Name.{Name}
 use Rattle.model.specs.declared.Pending.{Pending}
 use Rattle.model.specs.declared.Table.{Table}
@@ -38,3 +39,13 @@ module _ (t : Table) (P : List Pending) (a : Name) where
   pub search-end : length P ≡ capacity → (k : ℕ) → k ≡ min (t .count) capacity → (x : Pending) → x ≡ pendingBelow k t P a → x ≡ pendingOf t P a
   unfolding pendingOf
   search-end l k e x q = q ∙ ap (λ k. pendingBelow k t P a) e ∙ clipped (t .count) l
+
+  -- the search reads nothing of a table but its messages
+  part-below : (k : ℕ) → pendingBelow k t P a ≡ pendingBelow k (part 0 0 (t .count) (t .messages)) P a
+  unfolding pendingBelow message
+  part-below zero = refl
+  part-below (suc k) = rw (part-below k)
+
+  pub pending-part : pendingOf t P a ≡ pendingOf (part 0 0 (t .count) (t .messages)) P a
+  unfolding pendingOf
+  pending-part = part-below (t .count)
