@@ -25,7 +25,7 @@ pub extern "C" fn furnacejade_event(
 pub extern "C" fn furnacejade_look(t: &model::Table, c: usize, answer: &mut model::LookAnswer)
     ensures { λ _. ⌜ now (answer .exit) ≡ look (now (t .entry)) c ⌝ }
 {
-    *answer = events::look_at(*t, c);
+    *answer = looks::look_at(*t, c);
 }
 
 // How many controllers put the first message before the second, as controller c has it.
@@ -39,7 +39,7 @@ pub extern "C" fn furnacejade_count_before(
 )
     ensures { λ _. ⌜ now (answer .exit) ≡ countBefore (now (t .entry)) c (now (first .entry)) (now (second .entry)) ⌝ }
 {
-    *answer = events::count_before(*t, c, *first, *second);
+    *answer = looks::count_before(*t, c, *first, *second);
 }
 
 // The fresh table of a version, of n controllers.

@@ -7,7 +7,7 @@ pub mod Reading
 pub mod Asking
 pub mod Stepping
 pub mod HandingOver
-pub mod Looking
+pub mod Fresh
 pub mod Headers
 pub mod Turning
 pub mod Running

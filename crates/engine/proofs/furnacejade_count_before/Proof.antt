@@ -12,10 +12,10 @@ use Rattle.model.proofs.Name as S
 use Rattle.model.proofs.Name.Laws as S′
 use Rattle.model.proofs.CountAnswer as N
 use Rattle.model.proofs.CountAnswer.Laws as N′
-use Rattle.events.proofs.count_before as g
-use Rattle.events.proofs.count_before.Symbol as g-def
-use Rattle.events.proofs.count_before.Symbol.{name as #events·count-before}
-use Rattle.events.proofs.count_before.Met as g-thm
+use Rattle.looks.proofs.count_before as g
+use Rattle.looks.proofs.count_before.Symbol as g-def
+use Rattle.looks.proofs.count_before.Symbol.{name as #looks·count-before}
+use Rattle.looks.proofs.count_before.Met as g-thm
 use Rattle.engine.proofs.furnacejade_count_before.Key.{name as #engine·furnacejade-count-before}
 use Rattle.engine.proofs.furnacejade_count_before as f
 use Rattle.engine.proofs.furnacejade_count_before.Statement as stated
@@ -60,9 +60,16 @@ module _ {M : Type 1} (𝓤 : URA M) (H : Heap 𝓤) (A : Atoms 𝓤) (W : Given
   Post = walkOf 𝓤 H A f.ended stayed (f.clauses 𝓤 H A at-mem run) .post bound
 
   abbrev to : Known 𝓤 H A at-mem run .Ghost
-  to =
-      ((tt, tt, tt, (t .now, (c, (x .now, (y .now, tt)))),
-      (LL.vals T.the-type T′.the-laws (t .now), (vint w64 c ∷ [], (LL.vals S.the-type S′.the-laws (x .now), (LL.vals S.the-type S′.the-laws (y .now), tt))))), tt)
+  to = (
+    (
+      tt,
+      tt,
+      tt,
+      (t .now, (c, (x .now, (y .now, tt)))),
+      (LL.vals T.the-type T′.the-laws (t .now), (vint w64 c ∷ [], (LL.vals S.the-type S′.the-laws (x .now), (LL.vals S.the-type S′.the-laws (y .now), tt)))),
+    ),
+    tt,
+  )
 
   -- the tokens of what was lent to read
   abbrev Read : List (Item 𝓤)
@@ -76,7 +83,7 @@ module _ {M : Type 1} (𝓤 : URA M) (H : Heap 𝓤) (A : Atoms 𝓤) (W : Given
       feqI ! (List Val) (ptrOf w ∷ []) (ptrOf w ∷ []) refl $ fjoin3 ! $ nothing ! $ move ! (1 ∷ 0 ∷ []) $ fjoin ! $ nothing ! $ fjoin ! $ nothing ! $ fjoin ! $ nothing ! $ fjoin ! $ nothing ! $ fjoin ! $
       feqI ! (List Val) (vunit ∷ []) (vunit ∷ []) refl $ move ! (1 ∷ 0 ∷ []) $ done !
 
-  module _ (C : Calls 𝓤 H) (Λ : Loops 𝓤 H) (fm : FmC 𝓤 H (W .laws) C) (known : Triple 𝓤 (C #events·count-before) (Known 𝓤 H A at-mem run)) where
+  module _ (C : Calls 𝓤 H) (Λ : Loops 𝓤 H) (fm : FmC 𝓤 H (W .laws) C) (known : Triple 𝓤 (C #looks·count-before) (Known 𝓤 H A at-mem run)) where
     walk : Is usize c (vint w64 c ∷ []) → ent 𝓤 (onEntry 𝓤 H A f.signature (κt, (κx, (κy, (κo, tt)))) (qt, (qx, (qy, (qo, tt)))) a vals) (WpFn 𝓤 H C Λ code.function (ptrOf t ∷ vint w64 c ∷ ptrOf x ∷ ptrOf y ∷ ptrOf w ∷ []) Post)
     walk pc =
         qed W ((‵ (flft κt qt) ⊛ ‵ (flft κx qx) ⊛ ‵ (flft κy qy) ⊛ ‵ (flft κo qo) ⊛ ‵ ftrue) ∷ ‵ (owns (ShrRef (named 0) κt T.the-row ∷ usize ∷ ShrRef (named 1) κx S.the-row ∷ ShrRef (named 2) κy S.the-row ∷ MutRef (named 3) κo N.the-row ∷ []) a vals) ∷ []) ∵
@@ -119,4 +126,4 @@ furnacejade-count-before-spec 𝓤 H 𝓜 𝓖 𝓡 =
     (λ κs. (ptr-vals, (uint-vals w64, (ptr-vals, (ptr-vals, (ptr-vals, tt))))))
     (λ κs. (shr-tells (named 0) (κs .0) T.the-row, (uint-tells w64, (shr-tells (named 1) (κs .1 .0) S.the-row, (shr-tells (named 2) (κs .1 .1 .0) S.the-row, (mut-tells (named 3) (κs .1 .1 .1 .0) N.the-row, tt))))))
     (λ fm κs qs bounds a g are. walk 𝓤 H (𝓖 .A) (givenOf 𝓤 H 𝓜 𝓖) (𝓜 .mem) (𝓡 .run) (κs .0) (κs .1 .0) (κs .1 .1 .0) (κs .1 .1 .1 .0) (qs .0) (qs .1 .0) (qs .1 .1 .0) (qs .1 .1 .1 .0) (a .0) (a .1 .0) (a .1 .1 .0) (a .1 .1 .1 .0) (a .1 .1 .1 .1 .0) (tables 𝓤 H 𝓜 𝓡 code.env .C) (tables 𝓤 H 𝓜 𝓡 code.env .Λ) fm
-    (cited 𝓤 H (Known 𝓤 H (𝓖 .A) (𝓜 .mem) (𝓡 .run)) 𝓜 𝓡 code.env #events·count-before g-def.routine code.calls-events·count-before (g-thm.met 𝓤 H 𝓜 𝓖 𝓡)) (are .1 .0))
+    (cited 𝓤 H (Known 𝓤 H (𝓖 .A) (𝓜 .mem) (𝓡 .run)) 𝓜 𝓡 code.env #looks·count-before g-def.routine code.calls-looks·count-before (g-thm.met 𝓤 H 𝓜 𝓖 𝓡)) (are .1 .0))

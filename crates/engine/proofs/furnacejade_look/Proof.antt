@@ -9,10 +9,10 @@ use Rattle.model.proofs.Table as T
 use Rattle.model.proofs.Table.Laws as T′
 use Rattle.model.proofs.LookAnswer as N
 use Rattle.model.proofs.LookAnswer.Laws as N′
-use Rattle.events.proofs.look_at as g
-use Rattle.events.proofs.look_at.Symbol as g-def
-use Rattle.events.proofs.look_at.Symbol.{name as #events·look-at}
-use Rattle.events.proofs.look_at.Met as g-thm
+use Rattle.looks.proofs.look_at as g
+use Rattle.looks.proofs.look_at.Symbol as g-def
+use Rattle.looks.proofs.look_at.Symbol.{name as #looks·look-at}
+use Rattle.looks.proofs.look_at.Met as g-thm
 use Rattle.engine.proofs.furnacejade_look.Key.{name as #engine·furnacejade-look}
 use Rattle.engine.proofs.furnacejade_look as f
 use Rattle.engine.proofs.furnacejade_look.Statement as stated
@@ -61,7 +61,7 @@ module _ {M : Type 1} (𝓤 : URA M) (H : Heap 𝓤) (A : Atoms 𝓤) (W : Given
       feqI ! (List Val) (ptrOf w ∷ []) (ptrOf w ∷ []) refl $ fjoin3 ! $ nothing ! $ move ! (1 ∷ 0 ∷ []) $ fjoin ! $ nothing ! $ fjoin ! $ nothing ! $ fjoin ! $
       feqI ! (List Val) (vunit ∷ []) (vunit ∷ []) refl $ move ! (1 ∷ 0 ∷ []) $ done !
 
-  module _ (C : Calls 𝓤 H) (Λ : Loops 𝓤 H) (fm : FmC 𝓤 H (W .laws) C) (known : Triple 𝓤 (C #events·look-at) (Known 𝓤 H A at-mem run)) where
+  module _ (C : Calls 𝓤 H) (Λ : Loops 𝓤 H) (fm : FmC 𝓤 H (W .laws) C) (known : Triple 𝓤 (C #looks·look-at) (Known 𝓤 H A at-mem run)) where
     walk : Is usize c (vint w64 c ∷ []) → ent 𝓤 (onEntry 𝓤 H A f.signature (κt, (κo, tt)) (qt, (qo, tt)) a vals) (WpFn 𝓤 H C Λ code.function (ptrOf t ∷ vint w64 c ∷ ptrOf w ∷ []) Post)
     walk pc =
         qed W ((‵ (flft κt qt) ⊛ ‵ (flft κo qo) ⊛ ‵ ftrue) ∷ ‵ (owns (ShrRef (named 0) κt T.the-row ∷ usize ∷ MutRef (named 1) κo N.the-row ∷ []) a vals) ∷ []) ∵
@@ -92,4 +92,4 @@ furnacejade-look-spec 𝓤 H 𝓜 𝓖 𝓡 =
     (goes-dropped 𝓤 H (𝓖 .A) (givenOf 𝓤 H 𝓜 𝓖) 2 TableS yes (λ κs x f. refl), (goes-dropped 𝓤 H (𝓖 .A) (givenOf 𝓤 H 𝓜 𝓖) 2 ControllerS yes (λ κs x f. refl), (goes-ref 𝓤 H (𝓖 .A) (givenOf 𝓤 H 𝓜 𝓖) 2 1 tt AnswerS, tt)))
     (λ κs. (ptr-vals, (uint-vals w64, (ptr-vals, tt)))) (λ κs. (shr-tells (named 0) (κs .0) T.the-row, (uint-tells w64, (mut-tells (named 1) (κs .1 .0) N.the-row, tt))))
     (λ fm κs qs bounds a g are. walk 𝓤 H (𝓖 .A) (givenOf 𝓤 H 𝓜 𝓖) (𝓜 .mem) (𝓡 .run) (κs .0) (κs .1 .0) (qs .0) (qs .1 .0) (a .0) (a .1 .0) (a .1 .1 .0) (tables 𝓤 H 𝓜 𝓡 code.env .C) (tables 𝓤 H 𝓜 𝓡 code.env .Λ) fm
-    (cited 𝓤 H (Known 𝓤 H (𝓖 .A) (𝓜 .mem) (𝓡 .run)) 𝓜 𝓡 code.env #events·look-at g-def.routine code.calls-events·look-at (g-thm.met 𝓤 H 𝓜 𝓖 𝓡)) (are .1 .0))
+    (cited 𝓤 H (Known 𝓤 H (𝓖 .A) (𝓜 .mem) (𝓡 .run)) 𝓜 𝓡 code.env #looks·look-at g-def.routine code.calls-looks·look-at (g-thm.met 𝓤 H 𝓜 𝓖 𝓡)) (are .1 .0))

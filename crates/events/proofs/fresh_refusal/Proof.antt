@@ -4,7 +4,7 @@ use mathlib.Core.Bool.{true}
 use borrow.Author.Needs.{needs}
 use borrow.Author.Tests.{not-true, not-false}
 use Rattle.model.specs.WellFormed.{known}
-use Rattle.events.proofs.Looking.{version-refuses, count-refuses, none-refuses}
+use Rattle.events.proofs.Fresh.{version-refuses, count-refuses, none-refuses}
 use Rattle.events.proofs.fresh_refusal.Statement.{statement}
 use Rattle.events.proofs.fresh_refusal.Tie as tie
 

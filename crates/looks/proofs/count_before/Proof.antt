@@ -4,9 +4,9 @@ use Prim.Native.Nat.{_≤_, _<_}
 use native.Mathlib.Omega.{arith}
 use borrow.Author.Needs.{needs}
 use Rattle.model.specs.Tables.{at}
-use Rattle.events.proofs.Looking.{looked-at, count-refused, count-given}
-use Rattle.events.proofs.count_before.Statement.{statement}
-use Rattle.events.proofs.count_before.Tie as tie
+use Rattle.looks.proofs.Looking.{looked-at, count-refused, count-given}
+use Rattle.looks.proofs.count_before.Statement.{statement}
+use Rattle.looks.proofs.count_before.Tie as tie
 
 look-refusal-requires : tie.Need-look-refusal-requires
 look-refusal-requires c κs = search needs

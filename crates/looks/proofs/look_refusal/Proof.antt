@@ -4,9 +4,9 @@ use mathlib.Core.Bool.{true}
 use borrow.Author.Needs.{needs}
 use borrow.Author.Tests.{not-true, not-false}
 use Rattle.model.specs.WellFormed.{wellFormed}
-use Rattle.events.proofs.Looking.{table-refuses, controller-refuses, look-allowed}
-use Rattle.events.proofs.look_refusal.Statement.{statement}
-use Rattle.events.proofs.look_refusal.Tie as tie
+use Rattle.looks.proofs.Looking.{table-refuses, controller-refuses, look-allowed}
+use Rattle.looks.proofs.look_refusal.Statement.{statement}
+use Rattle.looks.proofs.look_refusal.Tie as tie
 
 well-formed-requires : tie.Need-well-formed-requires
 well-formed-requires c κs = search needs

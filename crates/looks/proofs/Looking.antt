@@ -1,4 +1,4 @@
--- The answers of a panel look, of a count of "goes before" and of a request for a fresh table, from the tests that the code makes. Assumes nothing.
+-- The answers of a panel look and of a count of "goes before", from the tests that the code makes. Assumes nothing.
 use mathlib.Core.Path.{_≡_, refl, sym, _∙_}
 use mathlib.Core.Logic.{_≢_}
 use mathlib.Core.Bool.{true, false, _&&_}
@@ -6,20 +6,19 @@ use Prim.Native.Nat.{ℕ, _≤_, _<_}
 use native.Mathlib.Omega.{arith}
 use lib.Dec.{leb, ltb}
 use borrow.Author.Tests.{eq-eqb, ne-eqb}
-use Rattle.model.specs.Tables.{noPanel, fresh, zeroTable, at}
+use Rattle.model.specs.Tables.{noPanel, at}
 use Rattle.model.specs.Delivery.{goesBefore}
 use Rattle.model.specs.Events.{panelOf}
 use Rattle.model.specs.Parts.{part}
-use Rattle.model.specs.WellFormed.{named, known, wellFormed}
-use Rattle.model.specs.Questions.{firstNo, freshQuestions, lentTable, lookQuestions}
-use Rattle.model.specs.Calls.{look, pendingOf, countBefore, freshTable}
+use Rattle.model.specs.WellFormed.{named, wellFormed}
+use Rattle.model.specs.Questions.{firstNo, lentTable, lookQuestions}
+use Rattle.model.specs.Calls.{look, pendingOf, countBefore}
 use Rattle.model.specs.declared.Name.{Name}
 use Rattle.model.specs.declared.Pending.{Pending}
 use Rattle.model.specs.declared.Panel.{Panel}
 use Rattle.model.specs.declared.Table.{Table}
 use Rattle.model.specs.declared.LookAnswer.{LookAnswer}
 use Rattle.model.specs.declared.CountAnswer.{CountAnswer}
-use Rattle.model.specs.declared.FreshAnswer.{FreshAnswer}
 use Rattle.model.proofs.Tested.{facts}
 use Rattle.model.proofs.Allowed.{look-asked}
 use Rattle.naming.proofs.Searching.{pending-part}
@@ -63,26 +62,3 @@ module _ (t : Table) (c : ℕ) where
         → x ≡ goesBefore (t .n) p q → _≡_ {A = CountAnswer} (record { number = k; count = x }) (countBefore t c a b)
     unfolding countBefore
     count-given z a b p q x ep eq ex = rw (← e, eq-eqb k 0 z, ex, ep, eq, ← pending-part t _ a, ← pending-part t _ b) refl
-
-module _ (v n : ℕ) where
-  pub version-refuses : known v ≡ false → 2 ≡ firstNo (freshQuestions v n)
-  unfolding firstNo freshQuestions
-  version-refuses f = rw f refl
-
-  module _ (q : known v ≡ true) where
-    pub count-refuses : (ltb 0 n && leb n 7) ≡ false → 3 ≡ firstNo (freshQuestions v n)
-    unfolding firstNo freshQuestions
-    count-refuses f = rw (q, f) refl
-
-    pub none-refuses : (ltb 0 n && leb n 7) ≡ true → 0 ≡ firstNo (freshQuestions v n)
-    unfolding firstNo freshQuestions
-    none-refuses f = rw (q, f) refl
-
-  module _ (k : ℕ) (e : k ≡ firstNo (freshQuestions v n)) where
-    pub fresh-refused : k ≢ 0 → (x : Table) → x ≡ zeroTable → _≡_ {A = FreshAnswer} (record { number = k; table = x }) (freshTable v n)
-    unfolding freshTable
-    fresh-refused d x ex = rw (← e, ne-eqb k 0 d, ex) refl
-
-    pub fresh-given : k ≡ 0 → (x : Table) → x ≡ fresh v n → _≡_ {A = FreshAnswer} (record { number = k; table = x }) (freshTable v n)
-    unfolding freshTable
-    fresh-given z x ex = rw (← e, eq-eqb k 0 z, ex) refl

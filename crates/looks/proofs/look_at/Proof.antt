@@ -1,8 +1,8 @@
 -- `look_at` refuses by questions 4 and 8, or shows the panel. Assumes nothing.
 use borrow.Author.Needs.{needs}
-use Rattle.events.proofs.Looking.{look-refused, look-shown}
-use Rattle.events.proofs.look_at.Statement.{statement}
-use Rattle.events.proofs.look_at.Tie as tie
+use Rattle.looks.proofs.Looking.{look-refused, look-shown}
+use Rattle.looks.proofs.look_at.Statement.{statement}
+use Rattle.looks.proofs.look_at.Tie as tie
 
 look-refusal-requires : tie.Need-look-refusal-requires
 look-refusal-requires c κs = search needs
