@@ -80,27 +80,13 @@ module _ (t : Table) (c : ℕ) where
   abbrev P : List Pending
   P = at t c .pending
 
-  abbrev allowed : Bool
-  allowed = eqb (firstNo (lookQuestions t c)) 0
-
-  abbrev counted : Name → Name → ℕ
-  counted a b = goesBefore (t .n) (pendingOf t P a) (pendingOf t P b)
-
   pub count-bounded : (a b : Name) → countBefore t c a b .count ≤ t .n
   unfolding countBefore
-  count-bounded a b = cond-case (λ x. x ≤ t .n) allowed (counted a b) 0 (λ _. before-bound (t .n) _ _) (λ _. omega arith)
+  count-bounded a b = cond-case (λ x. x ≤ t .n) _ _ 0 (λ _. before-bound (t .n) _ _) (λ _. omega arith)
 
   pub count-itself : (a : Name) → countBefore t c a a .count ≡ 0
   unfolding countBefore
-  count-itself a = cond-case (λ x. x ≡ 0) allowed (counted a a) 0 (λ _. before-itself (t .n) _) (λ _. refl)
-
-  pub count-both : (a b : Name) → countBefore t c a b .count + countBefore t c b a .count ≤ t .n
-  unfolding countBefore
-  count-both a b = go allowed
-    where
-      go : (k : Bool) → cond k (counted a b) 0 + cond k (counted b a) 0 ≤ t .n
-      go true = before-both (t .n) _ _
-      go false = omega arith
+  count-itself a = cond-case (λ x. x ≡ 0) _ _ 0 (λ _. before-itself (t .n) _) (λ _. refl)
 
   -- of two messages that are pending at c, line 16's relation is the count against the majority
   pub count-precedes : WellFormed t → Among (t .n) c → (s u : ℕ) → s < t .count → u < t .count → held (at t c) s ≡ true → held (at t c) u ≡ true
@@ -108,9 +94,17 @@ module _ (t : Table) (c : ℕ) where
   unfolding countBefore isNamed
   count-precedes w h s u hs hu ps pu =
       ap (leb (majority (t .n)))
-      (sym (cond-true (counted (nameOf (message t s)) (nameOf (message t u))) 0 (eq-eqb _ 0 (look-passed t c (tested t w) h))
+      (sym (cond-true _ 0 (eq-eqb _ 0 (look-passed t c (tested t w) h))
       ∙ ap₂ (goesBefore (t .n)) (found s hs ps) (found u hu pu)))
     where
       found : (s : ℕ) → s < t .count → held (at t c) s ≡ true → pendingOf t P (nameOf (message t s)) ≡ entry P s
       found s h p = pending-found t P (nameOf (message t s)) w s h
           (both p (both (eq-eqb (message t s .sender) (message t s .sender) refl) (eq-eqb (message t s .number .0) (message t s .number .0) refl)))
+
+  pub count-both : (a b : Name) → countBefore t c a b .count + countBefore t c b a .count ≤ t .n
+  unfolding countBefore
+  count-both a b = go _ (pendingOf t P a) (pendingOf t P b)
+    where
+      go : (k : Bool) (p q : Pending) → cond k (goesBefore (t .n) p q) 0 + cond k (goesBefore (t .n) q p) 0 ≤ t .n
+      go true p q = before-both (t .n) p q
+      go false p q = omega arith

@@ -179,7 +179,7 @@ majority-more n = omega arith
 -- it is from 0 to n
 pub before-bound : (n : ℕ) (p q : Pending) → goesBefore n p q ≤ n
 unfolding goesBefore
-before-bound n p q = omega (arith, count-bound (min n seats) (λ f. ltb (mark p f) (mark q f)))
+before-bound n p q = let h : goesBefore n p q ≤ min n seats = count-bound (min n seats) _ in omega arith
 
 -- a message against itself counts 0
 pub before-itself : (n : ℕ) (p : Pending) → goesBefore n p p ≡ 0
@@ -190,7 +190,7 @@ before-itself n p = count-none (min n seats) _ (λ f _. le-ltb (mark p f) (mark 
 pub before-both : (n : ℕ) (p q : Pending) → goesBefore n p q + goesBefore n q p ≤ n
 unfolding goesBefore
 before-both n p q =
-    let h = apart-count (min n seats) (λ f. ltb (mark p f) (mark q f)) (λ f. ltb (mark q f) (mark p f))
+    let h : goesBefore n p q + goesBefore n q p ≤ min n seats = apart-count (min n seats) _ _
     (λ f _ x y. omega (arith, ltb-true (mark p f) (mark q f) x, ltb-true (mark q f) (mark p f) y)) in
     omega arith
 
