@@ -80,14 +80,6 @@ module _ (t : Table) (c : ℕ) where
   abbrev P : List Pending
   P = at t c .pending
 
-  pub count-bounded : (a b : Name) → countBefore t c a b .count ≤ t .n
-  unfolding countBefore
-  count-bounded a b = cond-case (λ x. x ≤ t .n) _ _ 0 (λ _. before-bound (t .n) _ _) (λ _. omega arith)
-
-  pub count-itself : (a : Name) → countBefore t c a a .count ≡ 0
-  unfolding countBefore
-  count-itself a = cond-case (λ x. x ≡ 0) _ _ 0 (λ _. before-itself (t .n) _) (λ _. refl)
-
   -- of two messages that are pending at c, line 16's relation is the count against the majority
   pub count-precedes : WellFormed t → Among (t .n) c → (s u : ℕ) → s < t .count → u < t .count → held (at t c) s ≡ true → held (at t c) u ≡ true
       → precedes (t .n) P s u ≡ leb (majority (t .n)) (countBefore t c (nameOf (message t s)) (nameOf (message t u)) .count)
@@ -101,10 +93,24 @@ module _ (t : Table) (c : ℕ) where
       found s h p = pending-found t P (nameOf (message t s)) w s h
           (both p (both (eq-eqb (message t s .sender) (message t s .sender) refl) (eq-eqb (message t s .number .0) (message t s .number .0) refl)))
 
+  abbrev allowed : Bool
+  allowed = eqb (firstNo (lookQuestions t c)) 0
+
+  abbrev counted : Name → Name → ℕ
+  counted a b = goesBefore (t .n) (pendingOf t P a) (pendingOf t P b)
+
+  pub count-bounded : (a b : Name) → countBefore t c a b .count ≤ t .n
+  unfolding countBefore
+  count-bounded a b = cond-case (λ x. x ≤ t .n) allowed (counted a b) 0 (λ _. before-bound (t .n) _ _) (λ _. omega arith)
+
+  pub count-itself : (a : Name) → countBefore t c a a .count ≡ 0
+  unfolding countBefore
+  count-itself a = cond-case (λ x. x ≡ 0) allowed (counted a a) 0 (λ _. before-itself (t .n) _) (λ _. refl)
+
   pub count-both : (a b : Name) → countBefore t c a b .count + countBefore t c b a .count ≤ t .n
   unfolding countBefore
-  count-both a b = go _ (pendingOf t P a) (pendingOf t P b)
+  count-both a b = go allowed
     where
-      go : (k : Bool) (p q : Pending) → cond k (goesBefore (t .n) p q) 0 + cond k (goesBefore (t .n) q p) 0 ≤ t .n
-      go true p q = before-both (t .n) p q
-      go false p q = omega arith
+      go : (k : Bool) → cond k (counted a b) 0 + cond k (counted b a) 0 ≤ t .n
+      go true = before-both (t .n) _ _
+      go false = omega arith
