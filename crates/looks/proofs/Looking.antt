@@ -6,7 +6,7 @@ use Prim.Native.Nat.{ℕ, _≤_, _<_}
 use native.Mathlib.Omega.{arith}
 use lib.Dec.{leb, ltb}
 use borrow.Author.Tests.{eq-eqb, ne-eqb}
-use Rattle.model.specs.Tables.{noPanel, at}
+use Rattle.model.specs.Tables.{seats, noPanel, at}
 use Rattle.model.specs.Delivery.{goesBefore}
 use Rattle.model.specs.Events.{panelOf}
 use Rattle.model.specs.Parts.{part}
@@ -47,7 +47,7 @@ module _ (t : Table) (c : ℕ) where
     look-shown z x ex = rw (← e, eq-eqb k 0 z, ex) refl
 
     -- a controller of the table that is looked at
-    pub looked-at : k ≡ 0 → (0 < c) × (c ≤ 7)
+    pub looked-at : k ≡ 0 → (0 < c) × (c ≤ seats)
     looked-at z =
         let q = look-asked t c (sym e ∙ z) in
         let w = facts t (q .0) in

@@ -72,7 +72,7 @@ module _ (t : Table) (P : List Pending) (a : Name) where
 -- a message goes before one that has no mark by each of its own marks
 pub before-unheld : (n : ℕ) (p : Pending) → goesBefore n p unheld ≡ markCount n p
 unfolding goesBefore markCount
-before-unheld n p = count-ext (min n seats) _ _ (λ f h. ap (λ (m : ForwardNumber). ltb (mark p f) (m .0)) (getD-replicate 7 f _ _ (omega arith)))
+before-unheld n p = count-ext (min n seats) _ _ (λ f h. ap (λ (m : ForwardNumber). ltb (mark p f) (m .0)) (getD-replicate seats f _ _ (omega arith)))
 
 -- WHAT THE CALL ANSWERS, on every table: a refusal counts 0
 

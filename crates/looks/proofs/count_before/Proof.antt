@@ -3,7 +3,7 @@ use mathlib.Core.Path.{_≡_}
 use Prim.Native.Nat.{_≤_, _<_}
 use native.Mathlib.Omega.{arith}
 use borrow.Author.Needs.{needs}
-use Rattle.model.specs.Tables.{at}
+use Rattle.model.specs.Tables.{seats, at}
 use Rattle.looks.proofs.Looking.{looked-at, count-refused, count-given}
 use Rattle.looks.proofs.count_before.Statement.{statement}
 use Rattle.looks.proofs.count_before.Tie as tie
@@ -15,7 +15,7 @@ returns : tie.Need-returns
 returns c = count-refused _ _ _ (c .before .look-refusal .ensures) (c .if1 .taken) _ _
 
 -- past question 8
-named : (c : tie.Else1) → (0 < c .before .before .args .c) × (c .before .before .args .c ≤ 7)
+named : (c : tie.Else1) → (0 < c .before .before .args .c) × (c .before .before .args .c ≤ seats)
 named c = looked-at _ _ _ (c .before .look-refusal .ensures) (c .if1 .left)
 
 sub-x : tie.Need-sub-x
