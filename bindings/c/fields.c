@@ -461,6 +461,65 @@ static void class_sums(void) {
     }
 }
 
+/* How many put the one before the other, and the number, of an answer that was dirty before. */
+static furnacejade_count_answer count(const furnacejade_table *table, size_t controller, furnacejade_name first, furnacejade_name second) {
+    furnacejade_count_answer answer;
+    memset(&answer, 0xA5, sizeof answer);
+    furnacejade_count_before(table, controller, &first, &second, &answer);
+    return answer;
+}
+
+static void expect_count(furnacejade_count_answer got, uint8_t number, size_t wanted, const char *field, size_t i, size_t j) {
+    expect(got.number, number, field, i, j);
+    expect((uint8_t)(got.count == wanted), 1, field, i, j);
+}
+
+/* With 64 messages pending everywhere and every mark absent but for one of two slots, each mark of each slot at each controller
+ * is read where it stands, and the message is found by sender and number. */
+static void counts(void) {
+    static const furnacejade_name odd[] = {{0, {1}}, {255, {1}}, {1, {0}}, {1, {65}}, {1, {255}}, {2, {1}}, {0, {0}}, {255, {255}}};
+    furnacejade_table t = full(0);
+    for (size_t c = 0; c < FURNACEJADE_CONTROLLERS; c++)
+        for (size_t s = 0; s < FURNACEJADE_MESSAGES; s++) memset(t.controllers[c].pending[s].marks, FURNACEJADE_ABSENT, FURNACEJADE_CONTROLLERS);
+    for (size_t c = 1; c <= FURNACEJADE_CONTROLLERS; c++)
+        for (size_t s = 0; s < FURNACEJADE_MESSAGES; s++) {
+            size_t other = (s + 1) % FURNACEJADE_MESSAGES;
+            furnacejade_pending *first = &t.controllers[c - 1].pending[s], *second = &t.controllers[c - 1].pending[other];
+            furnacejade_name one = {1, t.messages[s].number}, two = {1, t.messages[other].number};
+            for (size_t f = 0; f < FURNACEJADE_CONTROLLERS; f++) {
+                first->marks[f].value = FURNACEJADE_MESSAGES;
+                expect_count(count(&t, c, one, two), 0, f + 1, "marks before absent ones", s, f);
+                expect_count(count(&t, c, two, one), 0, 0, "absent marks before others", s, f);
+                second->marks[f].value = FURNACEJADE_MESSAGES;
+                expect_count(count(&t, c, one, two), 0, f, "equal marks", s, f);
+                second->marks[f].value = FURNACEJADE_ABSENT;
+            }
+            expect_count(count(&t, c, one, one), 0, 0, "a message before itself", c, s);
+            expect_count(count(&t, c % FURNACEJADE_CONTROLLERS + 1, one, two), 0, 0, "marks of another controller", c, s);
+            for (size_t i = 0; i < sizeof odd / sizeof odd[0]; i++) {
+                expect_count(count(&t, c, one, odd[i]), 0, FURNACEJADE_CONTROLLERS, "a message before none", s, i);
+                expect_count(count(&t, c, odd[i], one), 0, 0, "none before a message", s, i);
+            }
+            furnacejade_table stopped = t;
+            stopped.controllers[c - 1].running = 0;
+            expect_count(count(&stopped, c, one, two), 0, FURNACEJADE_CONTROLLERS, "a stopped controller", c, s);
+            stopped.controllers[c - 1].pending[s].held = 0;
+            expect_count(count(&stopped, c, one, two), 0, 0, "marks of what is not pending", c, s);
+            memset(first->marks, FURNACEJADE_ABSENT, sizeof first->marks);
+        }
+    const furnacejade_name one = {1, {1}}, none = {0, {0}};
+    memset(t.controllers[0].pending[0].marks, 1, FURNACEJADE_CONTROLLERS);
+    furnacejade_table before = t;
+    expect_count(count(&t, 0, one, none), FURNACEJADE_CONTROLLER, 0, "count at", 0, 0);
+    expect_count(count(&t, 1, one, none), 0, FURNACEJADE_CONTROLLERS, "count at", 1, 0);
+    expect_count(count(&t, 8, one, none), FURNACEJADE_CONTROLLER, 0, "count at", 8, 0);
+    expect_count(count(&t, 257, one, none), FURNACEJADE_CONTROLLER, 0, "count at", 257, 0);
+    expect((uint8_t)(memcmp(&t, &before, sizeof t) == 0), 1, "count's table", 0, 0);
+    t.version = 3;
+    expect_count(count(&t, 1, one, none), FURNACEJADE_TABLE, 0, "count in a table of version 3", 1, 0);
+    expect_count(count(&t, 0, one, none), FURNACEJADE_TABLE, 0, "count in a table of version 3", 0, 0);
+}
+
 /* What a look shows of each register: controller 1, alone, sets each to its own value and then register 8 once more. A write
  * without a sync right before it is refused, and a refused look shows no register. */
 static void registers(void) {
@@ -513,6 +572,7 @@ static void random_tables(void) {
         const uint8_t handover[] = {3, 3, 1, 1};
         expect(event(&t, handover, sizeof handover, &answer), 4, "random table", (size_t)i, 0);
         expect(look(&t, bytes[0]), 4, "random table", (size_t)i, 1);
+        expect_count(count(&t, bytes[0], (furnacejade_name){bytes[1], {bytes[2]}}, (furnacejade_name){1, {1}}), 4, 0, "random table", (size_t)i, 2);
         tests++;
         if (memcmp(&t, &before, sizeof t) != 0) {
             printf("a refused event changed a random table\n");
@@ -531,6 +591,7 @@ int main(void) {
     }
     arrays();
     writes();
+    counts();
     unused();
     writers();
     bytes(plain, sizeof plain);

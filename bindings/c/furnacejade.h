@@ -19,8 +19,8 @@
  * two tables have the same fields exactly if memcmp finds them equal, equal calls make equal tables byte for byte, and a
  * table may be copied, saved, sent and hashed as sizeof(furnacejade_table) bytes, between x86-64 programs that were built
  * with the same version of this header. Answers have padding, which a call may leave as anything, old bytes of the stack
- * among them: furnacejade_answer at bytes 2, 3 and 12 to 15, furnacejade_look_answer at 1 to 3, furnacejade_fresh_answer
- * and furnacejade_run_answer at 1 to 7. Compare, save and send answers field by field. */
+ * among them: furnacejade_answer at bytes 2, 3 and 12 to 15, furnacejade_look_answer at 1 to 3, furnacejade_fresh_answer,
+ * furnacejade_run_answer and furnacejade_count_answer at 1 to 7. Compare, save and send answers field by field. */
 #ifndef FURNACEJADE_H
 #define FURNACEJADE_H
 
@@ -203,6 +203,12 @@ typedef struct {
     furnacejade_panel panel; /* what the panel shows; zero if refused */
 } furnacejade_look_answer;
 
+/* What furnacejade_count_before answers. */
+typedef struct {
+    uint8_t number; /* the refusal number, 0 if accepted */
+    size_t count;   /* how many controllers put the first message before the second, 0 to n; 0 if refused */
+} furnacejade_count_answer;
+
 /* What furnacejade_run answers. */
 typedef struct {
     uint8_t number;          /* the refusal number, 0 if the whole file was accepted */
@@ -275,6 +281,9 @@ FURNACEJADE_AT(furnacejade_fresh_answer, table, 8);
 FURNACEJADE_BYTES(furnacejade_look_answer, 116);
 FURNACEJADE_AT(furnacejade_look_answer, number, 0);
 FURNACEJADE_AT(furnacejade_look_answer, panel, 4);
+FURNACEJADE_BYTES(furnacejade_count_answer, 16);
+FURNACEJADE_AT(furnacejade_count_answer, number, 0);
+FURNACEJADE_AT(furnacejade_count_answer, count, 8);
 FURNACEJADE_BYTES(furnacejade_run_answer, 6056);
 FURNACEJADE_AT(furnacejade_run_answer, number, 0);
 FURNACEJADE_AT(furnacejade_run_answer, events, 8);
@@ -441,6 +450,21 @@ size_t furnacejade_event(furnacejade_table *t, const uint8_t *bytes, size_t byte
  *     printf("register 1 is %u, set by %d\n", belt->value, belt->stamp.writer);
  */
 void furnacejade_look(const furnacejade_table *t, size_t c, furnacejade_look_answer *answer);
+
+/* How many of the controllers 1 to n put the first message before the second at controller c, 1 to n, running or stopped: of the
+ * marks that c keeps, so many are smaller for the first than for the second. An absent mark is greater than every number, and
+ * not less than another absent one. If the count is at least the majority, n / 2 + 1, the first goes before the second. A
+ * message that is not pending at c, or is not of the run, has every mark absent there: before it a pending message counts its
+ * marks, and it counts 0 before any. A message counts 0 before itself. Questions 4 and 8 are put, 8 to c alone: a name may hold
+ * anything. Nothing but the answer is written.
+ *
+ *     const furnacejade_name first = {3, {1}}, second = {1, {1}};
+ *     furnacejade_count_answer before;
+ *     furnacejade_count_before(table, 3, &first, &second, &before);
+ *     if (before.number == FURNACEJADE_ACCEPTED)
+ *         printf("%zu of the %zu needed put 3.1 before 1.1\n", before.count, table->n / 2 + 1);
+ */
+void furnacejade_count_before(const furnacejade_table *t, size_t c, const furnacejade_name *first, const furnacejade_name *second, furnacejade_count_answer *answer);
 
 /* A whole run file, from a fresh table of its own, which has the file's version, up to the first refusal. Its lines, one for
  * each set applied, are written into the listing from the start on; the bytes behind them stay. A local read counts as an

@@ -1,7 +1,11 @@
 /* Plays a run file, read from standard input, event by event: the set applied, what a finished sync or a local read gives, and
  * then a look at every panel. In the end it prints what each panel shows of each class, if the file is of version 2, and of the
  * registers that were written. bindings/worked.run, bindings/classes.run, bindings/underway.run, bindings/settings.run and
- * bindings/reading.run are the runs of docs/RULES.md, sections 19, 25, 26, 28 and 29. */
+ * bindings/reading.run are the runs of docs/RULES.md, sections 19, 25, 26, 28 and 29.
+ *
+ * With a controller and two messages as arguments, as in `worked 3 3.1 1.1`, each line ends in what service staff ask where
+ * something waits: how many controllers put the first message before the second there, how many the second before the first,
+ * and how many are needed. bindings/before.txt is what that prints for bindings/worked.run. */
 #include <stdio.h>
 #include <stdlib.h>
 
@@ -41,7 +45,30 @@ static void print_registers(const furnacejade_table *table) {
         }
 }
 
-int main(void) {
+/* A message's name from its text. */
+static furnacejade_name name_of(const char *text) {
+    unsigned char sender = 0, number = 0;
+    if (sscanf(text, "%hhu.%hhu", &sender, &number) != 2) exit(EXIT_FAILURE);
+    return (furnacejade_name){sender, {number}};
+}
+
+static size_t count_before(const furnacejade_table *table, size_t controller, furnacejade_name first, furnacejade_name second) {
+    furnacejade_count_answer answer;
+    furnacejade_count_before(table, controller, &first, &second, &answer);
+    if (answer.number != FURNACEJADE_ACCEPTED) exit(EXIT_FAILURE);
+    return answer.count;
+}
+
+/* Of the arguments: a controller, and two messages. */
+static void print_before(const furnacejade_table *table, char **asked) {
+    size_t controller = strtoul(asked[0], NULL, 10);
+    furnacejade_name one = name_of(asked[1]), other = name_of(asked[2]);
+    size_t first = count_before(table, controller, one, other), second = count_before(table, controller, other, one);
+    printf(" | at %zu: %zu put %s before %s, %zu put %s before %s", controller, first, asked[1], asked[2], second, asked[2], asked[1]);
+    printf(", %zu needed", table->n / 2 + 1);
+}
+
+int main(int arguments, char **argument) {
     static uint8_t run[65535], scratch[FURNACEJADE_SCRATCH];
     size_t length = fread(run, 1, sizeof run, stdin);
     if (length < 2) return EXIT_FAILURE;
@@ -65,6 +92,7 @@ int main(void) {
             printf(" |");
             print_sums(shown(table, c).sums);
         }
+        if (arguments == 4) print_before(table, argument + 1);
         printf("\n");
     }
     if (table->version == 2) print_classes(table);

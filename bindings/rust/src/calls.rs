@@ -2,7 +2,7 @@
 //! What a call answers and leaves is proved in `crates/engine`. This file is the boundary, which nothing proves; it
 //! only passes arguments on, and what the library asks of pointers holds of every reference.
 
-use crate::{Answer, FreshAnswer, LookAnswer, RunAnswer, Table};
+use crate::{Answer, CountAnswer, FreshAnswer, LookAnswer, Name, RunAnswer, Table};
 
 extern "C" {
     fn furnacejade_event(
@@ -14,6 +14,13 @@ extern "C" {
         answer: *mut Answer,
     ) -> usize;
     fn furnacejade_look(t: *const Table, c: usize, answer: *mut LookAnswer);
+    fn furnacejade_count_before(
+        t: *const Table,
+        c: usize,
+        first: *const Name,
+        second: *const Name,
+        answer: *mut CountAnswer,
+    );
     fn furnacejade_fresh(version: usize, n: usize, answer: *mut FreshAnswer);
     fn furnacejade_run(
         bytes: *const u8,
@@ -35,6 +42,11 @@ pub fn event(table: &mut Table, bytes: &[u8], scratch: &mut [u8], answer: &mut A
 /// A panel look at a controller, 1 to n.
 pub fn look(table: &Table, controller: usize, answer: &mut LookAnswer) {
     unsafe { furnacejade_look(table, controller, answer) }
+}
+
+/// How many controllers put the first message before the second at a controller, 1 to n.
+pub fn count_before(table: &Table, controller: usize, first: &Name, second: &Name, answer: &mut CountAnswer) {
+    unsafe { furnacejade_count_before(table, controller, first, second, answer) }
 }
 
 /// A fresh table of a version, 1 or 2, and of n controllers, 1 to 7.

@@ -211,6 +211,16 @@ pub struct LookAnswer {
     pub panel: Panel,
 }
 
+/// What the count of "goes before" answers.
+#[repr(C)]
+#[derive(Clone, Debug, PartialEq, Eq, Hash)]
+pub struct CountAnswer {
+    /// [`Refusal::ACCEPTED`], or why the call was refused.
+    pub number: Refusal,
+    /// How many controllers put the first message before the second, 0 to n; 0 if refused.
+    pub count: usize,
+}
+
 /// What the run of a file answers.
 #[repr(C)]
 #[derive(Clone, Debug, PartialEq, Eq, Hash)]
@@ -422,6 +432,11 @@ impl LookAnswer {
     pub const BLANK: LookAnswer = LookAnswer { number: Refusal::ACCEPTED, panel: Panel::BLANK };
 }
 
+impl CountAnswer {
+    /// Every field zero: a place for an answer.
+    pub const BLANK: CountAnswer = CountAnswer { number: Refusal::ACCEPTED, count: 0 };
+}
+
 impl RunAnswer {
     /// Every field zero: a place for an answer.
     pub const BLANK: RunAnswer = RunAnswer { number: Refusal::ACCEPTED, events: 0, written: 0, table: Table::BLANK };
@@ -460,4 +475,5 @@ layout!(Panel, 112 bytes, 0 of padding: sums at 0, classes at 8, registers at 48
 layout!(Answer, 152 bytes, 6 of padding: number at 0, finished at 1, sums at 4, size at 16, names at 24);
 layout!(FreshAnswer, 6040 bytes, 7 of padding: number at 0, table at 8);
 layout!(LookAnswer, 116 bytes, 3 of padding: number at 0, panel at 4);
+layout!(CountAnswer, 16 bytes, 7 of padding: number at 0, count at 8);
 layout!(RunAnswer, 6056 bytes, 7 of padding: number at 0, events at 8, written at 16, table at 24);

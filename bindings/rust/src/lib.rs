@@ -105,6 +105,40 @@
 //! # }
 //! ```
 //!
+//! Where something waits, [`count_before`] says how many controllers put one pending message before another. A message is
+//! applied ahead of another only if at least `n / 2 + 1` do:
+//!
+//! ```
+//! use furnacejade::{count_before, event, fresh, MessageNumber, Name, Record, Refusal, SCRATCH};
+//!
+//! # fn main() -> Result<(), Refusal> {
+//! let mut table = fresh(1, 3)?;
+//! let mut scratch = [0; SCRATCH];
+//! let mut play = |record: Record| event(&mut table, &record.bytes(), &mut scratch).map(|(answer, _)| answer);
+//! let handover = |receiver, owner| Record::Handover { receiver, owner };
+//! let name = |sender, number| Name { sender, number: MessageNumber(number) };
+//!
+//! // Controller 2 hears of 1's report and then of 3's, and 3 hears from 2 of both.
+//! play(Record::Report { sender: 1, amount: 30 })?;
+//! play(Record::Report { sender: 3, amount: -2 })?;
+//! for (receiver, owner) in [(2, 1), (2, 3), (3, 2)] {
+//!     play(handover(receiver, owner))?;
+//! }
+//! assert!(play(handover(3, 2))?.applied().is_empty());
+//!
+//! // Only 3 itself puts 3.1 before 1.1, and only 2 puts 1.1 first: 2 are needed.
+//! assert_eq!(count_before(&table, 3, name(3, 1), name(1, 1)), Ok(1));
+//! assert_eq!(count_before(&table, 3, name(1, 1), name(3, 1)), Ok(1));
+//! // 3.1 has two marks, all of them before a message that is not pending, and none before itself.
+//! assert_eq!(count_before(&table, 3, name(3, 1), name(7, 64)), Ok(2));
+//! assert_eq!(count_before(&table, 3, name(3, 1), name(3, 1)), Ok(0));
+//! // A name may hold anything, and a controller may not.
+//! assert_eq!(count_before(&table, 3, name(0, 255), name(3, 1)), Ok(0));
+//! assert_eq!(count_before(&table, 4, name(3, 1), name(1, 1)), Err(Refusal::CONTROLLER));
+//! # Ok(())
+//! # }
+//! ```
+//!
 //! In tables and files of version 2 each report names a weight class, and a panel shows the sums of each. A whole file
 //! goes through [`run`]:
 //!
@@ -133,8 +167,9 @@ mod record;
 mod refusal;
 
 pub use layout::{
-    Answer, Class, Controller, ForwardNumber, FreshAnswer, LookAnswer, Message, MessageNumber, Name, Panel, Payload,
-    Pending, Register, RunAnswer, Stamp, Sums, Table, CLASSES, CONTROLLERS, MESSAGES, REGISTERS, SCRATCH,
+    Answer, Class, Controller, CountAnswer, ForwardNumber, FreshAnswer, LookAnswer, Message, MessageNumber, Name,
+    Panel, Payload, Pending, Register, RunAnswer, Stamp, Sums, Table, CLASSES, CONTROLLERS, MESSAGES, REGISTERS,
+    SCRATCH,
 };
 pub use record::{file_of, Record};
 pub use refusal::Refusal;
@@ -163,6 +198,17 @@ pub fn look(table: &Table, controller: usize) -> Result<Panel, Refusal> {
     calls::look(table, controller, &mut answer);
     answer.number.check()?;
     Ok(answer.panel)
+}
+
+/// How many of the controllers 1 to n put the first message before the second at a controller, 1 to n, running or
+/// stopped: of the marks that it keeps, so many are smaller for the first. An absent mark is greater than every number, and
+/// not less than another absent one. A message that is not pending there, or is not of the run, has every mark absent.
+/// The first goes before the second if the count is at least the majority, `n / 2 + 1`. A name may hold anything.
+pub fn count_before(table: &Table, controller: usize, first: Name, second: Name) -> Result<usize, Refusal> {
+    let mut answer = CountAnswer::BLANK;
+    calls::count_before(table, controller, &first, &second, &mut answer);
+    answer.number.check()?;
+    Ok(answer.count)
 }
 
 /// Carries out a whole file, up to its end or the first record that is refused, and writes a line into the listing for

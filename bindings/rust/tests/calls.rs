@@ -1,10 +1,10 @@
 //! The calls as a user makes them: the worked run, a run with classes, one with reports under way, one with a set point,
-//! one with a stale read, what a refusal leaves, and the numbers' texts.
+//! one with a stale read, the count of "goes before", what a refusal leaves, and the numbers' texts.
 
-use furnacejade::{calls, event, file_of, fresh, look, run};
+use furnacejade::{calls, count_before, event, file_of, fresh, look, run};
 use furnacejade::{
-    Answer, Class, FreshAnswer, LookAnswer, MessageNumber, Name, Panel, Payload, Record, Refusal, Register, RunAnswer,
-    Stamp, Sums, Table, REGISTERS, SCRATCH,
+    Answer, Class, CountAnswer, FreshAnswer, LookAnswer, MessageNumber, Name, Panel, Payload, Record, Refusal,
+    Register, RunAnswer, Stamp, Sums, Table, REGISTERS, SCRATCH,
 };
 use std::mem::size_of;
 
@@ -248,6 +248,94 @@ fn the_version_says_what_a_report_is() {
 }
 
 #[test]
+fn as_many_as_put_a_message_first_are_counted() {
+    let (mut table, mut scratch) = (fresh(1, 3).unwrap(), [0; SCRATCH]);
+    let (one, three) = (name(1, 1), name(3, 1));
+    // What controller 3 keeps after each event of the worked run: 1.1 before 3.1, and 3.1 before 1.1.
+    let counts = [[0, 0], [0, 0], [0, 0], [0, 0], [0, 1], [0, 1], [0, 1], [0, 1], [1, 1], [1, 1], [0, 0]];
+    let mut rest = &WORKED[2..];
+    for found in counts {
+        rest = event(&mut table, rest, &mut scratch).unwrap().1;
+        let before = *table.as_bytes();
+        assert_eq!([count_before(&table, 3, one, three), count_before(&table, 3, three, one)], found.map(Ok));
+        assert_eq!(*table.as_bytes(), before);
+    }
+    assert!(rest.is_empty());
+}
+
+/// Controller 1 of two has sent 1.1 and 1.2; 2 has read 1.1 in log 1, and has sent 2.2.
+fn two_under_way() -> Table {
+    let handover = |owner| Record::Handover { receiver: 2, owner };
+    let report = Record::Report { sender: 1, amount: 5 };
+    let records = [report, report, handover(1), Record::Sync { sender: 2 }];
+    events_of(&file_of(1, 2, &records)).0
+}
+
+#[test]
+fn any_two_names_are_counted() {
+    let table = two_under_way();
+    let (first, second, sync) = (name(1, 1), name(1, 2), name(2, 2));
+    let odd = [(0, 0), (0, 1), (1, 0), (1, 3), (1, 64), (1, 65), (1, 255), (2, 1), (3, 1), (255, 1), (255, 255)];
+    for c in [1, 2] {
+        // Each of the three has one mark where it is pending: of its sender, which alone is known to have forwarded it.
+        for pending in if c == 1 { [first, second] } else { [first, sync] } {
+            assert_eq!(count_before(&table, c, pending, pending), Ok(0));
+            for (sender, number) in odd {
+                assert_eq!(count_before(&table, c, pending, name(sender, number)), Ok(1), "{sender}.{number}");
+                assert_eq!(count_before(&table, c, name(sender, number), pending), Ok(0), "{sender}.{number}");
+                assert_eq!(count_before(&table, c, name(sender, number), name(0, 0)), Ok(0), "{sender}.{number}");
+            }
+        }
+    }
+    assert_eq!((count_before(&table, 1, first, second), count_before(&table, 1, second, first)), (Ok(1), Ok(0)));
+    assert_eq!((count_before(&table, 2, first, sync), count_before(&table, 2, sync, first)), (Ok(1), Ok(1)));
+    // 2.2 is pending at 2 alone, and 1.2 at 1 alone.
+    assert_eq!((count_before(&table, 1, first, sync), count_before(&table, 1, sync, first)), (Ok(1), Ok(0)));
+    assert_eq!((count_before(&table, 2, second, first), count_before(&table, 2, first, second)), (Ok(0), Ok(1)));
+}
+
+#[test]
+fn a_stopped_controller_is_asked_for_what_it_keeps() {
+    let (mut table, mut scratch) = (two_under_way(), [0; SCRATCH]);
+    let stop = Record::Stop { controller: 1, kept: 1 };
+    event(&mut table, &stop.bytes(), &mut scratch).unwrap();
+    // 1.2 is cut off, and pending at its sender for good.
+    for (c, pairs) in [(1, [Ok(1), Ok(0)]), (2, [Ok(1), Ok(0)])] {
+        let found = [(1, 2), (2, 1)].map(|(one, other)| count_before(&table, c, name(1, one), name(1, other)));
+        assert_eq!(found, pairs);
+    }
+}
+
+#[test]
+fn a_count_asks_for_a_table_and_a_controller() {
+    let good = two_under_way();
+    let mut broken = good.clone();
+    broken.count = 65;
+    let before = *good.as_bytes();
+    for (table, c, number) in [
+        (&good, 0, Refusal::CONTROLLER),
+        (&good, 1, Refusal::ACCEPTED),
+        (&good, 2, Refusal::ACCEPTED),
+        (&good, 3, Refusal::CONTROLLER),
+        (&good, 257, Refusal::CONTROLLER),
+        (&good, usize::MAX, Refusal::CONTROLLER),
+        (&broken, 0, Refusal::TABLE),
+        (&broken, 1, Refusal::TABLE),
+        (&broken, 3, Refusal::TABLE),
+        (&Table::BLANK, 1, Refusal::TABLE),
+    ] {
+        for (second, count) in [(name(1, 64), 1), (name(0, 0), 1), (name(255, 255), 1), (name(1, 1), 0)] {
+            let mut answer = CountAnswer { number: Refusal::from(9), count: 9 };
+            calls::count_before(table, c, &name(1, 1), &second, &mut answer);
+            let accepted = number == Refusal::ACCEPTED;
+            assert_eq!(answer, CountAnswer { number, count: if accepted { count } else { 0 } }, "{c} {second}");
+            assert_eq!(count_before(table, c, name(1, 1), second), number.check().map(|()| count));
+        }
+    }
+    assert_eq!(*good.as_bytes(), before);
+}
+
+#[test]
 fn a_refused_call_changes_nothing() {
     let mut table = fresh(2, 2).unwrap();
     let mut scratch = [7; SCRATCH];
@@ -272,6 +360,7 @@ fn a_refused_call_changes_nothing() {
         assert_eq!(event(&mut table, &record.bytes(), &mut scratch[1..]), Err(Refusal::SCRATCH_LENGTH));
     }
     assert_eq!(look(&table, 0), Err(Refusal::CONTROLLER));
+    assert_eq!(count_before(&table, 3, name(1, 1), name(2, 1)), Err(Refusal::CONTROLLER));
     assert_eq!((table, scratch), (before, [7; SCRATCH]));
 }
 
@@ -284,6 +373,9 @@ fn a_refused_answer_is_blank_but_for_its_number() {
     let mut answer = LookAnswer { number: Refusal::ACCEPTED, panel: dirty };
     calls::look(&table, 1, &mut answer);
     assert_eq!(answer, LookAnswer { number: Refusal::TABLE, panel: Panel::BLANK });
+    let mut answer = CountAnswer { number: Refusal::ACCEPTED, count: 9 };
+    calls::count_before(&table, 1, &name(1, 1), &name(2, 1), &mut answer);
+    assert_eq!(answer, CountAnswer { number: Refusal::TABLE, ..CountAnswer::BLANK });
     for (file, number) in [(&[1][..], Refusal::FILE_LENGTH), (&[3, 3], Refusal::VERSION), (&[2, 8], Refusal::COUNT)] {
         assert_eq!(run(file, &mut [], &mut []), RunAnswer { number, ..RunAnswer::BLANK });
     }
@@ -300,6 +392,7 @@ fn any_bytes_are_a_table() {
     let mut table = Table::from_bytes(&[0xA5; size_of::<Table>()]);
     let before = *table.as_bytes();
     assert_eq!(look(&table, 1), Err(Refusal::TABLE));
+    assert_eq!(count_before(&table, 1, name(0xA5, 0xA5), name(1, 1)), Err(Refusal::TABLE));
     assert_eq!(event(&mut table, &[], &mut []), Err(Refusal::TABLE));
     assert_eq!(*table.as_bytes(), before);
 }
