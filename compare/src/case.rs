@@ -3,10 +3,11 @@
 //! The text is one line for the head and one for each call; below the head `table` stands a line for each field that is
 //! not as in a fresh table of version 1, and a head `fresh` names its version if that is not 1. Bytes are hexadecimal;
 //! `(00*512)` stands for 512 bytes 00, and `(020501*90)` for 90 times these three. Lent memory is given by its length;
-//! what it holds at first is the same dirt in every case.
+//! what it holds at first is the same dirt in every case. `before 3 3.1 1.1` asks how many put 3.1 before 1.1 at 3.
 
+use crate::counts::Asked;
 use crate::fields::{plain_table, set_field, table_text};
-use furnacejade::Table;
+use furnacejade::{MessageNumber, Name, Table};
 
 #[derive(Clone)]
 pub enum Head {
@@ -19,6 +20,17 @@ pub enum Head {
 pub enum Call {
     Event { bytes: Vec<u8>, scratch: usize },
     Look(usize),
+    CountBefore(Asked),
+}
+
+impl Call {
+    /// What is asked, if it is a count of "goes before".
+    fn asked(&self) -> Option<Asked> {
+        match self {
+            Call::CountBefore(asked) => Some(*asked),
+            _ => None,
+        }
+    }
 }
 
 #[derive(Clone)]
@@ -68,7 +80,24 @@ fn from_hexadecimal(text: &str) -> Vec<u8> {
     bytes
 }
 
+fn name_of(text: &str) -> Name {
+    let (sender, number) = text.split_once('.').expect("sender.number");
+    let byte = |text: &str| text.parse().expect("a number below 256");
+    Name { sender: byte(sender), number: MessageNumber(byte(number)) }
+}
+
+/// What is asked by calls that are counts of "goes before".
+pub fn asked_in(calls: &[Call]) -> Vec<Asked> {
+    calls.iter().filter_map(Call::asked).collect()
+}
+
 impl Case {
+    /// The calls, each alone but for counts of "goes before" in a row. There may be very many of these on one table, which
+    /// the reference then reads once.
+    pub fn counts_together(&self) -> impl Iterator<Item = &[Call]> {
+        self.calls.chunk_by(|one, next| one.asked().is_some() && next.asked().is_some())
+    }
+
     pub fn text(&self) -> String {
         let mut text = match &self.head {
             Head::Fresh { version: 1, n } => format!("fresh {n}\n"),
@@ -82,6 +111,9 @@ impl Case {
             text += &match call {
                 Call::Event { bytes, scratch } => format!("event {} scratch {scratch}\n", hexadecimal(bytes)),
                 Call::Look(c) => format!("look {c}\n"),
+                Call::CountBefore(Asked { controller, first, second }) => {
+                    format!("before {controller} {first} {second}\n")
+                }
             };
         }
         text
@@ -106,6 +138,10 @@ impl Case {
         match (words[0], &mut self.head) {
             ("event", _) => self.calls.push(Call::Event { bytes: from_hexadecimal(words[1]), scratch: number(3) }),
             ("look", _) => self.calls.push(Call::Look(number(1))),
+            ("before", _) => {
+                let (first, second) = (name_of(words[2]), name_of(words[3]));
+                self.calls.push(Call::CountBefore(Asked { controller: number(1), first, second }));
+            }
             (_, Head::Table(t)) => set_field(t, line),
             (other, _) => panic!("no head or call: {other}"),
         }

@@ -1,6 +1,7 @@
 //! Runs one case through two engines, and finds the first difference; checks demand 3 over one engine's answers.
 
-use crate::case::{Call, Case, Head};
+use crate::case::{asked_in, Call, Case, Head};
+use crate::counts::{self, Asked};
 use crate::demand3::{self, Figures, Ledger};
 use crate::engine::{Engine, DIRTY_SUMS};
 use crate::records::local_read;
@@ -139,6 +140,19 @@ fn look(a: &Side, b: &Side, c: usize) -> Result<(), String> {
     differ_plain("look: table", before == b.table)
 }
 
+/// Counts of "goes before" on one table.
+fn counts(a: &mut Side, b: &mut Side, asked: &[Asked]) -> Result<(), String> {
+    let before = b.table.clone();
+    let (right, found) = (a.engine.counts_before(&mut a.table, asked), b.engine.counts_before(&mut b.table, asked));
+    differ_plain("count: table", before.as_bytes() == b.table.as_bytes())?;
+    counts::laws(&before, asked, &found)?;
+    for (right, found) in right.iter().zip(&found) {
+        differ("count: number", right.number, found.number)?;
+        differ("count: count", right.count, found.count)?;
+    }
+    Ok(())
+}
+
 /// A file run through both engines; the last tables.
 fn file(a: &dyn Engine, b: &dyn Engine, bytes: &[u8], lent: [usize; 2]) -> Result<(Table, Table), String> {
     let [listing, scratch] = lent;
@@ -167,10 +181,11 @@ pub fn difference(case: &Case, a: &dyn Engine, b: &dyn Engine) -> Result<(), Str
         Head::File { bytes, listing, scratch } => file(a, b, bytes, [*listing, *scratch])?,
     };
     let (mut a, mut b) = (Side { engine: a, table: right }, Side { engine: b, table: found });
-    for call in &case.calls {
-        match call {
+    for calls in case.counts_together() {
+        match &calls[0] {
             Call::Event { bytes, scratch } => event(&mut a, &mut b, bytes, *scratch)?,
             Call::Look(c) => look(&a, &b, *c)?,
+            Call::CountBefore(_) => counts(&mut a, &mut b, &asked_in(calls))?,
         }
     }
     Ok(())
@@ -227,6 +242,11 @@ pub fn ledger_of(case: &Case, engine: &dyn Engine) -> Option<Ledger> {
                 ledger.event(bytes, answer.number.number(), &set(&answer), Some(figures));
             }
             Some(Call::Look(c)) => look(&mut ledger, &side.table, *c),
+            Some(Call::CountBefore(asked)) => {
+                let answer = &engine.counts_before(&mut side.table, &[*asked])[0];
+                let names = [asked.first, asked.second].map(|x| (x.sender as usize, x.number.0 as usize));
+                ledger.count(asked.controller, names, answer.number.number(), answer.count);
+            }
             None => {}
         }
     }

@@ -1,5 +1,6 @@
 //! Demand 3, checked over one list of calls. It reads arguments and answers only, as docs/RULES.md says of the list,
-//! and shares nothing with the reference.
+//! and shares nothing with the reference. Of counts of "goes before" demand 3 says nothing: they move nothing, and are
+//! worked out anew from the logs of the list.
 
 use crate::never_stale::{NeverStale, Own, Shown};
 use std::collections::{BTreeMap, BTreeSet};
@@ -358,6 +359,32 @@ impl Ledger {
         self.expect(registers == right, || format!("{c} shows the registers {registers:?}, not {right:?}"));
         let all = classes.iter().fold((0, 0), |all, x| (all.0 + x.0, all.1 + x.1));
         self.expect(all == sums, || format!("the classes at {c} do not add up to its sums"));
+    }
+
+    /// The mark of f that c keeps for a message, worked out from the list: the message's place in f's log, if c has read it
+    /// there, or has sent it itself and is f; none once c has applied it.
+    fn mark(&self, c: usize, f: usize, name: Name) -> Option<usize> {
+        let read = &self.logs[f - 1][..self.places[c - 1][f - 1].min(self.logs[f - 1].len())];
+        let place = match self.sent.contains_key(&name) && name.0 == c && c == f {
+            true => Some(name.1),
+            false => read.iter().position(|entry| *entry == name).map(|before| before + 1),
+        };
+        place.filter(|_| !self.applied[c - 1].contains(&name))
+    }
+
+    /// A count of "goes before" with its answer. It moves nothing. Every table of a list is well formed, so that only a
+    /// controller that is none is refused.
+    pub fn count(&mut self, c: usize, [first, second]: [Name; 2], number: u8, count: usize) {
+        if c < 1 || c > self.n {
+            return self.expect((number, count) == (8, 0), || format!("a count at {c} answers {number} and {count}"));
+        }
+        self.expect(number == 0, || format!("a count at {c} is refused"));
+        let puts_first = |f: &usize| match (self.mark(c, *f, first), self.mark(c, *f, second)) {
+            (Some(one), Some(other)) => one < other,
+            (one, other) => one.is_some() && other.is_none(),
+        };
+        let right = (1..=self.n).filter(puts_first).count();
+        self.expect(count == right, || format!("at {c}, {count} put {first:?} before {second:?}, not {right}"));
     }
 
     /// The head of a list by a file run: its accepted records as calls, with the sets of its listing.

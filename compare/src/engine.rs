@@ -1,9 +1,12 @@
 //! What is compared: the calls as a trait, and behind it the library through its Rust package, the reference, and the
 //! reference with a fault.
 
+use crate::counts::Asked;
 use crate::stack::on_painted;
 use crate::{faults, tables};
-use furnacejade::{calls, Answer, FreshAnswer, LookAnswer, Panel, Refusal, Register, RunAnswer, Stamp, Sums, Table};
+use furnacejade::{
+    calls, Answer, CountAnswer, FreshAnswer, LookAnswer, Panel, Refusal, Register, RunAnswer, Stamp, Sums, Table,
+};
 use furnacejade::{CLASSES, REGISTERS};
 use std::mem::size_of;
 
@@ -11,6 +14,8 @@ pub trait Engine {
     /// Answers how many bytes are left.
     fn event(&self, t: &mut Table, bytes: &[u8], scratch: &mut [u8], answer: &mut Answer) -> usize;
     fn look(&self, t: &Table, c: usize) -> LookAnswer;
+    /// Each is a call of its own. A table that is written to is seen, since it may be.
+    fn counts_before(&self, t: &mut Table, asked: &[Asked]) -> Vec<CountAnswer>;
     fn fresh(&self, version: usize, n: usize) -> FreshAnswer;
     fn run(&self, bytes: &[u8], listing: &mut [u8], scratch: &mut [u8]) -> RunAnswer;
 }
@@ -23,6 +28,9 @@ impl Engine for Reference {
     }
     fn look(&self, t: &Table, c: usize) -> LookAnswer {
         tables::look(t, c)
+    }
+    fn counts_before(&self, t: &mut Table, asked: &[Asked]) -> Vec<CountAnswer> {
+        tables::counts_before(t, asked)
     }
     fn fresh(&self, version: usize, n: usize) -> FreshAnswer {
         tables::fresh(version, n)
@@ -44,6 +52,10 @@ impl Engine for Faulty {
         faults::wake(self.0);
         faults::copy::tables::look(t, c)
     }
+    fn counts_before(&self, t: &mut Table, asked: &[Asked]) -> Vec<CountAnswer> {
+        faults::wake(self.0);
+        faults::copy::tables::counts_before(t, asked)
+    }
     fn fresh(&self, version: usize, n: usize) -> FreshAnswer {
         faults::wake(self.0);
         faults::copy::tables::fresh(version, n)
@@ -59,6 +71,9 @@ pub const DIRTY_SUMS: Sums = Sums { added: 0xA5A5_A5A5, withdrawn: 0xA5A5_A5A5 }
 
 /// A register that no panel shows.
 const DIRTY_REGISTER: Register = Register { value: 0xA5A5_A5A5, stamp: Stamp { date: 0xA5A5, writer: 0xA5A5 } };
+
+/// A count that no table gives.
+const DIRTY_COUNT: usize = 0xA5A5_A5A5_A5A5_A5A5;
 
 /// A table in which every byte is dirt.
 fn dirty_table() -> Table {
@@ -85,6 +100,18 @@ impl Library {
         assert!(first == again, "two equal events answer differently");
         assert!(t.as_bytes() == table.as_bytes() && scratch == area, "two equal events leave other bytes");
         left
+    }
+
+    fn count_before(&self, t: &Table, Asked { controller, first, second }: Asked) -> CountAnswer {
+        let mut answer = CountAnswer { number: Refusal::from(0xA5), count: DIRTY_COUNT };
+        calls::count_before(t, controller, &first, &second, &mut answer);
+        if self.twice {
+            let mut again = Err(Refusal::ACCEPTED);
+            on_painted(PAINTS[1], || again = furnacejade::count_before(t, controller, first, second));
+            let once = answer.number.check().map(|()| answer.count);
+            assert!(once == again, "two equal counts answer differently");
+        }
+        answer
     }
 
     fn run_again(&self, bytes: &[u8], listing: &mut [u8], scratch: &mut [u8], answer: &mut RunAnswer) {
@@ -117,6 +144,9 @@ impl Engine for Library {
             assert!(first == again, "two equal looks answer differently");
         }
         answer
+    }
+    fn counts_before(&self, t: &mut Table, asked: &[Asked]) -> Vec<CountAnswer> {
+        asked.iter().map(|asked| self.count_before(t, *asked)).collect()
     }
     fn fresh(&self, version: usize, n: usize) -> FreshAnswer {
         let mut answer = FreshAnswer { number: Refusal::from(0xA5), table: dirty_table() };

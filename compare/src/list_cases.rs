@@ -1,6 +1,7 @@
 //! Random lists of calls from a fresh table, some drained at the end so that demand 3's ending speaks.
 
 use crate::case::{Call, Case, Head};
+use crate::counts::{name, Asked};
 use crate::odd::{any_calls, any_number, any_version, as_calls, boundary_write};
 use crate::random::Random;
 use crate::records::{handover, local_read, report_in, stop, sync, write};
@@ -90,6 +91,20 @@ impl Making {
         }
     }
 
+    /// Counts of both ways round, at each controller, of two messages that were sent one behind the other.
+    fn counts(&mut self, random: &mut Random) {
+        let sent: Vec<_> = self.state.messages.iter().map(|x| name(x.name.sender, x.name.number)).collect();
+        if sent.is_empty() {
+            return;
+        }
+        for controller in 1..=self.state.n {
+            let at = random.below(sent.len());
+            let (first, second) = (sent[at], sent[(at + 1) % sent.len()]);
+            self.calls.push(Call::CountBefore(Asked { controller, first, second }));
+            self.calls.push(Call::CountBefore(Asked { controller, first: second, second: first }));
+        }
+    }
+
     fn looks(&mut self) {
         self.calls.extend((1..=self.state.n).map(Call::Look));
     }
@@ -145,6 +160,7 @@ pub fn under_way(random: &mut Random) -> Case {
     let mut policy = Policy::random(random);
     (policy.send, policy.stop) = (random.pick(&[20, usize::MAX]), random.pick(&[40, usize::MAX, usize::MAX]));
     making.some(random, &policy, 40);
+    making.counts(random);
     making.reads();
     if most <= 12 {
         making.hand_over_all(random);
@@ -172,6 +188,7 @@ pub fn cut_off(random: &mut Random) -> Case {
     }
     let (low, high) = (highest_read(&making.state, sender), making.state.controllers[sender - 1].log.len());
     making.event(stop(sender, random.between(low, high)));
+    making.counts(random);
     making.reads();
     making.hand_over_all(random);
     making.reads();
@@ -264,6 +281,7 @@ pub fn readings(random: &mut Random) -> Case {
         }
         let reader = 1 + (sender + random.below(n.max(2) - 1)) % n;
         making.event(sync(reader));
+        making.counts(random);
         making.finish(random, reader);
         making.reads();
     }

@@ -18,6 +18,7 @@ mod broken_tables;
 mod case;
 mod check;
 mod compare;
+mod counts;
 mod demand3;
 mod edges;
 mod engine;

@@ -1,8 +1,9 @@
 //! Makes a failing case small: fewer controllers, calls, records, bytes, and fields that are not as in a fresh table.
 
 use crate::case::{Call, Case, Head};
+use crate::counts::Asked;
 use crate::fields::plain_table;
-use furnacejade::Table;
+use furnacejade::{Name, Table};
 
 /// A case that fails, and what it means to fail.
 struct Search<'a> {
@@ -126,6 +127,10 @@ fn without_controller(call: &Call, gone: u8) -> Option<Call> {
     let moved = |c: usize| (c != gone as usize).then_some(if c > gone as usize { c - 1 } else { c });
     match call {
         Call::Look(c) => moved(*c).map(Call::Look),
+        Call::CountBefore(Asked { controller, first, second }) => {
+            let of = |name: &Name| Some(Name { sender: moved(name.sender as usize)? as u8, ..*name });
+            Some(Call::CountBefore(Asked { controller: moved(*controller)?, first: of(first)?, second: of(second)? }))
+        }
         Call::Event { bytes, scratch } => {
             let mut bytes = bytes.clone();
             let named = if bytes.get(1) == Some(&3) { 2..4 } else { 2..3 };

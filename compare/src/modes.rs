@@ -1,8 +1,9 @@
 //! The modes of the program but for the benchmark; `main.rs` lists them.
 
-use crate::case::{hexadecimal, Call, Case, Head};
+use crate::case::{asked_in, hexadecimal, Call, Case, Head};
 use crate::check::{demand3_failure, failure, kept_cases, report_and_exit, smallest};
 use crate::compare::ledger_of;
+use crate::counts::{pending, Asked};
 use crate::engine::{Engine, Faulty, Library, Reference};
 use crate::never_stale::Tally;
 use crate::reference::{self, State, LISTING, SCRATCH};
@@ -165,7 +166,9 @@ const NUMBERS: usize = Refusal::ALL.len();
 struct Counts {
     events: [usize; NUMBERS],
     looks: [usize; NUMBERS],
+    asked: [usize; NUMBERS],
     files: [usize; NUMBERS],
+    before: Before,
     sizes: [usize; 65],
     most_pending: usize,
     kept_pending: usize,
@@ -185,6 +188,16 @@ struct SetPoints {
     looks: usize,
     several: usize,
     again: usize,
+}
+
+/// How many counts of "goes before" were of two messages that are pending there, by their count, and how many of those
+/// at a stopped controller; how many were of one that is pending and one that is not, and of none.
+#[derive(Default)]
+struct Before {
+    both: [usize; 8],
+    stopped: usize,
+    one: usize,
+    none: usize,
 }
 
 /// How often both sums were above 0.
@@ -256,6 +269,23 @@ impl Counts {
         self.set.rivals += before.iter().any(rivals) as usize;
     }
 
+    fn counts(&mut self, table: &mut Table, asked: &[Asked]) {
+        let state = tables::well_formed(table).then(|| tables::to_state(table));
+        for (asked, answer) in asked.iter().zip(tables::counts_before(table, asked)) {
+            self.asked[answer.number.number() as usize] += 1;
+            let (Some(state), Refusal::ACCEPTED) = (&state, answer.number) else { continue };
+            let is_pending = |name| pending(state, asked.controller, name).is_some();
+            match (is_pending(&asked.first), is_pending(&asked.second)) {
+                (true, true) => {
+                    self.before.both[answer.count] += 1;
+                    self.before.stopped += !state.controllers[asked.controller - 1].running as usize;
+                }
+                (false, false) => self.before.none += 1,
+                _ => self.before.one += 1,
+            }
+        }
+    }
+
     fn look(&mut self, table: &Table, c: usize) {
         let answer = tables::look(table, c);
         self.looks[answer.number.number() as usize] += 1;
@@ -275,7 +305,9 @@ pub fn count(cases: usize, seed: u64) {
     let mut counts = Counts {
         events: zero,
         looks: zero,
+        asked: zero,
         files: zero,
+        before: Before::default(),
         sizes: [0; 65],
         most_pending: 0,
         kept_pending: 0,
@@ -288,15 +320,29 @@ pub fn count(cases: usize, seed: u64) {
     for (_, case) in (0..cases).map(|index| generate::case(seed, index)) {
         counts.readings(&case);
         let mut table = counts.head(&case.head);
-        for call in &case.calls {
-            match call {
+        for calls in case.counts_together() {
+            match &calls[0] {
                 Call::Look(c) => counts.look(&table, *c),
                 Call::Event { bytes, scratch } => counts.event(&mut table, bytes, *scratch),
+                Call::CountBefore(_) => counts.counts(&mut table, &asked_in(calls)),
             }
         }
     }
-    let Counts { events, looks, files, sizes, most_pending, kept_pending, most_own, local_reads, both, set, readings } =
-        counts;
+    let Counts {
+        events,
+        looks,
+        asked,
+        files,
+        before,
+        sizes,
+        most_pending,
+        kept_pending,
+        most_own,
+        local_reads,
+        both,
+        set,
+        readings,
+    } = counts;
     println!("events by number {events:?}\nlooks by number {looks:?}\nfiles by number {files:?}");
     println!("sets by size {sizes:?}");
     println!("most pending at a set {most_pending}; sets that left others pending {kept_pending}");
@@ -305,6 +351,9 @@ pub fn count(cases: usize, seed: u64) {
     println!(
         "both sums above 0: finished syncs {syncs}, local reads {local_reads}, looks {looks}, weight classes {classes}"
     );
+    let Before { both, stopped, one, none } = before;
+    println!("counts of goes before by number {asked:?}; of two pending messages by count {both:?}");
+    println!("of these at a stopped controller {stopped}; counts of one pending message {one}, of none {none}");
     let SetPoints { writes, rivals, looks, several, again } = set;
     println!("writes accepted {writes}, of them with the date of a rival {rivals}");
     println!("looks that show a register {looks}, several {several}, one that was written again {again}");

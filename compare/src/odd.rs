@@ -1,10 +1,12 @@
 //! Odd values and calls: numbers and records at the boundaries of their questions, mangled bytes, scratch of any size.
 
 use crate::case::Call;
+use crate::counts::{name, Asked};
 use crate::random::Random;
 use crate::records::{classed_report, handover, local_read, report, stop, sync, write};
 use crate::reference::{State, SCRATCH};
 use crate::runs::{any_value, follow, highest_read, legal_event, with_none_pending, Policy};
+use furnacejade::Name;
 
 pub fn any_scratch(random: &mut Random) -> usize {
     match random.below(12) {
@@ -110,6 +112,28 @@ pub fn any_event(random: &mut Random, state: &State, policy: &Policy, odd: usize
     bytes
 }
 
+/// A message that is pending at a controller, if one is; or any message; or a name at the edges of what names may be.
+fn any_name(random: &mut Random, state: &State, c: usize) -> Name {
+    let own = state.controllers.get(c.wrapping_sub(1));
+    let mut known: Vec<_> = own.map_or(vec![], |own| own.pending.keys().copied().collect());
+    if known.is_empty() || random.one_in(3) {
+        known = state.messages.iter().map(|x| x.name).collect();
+    }
+    if known.is_empty() || random.one_in(6) {
+        let sender = random.pick(&[0, 1, state.n, state.n + 1, 255]);
+        return name(sender, random.pick(&[0, 1, 2, 64, 65, 255]));
+    }
+    let known = random.pick(&known);
+    name(known.sender, known.number)
+}
+
+/// A count of "goes before" at any number, mostly of two messages that are pending there.
+pub fn any_asked(random: &mut Random, state: &State) -> Asked {
+    let controller = any_number(random, state.n);
+    let first = any_name(random, state, controller);
+    Asked { controller, first, second: any_name(random, state, controller) }
+}
+
 /// Calls of any kind on a state.
 pub fn any_calls(random: &mut Random, state: &mut State, count: usize, odd: usize) -> Vec<Call> {
     let policy = Policy::random(random);
@@ -117,6 +141,10 @@ pub fn any_calls(random: &mut Random, state: &mut State, count: usize, odd: usiz
     for _ in 0..count {
         if random.one_in(8) {
             calls.push(Call::Look(any_number(random, state.n)));
+            continue;
+        }
+        if random.one_in(8) {
+            calls.push(Call::CountBefore(any_asked(random, state)));
             continue;
         }
         let bytes = any_event(random, state, &policy, odd);

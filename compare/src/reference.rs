@@ -218,20 +218,29 @@ fn majority(n: usize) -> usize {
     n / 2 + 1
 }
 
-/// Do at least as many of the controllers 1 to n as a majority has say yes?
-fn majority_says(n: usize, yes: impl Fn(usize) -> bool) -> bool {
-    let count = (0..n).filter(|f| yes(*f)).count();
-    count >= majority(n)
+/// How many of the controllers 1 to n say yes?
+fn how_many(n: usize, yes: impl Fn(usize) -> bool) -> usize {
+    (0..n).filter(|f| yes(*f)).count()
 }
 
-/// "Goes before" (line 16): a majority has a smaller forward number for x than for y.
-fn goes_before(n: usize, x: &Marks, y: &Marks) -> bool {
-    majority_says(n, |f| x[f].unwrap_or(ABSENT) < y[f].unwrap_or(ABSENT))
+/// Do at least as many of the controllers 1 to n as a majority has say yes?
+fn majority_says(n: usize, yes: impl Fn(usize) -> bool) -> bool {
+    how_many(n, yes) >= majority(n)
+}
+
+/// "Goes before": how many controllers have a smaller forward number for x than for y.
+fn goes_before(n: usize, x: &Marks, y: &Marks) -> usize {
+    how_many(n, |f| x[f].unwrap_or(ABSENT) < y[f].unwrap_or(ABSENT))
+}
+
+/// The relation of line 16: a majority puts x before y.
+pub fn precedes(n: usize, x: &Marks, y: &Marks) -> bool {
+    goes_before(n, x, y) >= majority(n)
 }
 
 /// Line 16: is there a pending message outside the set that x does not go before?
 fn must_leave(n: usize, pending: &BTreeMap<Name, Marks>, set: &BTreeSet<Name>, x: &Name) -> bool {
-    pending.keys().any(|y| !set.contains(y) && !goes_before(n, &pending[x], &pending[y]))
+    pending.keys().any(|y| !set.contains(y) && !precedes(n, &pending[x], &pending[y]))
 }
 
 /// Lines 15 and 16: the largest set of pending messages in which each has a majority of marks and
@@ -316,6 +325,19 @@ impl State {
         first_no(&[(8, (1..=self.n).contains(&c))])?;
         let classes = std::array::from_fn(|class| self.class_sums(c, class));
         Ok(Shown { sums: self.sums(c), classes, registers: self.controllers[c - 1].registers })
+    }
+
+    /// The marks that controller c keeps for a message. One that is not pending there has every mark absent.
+    fn marks(&self, c: usize, name: &Name) -> Marks {
+        self.controllers[c - 1].pending.get(name).copied().unwrap_or_default()
+    }
+
+    /// The count of "goes before" at controller c: question 8, put to c and to no sender; then how many controllers have a
+    /// smaller mark there for the first message than for the second.
+    pub fn count_before(&self, c: usize, first: &Name, second: &Name) -> Result<usize, u8> {
+        first_no(&[(8, (1..=self.n).contains(&c))])?;
+        let (x, y) = (self.marks(c, first), self.marks(c, second));
+        Ok(goes_before(self.n, &x, &y))
     }
 
     /// Has controller c a message of its own pending?

@@ -6,19 +6,20 @@ use std::collections::{BTreeMap, BTreeSet};
 
 pub const MOST: usize = 10;
 
+/// Line 16 once more: x has the smaller mark at more than half of the controllers.
+pub fn before(n: usize, x: &Marks, y: &Marks) -> bool {
+    let pairs = x[..n].iter().zip(&y[..n]);
+    2 * pairs.filter(|(a, b)| a.is_some() && (b.is_none() || a < b)).count() > n
+}
+
 pub fn largest(n: usize, pending: &BTreeMap<Name, Marks>) -> BTreeSet<Name> {
     let all: Vec<(&Name, &Marks)> = pending.iter().collect();
-    let more_than_half = |count: usize| 2 * count > n;
-    let marked = |x: &Marks| more_than_half(x[..n].iter().flatten().count());
-    let before = |x: &Marks, y: &Marks| {
-        let pairs = x[..n].iter().zip(&y[..n]);
-        more_than_half(pairs.filter(|(a, b)| a.is_some() && (b.is_none() || a < b)).count())
-    };
+    let marked = |x: &Marks| 2 * x[..n].iter().flatten().count() > n;
     let allowed = |subset: u32| {
         let inside = |i: usize| subset >> i & 1 == 1;
         (0..all.len())
             .filter(|i| inside(*i))
-            .all(|i| marked(all[i].1) && (0..all.len()).filter(|j| !inside(*j)).all(|j| before(all[i].1, all[j].1)))
+            .all(|i| marked(all[i].1) && (0..all.len()).filter(|j| !inside(*j)).all(|j| before(n, all[i].1, all[j].1)))
     };
     let best = (0..1u32 << all.len()).filter(|s| allowed(*s)).max_by_key(|s| s.count_ones()).unwrap_or(0);
     (0..all.len()).filter(|i| best >> i & 1 == 1).map(|i| *all[i].0).collect()

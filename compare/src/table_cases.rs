@@ -2,12 +2,13 @@
 //! with a few bytes changed; and random bytes.
 
 use crate::case::{Call, Case, Head};
+use crate::counts::{every_pair, Asked};
 use crate::odd::{any_calls, any_event, any_number, any_scratch, any_version, writes_of_all};
 use crate::random::Random;
 use crate::reference::State;
 use crate::runs::{any_value, Policy};
 use crate::tables::{to_state, well_formed};
-use furnacejade::{Class, Controller, ForwardNumber, Message, MessageNumber, Payload, Table};
+use furnacejade::{Class, Controller, ForwardNumber, Message, MessageNumber, Name, Payload, Table};
 
 const ABSENT: ForwardNumber = ForwardNumber::ABSENT;
 
@@ -191,11 +192,23 @@ pub fn any_count(random: &mut Random) -> usize {
     }
 }
 
+/// Every pair of names at every controller, on one table in `among`; of the tables with more than twenty messages, for
+/// which that is up to 64,000 calls, on one in four of these.
+fn some_pairs(random: &mut Random, t: &Table, among: usize) -> Vec<Call> {
+    match random.one_in(among) && (t.count <= 20 || random.one_in(4)) {
+        true => every_pair(random, t),
+        false => vec![],
+    }
+}
+
 pub fn table_good(random: &mut Random) -> Case {
     let (n, count) = (random.between(1, 7), any_count(random));
     let t = good_table(random, n, count);
     let mut state = to_state(&t);
-    let mut calls = if random.one_in(3) { writes_of_all(random, &mut state) } else { vec![] };
+    let mut calls = some_pairs(random, &t, 8);
+    if random.one_in(3) {
+        calls.extend(writes_of_all(random, &mut state));
+    }
     calls.extend(any_calls(random, &mut state, 8, 6));
     Case { head: Head::Table(Box::new(t)), calls }
 }
@@ -204,7 +217,15 @@ pub fn table_good(random: &mut Random) -> Case {
 pub fn blind_calls(random: &mut Random, t: &Table) -> Vec<Call> {
     let state = if well_formed(t) { to_state(t) } else { State::fresh(t.version.clamp(1, 2), t.n.clamp(1, 7)) };
     let bytes = any_event(random, &state, &Policy::even(3), 3);
-    vec![Call::Event { bytes, scratch: any_scratch(random) }, Call::Look(any_number(random, state.n))]
+    let mut calls = some_pairs(random, t, 100);
+    calls.extend([Call::Event { bytes, scratch: any_scratch(random) }, Call::Look(any_number(random, state.n))]);
+    let mut any_slot = || {
+        let Message { sender, number, .. } = t.messages[random.below(t.messages.len())];
+        Name { sender, number }
+    };
+    let (first, second) = (any_slot(), any_slot());
+    calls.push(Call::CountBefore(Asked { controller: any_number(random, state.n), first, second }));
+    calls
 }
 
 pub fn table_flipped(random: &mut Random) -> Case {

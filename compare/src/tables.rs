@@ -2,7 +2,10 @@
 //! Like `reference.rs`, plain text that the faults edit a copy of.
 
 use super::reference::{self, Payload as Kind, Shown, State, MAX_CONTROLLERS, MAX_MESSAGES, REGISTERS};
-use furnacejade::{Answer, FreshAnswer, LookAnswer, Panel, Refusal, Register, RunAnswer, Stamp, Sums, Table};
+use crate::counts::Asked;
+use furnacejade::{
+    Answer, CountAnswer, FreshAnswer, LookAnswer, Panel, Refusal, Register, RunAnswer, Stamp, Sums, Table,
+};
 use furnacejade::{Class, Controller, ForwardNumber, Message, MessageNumber, Name, Payload, Pending};
 use std::collections::{BTreeMap, BTreeSet};
 
@@ -287,6 +290,25 @@ pub fn look(t: &Table, c: usize) -> LookAnswer {
         }
         Err(number) => LookAnswer { number: Refusal::from(number), panel: Panel::BLANK },
     }
+}
+
+/// The name that a call gives a message: any two bytes.
+fn called(name: Name) -> reference::Name {
+    reference::Name { sender: name.sender as usize, number: name.number.0 as usize }
+}
+
+/// Counts of "goes before" on one table, each a call of its own: question 4 first, whose answer they have in common.
+pub fn counts_before(t: &mut Table, asked: &[Asked]) -> Vec<CountAnswer> {
+    let state = well_formed(t).then(|| to_state(t));
+    let count = |x: &Asked| match &state {
+        Some(state) => state.count_before(x.controller, &called(x.first), &called(x.second)),
+        None => Err(4),
+    };
+    let answer = |x: &Asked| match count(x) {
+        Ok(count) => CountAnswer { number: Refusal::from(0), count },
+        Err(number) => CountAnswer { number: Refusal::from(number), count: 0 },
+    };
+    asked.iter().map(answer).collect()
 }
 
 pub fn fresh(version: usize, n: usize) -> FreshAnswer {
