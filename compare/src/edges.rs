@@ -1,5 +1,6 @@
 //! The runs that docs/RULES.md prints whole and its list of edges, with the answers it gives, put to any engine.
 
+use crate::before_edges;
 use crate::demand3::Ledger;
 use crate::engine::{Engine, Reference};
 use crate::records::{classed_report, file_of, handover, local_read, report, report_in, stop, sync};
@@ -10,7 +11,7 @@ use crate::tables::meaning;
 use crate::write_edges::{self, WITH_SET_POINT};
 use furnacejade::{Answer, Class, Controller, ForwardNumber, Panel, Payload, Sums, Table};
 
-const WHOLE_RUN: &str =
+pub const WHOLE_RUN: &str =
     "0103040101001E030301010303020103030102040103FFFE030302030303020203030202030303020303030203030301";
 const WHOLE_LISTING: &str = "4 1 30 0 1.1\n7 2 30 0 1.1\n8 2 30 2 3.1\n11 3 30 2 1.1 3.1\n";
 
@@ -603,6 +604,7 @@ pub fn check(engine: &dyn Engine) -> Result<(), String> {
     local_reads(engine)?;
     write_edges::check(engine)?;
     stale_edges::check(engine)?;
+    before_edges::check(engine)?;
     sixty_four_under_way(engine)?;
     many_local_reads(engine)?;
     lengths_kept(engine)?;

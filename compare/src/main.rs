@@ -13,6 +13,7 @@
 //!     print                 what the program prints for the file on standard input
 //!     bench                 times, and the stack that each call needs
 
+mod before_edges;
 mod bench;
 mod broken_tables;
 mod case;
