@@ -1,6 +1,7 @@
 //! Times of the calls: library and reference on the same inputs, the table of each call restored outside the clock.
 //! And how much stack each call of the library needs.
 
+use crate::counts::Asked;
 use crate::edges::{by_log, dense_run, in_a_circle, under_way_run};
 use crate::engine::{Engine, Library, Reference};
 use crate::file_cases::legal_file;
@@ -12,7 +13,8 @@ use crate::stack::needed;
 use crate::table_cases::chain_place;
 use crate::tables::{to_state, to_table};
 use furnacejade::{
-    calls, Answer, ForwardNumber, FreshAnswer, LookAnswer, Message, MessageNumber, Payload, RunAnswer, Table,
+    calls, Answer, CountAnswer, ForwardNumber, FreshAnswer, LookAnswer, Message, MessageNumber, Name, Payload,
+    RunAnswer, Table,
 };
 use std::hint::black_box;
 use std::time::{Duration, Instant};
@@ -38,6 +40,22 @@ fn event(engine: &dyn Engine, table: &Table, bytes: &[u8]) -> f64 {
         let mut t = table.clone();
         timed(|| engine.event(&mut t, bytes, &mut scratch, &mut answer))
     })
+}
+
+/// The last two messages of a table, or names of none.
+fn last_two(table: &Table) -> [Name; 2] {
+    let slot = |s: usize| Name { sender: table.messages[s].sender, number: table.messages[s].number };
+    match table.count.min(MAX_MESSAGES) {
+        0 | 1 => [Name::BLANK; 2],
+        count => [slot(count - 1), slot(count - 2)],
+    }
+}
+
+/// A count of "goes before" of these two at a controller.
+fn count(engine: &dyn Engine, table: &Table, controller: usize) -> f64 {
+    let ([first, second], mut t) = (last_two(table), table.clone());
+    let asked = [Asked { controller, first, second }];
+    mean(|| timed(|| engine.counts_before(&mut t, &asked)))
 }
 
 /// A table whose controllers have `held` messages pending, each with a majority of marks, and have applied one more.
@@ -126,6 +144,7 @@ fn rows_of(n: usize) {
     row(&format!("n = {n}: stop after 200 events"), |e| event(e, &after_run, &stop(1, length)));
     row(&format!("n = {n}: refused by question 8"), |e| event(e, &after_run, &stop(0, 0)));
     row(&format!("n = {n}: look after 200 events"), |e| mean(|| timed(|| e.look(&after_run, 1))));
+    row(&format!("n = {n}: count of goes before after 200 events"), |e| count(e, &after_run, 1));
     let mut read_out = to_state(&after_run);
     drain(&mut Random(4), &mut read_out);
     let read_out = to_table(&read_out);
@@ -184,6 +203,8 @@ fn rows_under_way() {
         let (table, record) = of_sixty_four(file, applied);
         row(&format!("n = 7: handover, 64 of {senders} pending, {what}"), |e| event(e, &table, &record));
     }
+    let (table, record) = of_sixty_four(&of_seven, MAX_MESSAGES);
+    row("n = 7: count of goes before, 64 pending", |e| count(e, &table, record[2] as usize));
     row("n = 7: 64 of one sender under way, 3,200 events, each", |e| runs(e, std::slice::from_ref(&of_one)));
     row("n = 7: 64 of seven under way, 3,200 events, each", |e| runs(e, std::slice::from_ref(&of_seven)));
     let files = random_files(1, Policy::under_way);
@@ -274,6 +295,7 @@ and a file run gets scratch and listing as the run before left them"
     let (dense, running) = dense_files(1);
     let full = last_table(&running);
     row("n = 7: look at a full table of 64 messages", |e| mean(|| timed(|| e.look(&full, 1))));
+    row("n = 7: count of goes before, full table of 64 messages", |e| count(e, &full, 1));
     row("n = 7: local read of a full table of 64 messages", |e| event(e, &full, &local_read(1)));
     let (syncing, last) = finishing_sync();
     row("n = 7: handover that finishes a sync, 64 messages", |e| event(e, &syncing, &last));
@@ -301,6 +323,14 @@ fn event_stack(table: &Table, bytes: &[u8]) -> usize {
 fn look_stack(table: &Table) -> usize {
     let mut answer = LookAnswer::BLANK;
     (0..=8).map(|c| needed(|| calls::look(table, c, &mut answer))).max().unwrap_or(0)
+}
+
+fn count_stack(table: &Table) -> usize {
+    let ([first, second], mut answer) = (last_two(table), CountAnswer::BLANK);
+    let pairs = [(first, second), (first, first), (first, Name::BLANK), (Name::BLANK, second)];
+    let asked = (0..=8).flat_map(|c| pairs.map(|(first, second)| (c, first, second)));
+    let stacks = asked.map(|(c, one, other)| needed(|| calls::count_before(table, c, &one, &other, &mut answer)));
+    stacks.max().unwrap_or(0)
 }
 
 fn run_stack(file: &[u8]) -> usize {
@@ -333,12 +363,14 @@ fn stacks() {
     records.extend([handover(1, 4), write(1, 1, 1500), write(1, 9, 1500), write(9, 1, 1500)]);
     let events = tables.iter().flat_map(|t| records.iter().map(|record| event_stack(t, record))).max();
     let looks = tables.iter().map(look_stack).max();
+    let counts = tables.iter().map(count_stack).max();
     let mut files = vec![dense, running, dense_2, running_2, run_table(3).1, vec![1], vec![3, 3], vec![1, 9]];
     let written = file_of(1, 7, &with_writes(MAX_MESSAGES).1);
     files.extend(under_way.into_iter().chain([file_of_reads(7), file_of_reads(1), written]));
     let runs = files.iter().map(|file| run_stack(file)).max();
     println!("\nbytes of stack that a call of the library needs, the most of what was tried");
-    for (name, most) in [("event", events), ("look", looks), ("fresh", Some(fresh_stack())), ("run", runs)] {
+    let fresh = Some(fresh_stack());
+    for (name, most) in [("event", events), ("look", looks), ("count", counts), ("fresh", fresh), ("run", runs)] {
         println!("{name:<56} {:>12}", most.unwrap_or(0));
     }
 }
