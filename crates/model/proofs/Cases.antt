@@ -292,14 +292,12 @@ table =
     -- The check ends at the first row that fails, and so rows that refuse an edit of a definition stand first.
     -- P: the sets of the worked run; event 10 applies nothing
     case 3 worked (handover 3 1) 4096 0 ([] ∷ [] ∷ [] ∷ (101 ∷ []) ∷ [] ∷ [] ∷ (101 ∷ []) ∷ (301 ∷ []) ∷ [] ∷ [] ∷ (101 ∷ 301 ∷ []) ∷ [])
-    -- P: how many put 1.1 before 3.1, and 3.1 before 1.1, at each of its events
-    ∷ row (counts 3 (worked ++ (handover 3 1 ∷ [])) 101 301) 0
-    ((0 ∷ 0 ∷ 0 ∷ 0 ∷ 0 ∷ 0 ∷ []) ∷ (1 ∷ 0 ∷ 0 ∷ 0 ∷ 0 ∷ 0 ∷ []) ∷ (1 ∷ 0 ∷ 0 ∷ 0 ∷ 0 ∷ 0 ∷ []) ∷ (1 ∷ 0 ∷ 1 ∷ 0 ∷ 0 ∷ 0 ∷ [])
-    ∷ (0 ∷ 0 ∷ 1 ∷ 0 ∷ 0 ∷ 0 ∷ []) ∷ (0 ∷ 0 ∷ 1 ∷ 0 ∷ 0 ∷ 1 ∷ []) ∷ (0 ∷ 0 ∷ 1 ∷ 1 ∷ 0 ∷ 1 ∷ []) ∷ (0 ∷ 0 ∷ 0 ∷ 1 ∷ 0 ∷ 1 ∷ [])
-    ∷ (0 ∷ 0 ∷ 0 ∷ 0 ∷ 0 ∷ 1 ∷ []) ∷ (0 ∷ 0 ∷ 0 ∷ 0 ∷ 1 ∷ 1 ∷ []) ∷ (0 ∷ 0 ∷ 0 ∷ 0 ∷ 1 ∷ 1 ∷ []) ∷ (0 ∷ 0 ∷ 0 ∷ 0 ∷ 0 ∷ 0 ∷ []) ∷ [])
     -- P: n = 4, two marks: not applied; three: applied
     ∷ quiet 4 (report 1 5 ∷ handover 1 1 ∷ handover 2 1 ∷ []) (handover 1 2) 4096 0 4
     ∷ case 4 (report 1 5 ∷ handover 1 1 ∷ handover 2 1 ∷ handover 1 2 ∷ handover 3 1 ∷ []) (handover 1 3) 4096 0 ([] ∷ [] ∷ [] ∷ [] ∷ [] ∷ (101 ∷ []) ∷ [])
+    -- P: how many put one message before another, at a controller that has stopped and has both pending
+    ∷ counted 1 101 102 1
+    ∷ counted 1 102 101 0
     -- a report: 8 before 9 before 10; 12 and 15 stand below
     ∷ quiet 1 [] (report 2 361) 0 8 0
     ∷ quiet 2 (stop 1 0 ∷ []) (report 1 361) 0 9 1
@@ -509,6 +507,11 @@ table =
     ∷ shows 1 1 (report 1 (minus 7) ∷ handover 1 1 ∷ stop 1 1 ∷ []) 1 ([] ∷ (101 ∷ []) ∷ [] ∷ []) (both 0 7) (both 0 7 ∷ noSums ∷ noSums ∷ noSums ∷ noSums ∷ [])
     ∷ shows 2 1 (classed 1 30 2 ∷ handover 1 1 ∷ classed 1 (minus 7) 4 ∷ handover 1 1 ∷ classed 1 (minus 5) 2 ∷ handover 1 1 ∷ []) 1 (each 3 101) (both 30 12)
     (noSums ∷ noSums ∷ both 30 5 ∷ noSums ∷ both 0 7 ∷ [])
+    -- P: how many put 1.1 before 3.1, and 3.1 before 1.1, at each of its events
+    ∷ row (counts 3 (worked ++ (handover 3 1 ∷ [])) 101 301) 0
+    ((0 ∷ 0 ∷ 0 ∷ 0 ∷ 0 ∷ 0 ∷ []) ∷ (1 ∷ 0 ∷ 0 ∷ 0 ∷ 0 ∷ 0 ∷ []) ∷ (1 ∷ 0 ∷ 0 ∷ 0 ∷ 0 ∷ 0 ∷ []) ∷ (1 ∷ 0 ∷ 1 ∷ 0 ∷ 0 ∷ 0 ∷ [])
+    ∷ (0 ∷ 0 ∷ 1 ∷ 0 ∷ 0 ∷ 0 ∷ []) ∷ (0 ∷ 0 ∷ 1 ∷ 0 ∷ 0 ∷ 1 ∷ []) ∷ (0 ∷ 0 ∷ 1 ∷ 1 ∷ 0 ∷ 1 ∷ []) ∷ (0 ∷ 0 ∷ 0 ∷ 1 ∷ 0 ∷ 1 ∷ [])
+    ∷ (0 ∷ 0 ∷ 0 ∷ 0 ∷ 0 ∷ 1 ∷ []) ∷ (0 ∷ 0 ∷ 0 ∷ 0 ∷ 1 ∷ 1 ∷ []) ∷ (0 ∷ 0 ∷ 0 ∷ 0 ∷ 1 ∷ 1 ∷ []) ∷ (0 ∷ 0 ∷ 0 ∷ 0 ∷ 0 ∷ 0 ∷ []) ∷ [])
     -- a count: 4 before 8
     ∷ row (events 1 0 [] (before 1 101 102)) 4 ((0 ∷ []) ∷ [])
     ∷ row (events 1 2 [] (before 0 101 102)) 8 ((0 ∷ []) ∷ [])
@@ -523,9 +526,6 @@ table =
     ∷ counted 2 1 101 0
     ∷ counted 2 101 25501 2
     ∷ counted 2 100 25501 0
-    -- P: at a controller that has stopped, of two that are pending there
-    ∷ counted 1 101 102 1
-    ∷ counted 1 102 101 0
     -- P: a pending message before one that was applied
     ∷ row (events 1 1 (report 1 5 ∷ handover 1 1 ∷ report 1 6 ∷ []) (before 1 102 101)) 0 (each 1 101 ++ ([] ∷ (1 ∷ []) ∷ []))
     ∷ row (events 1 1 (report 1 5 ∷ handover 1 1 ∷ report 1 6 ∷ []) (before 1 101 102)) 0 (each 1 101 ++ ([] ∷ (0 ∷ []) ∷ []))
