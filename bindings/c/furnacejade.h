@@ -439,7 +439,7 @@ void furnacejade_fresh(size_t version, size_t n, furnacejade_fresh_answer *answe
 size_t furnacejade_event(furnacejade_table *t, const uint8_t *bytes, size_t bytes_length, uint8_t *scratch, size_t scratch_length, furnacejade_answer *answer);
 
 /* A panel look at controller c, 1 to n, running or stopped. Questions 4 and 8 are put. Nothing but the answer is written.
- * Takes 21 KB of stack.
+ * Takes 16 KB of stack.
  *
  *     furnacejade_look_answer look;
  *     furnacejade_look(table, 2, &look);
@@ -456,7 +456,7 @@ void furnacejade_look(const furnacejade_table *t, size_t c, furnacejade_look_ans
  * not less than another absent one. If the count is at least the majority, n / 2 + 1, the first goes before the second. A
  * message that is not pending at c, or is not of the run, has every mark absent there: before it a pending message counts its
  * marks, and it counts 0 before any. A message counts 0 before itself. Questions 4 and 8 are put, 8 to c alone: a name may hold
- * anything. Nothing but the answer is written.
+ * anything. Nothing but the answer is written. Takes 21 KB of stack.
  *
  *     const furnacejade_name first = {3, {1}}, second = {1, {1}};
  *     furnacejade_count_answer before;
