@@ -178,6 +178,12 @@ unfolding report handover minus
 worked =
     report 1 30 ∷ handover 1 1 ∷ handover 2 1 ∷ handover 1 2 ∷ report 3 (minus 2) ∷ handover 2 3 ∷ handover 2 2 ∷ handover 2 2 ∷ handover 3 2 ∷ handover 3 2 ∷ []
 
+-- the run of RULES.md, section 8 (Apply), in which one taken out forces another out
+forced : List (List ℕ)
+unfolding report handover
+forced =
+    report 1 1 ∷ report 2 2 ∷ report 3 4 ∷ handover 2 1 ∷ handover 3 2 ∷ handover 1 3 ∷ handover 1 2 ∷ handover 1 2 ∷ handover 1 3 ∷ handover 1 1 ∷ []
+
 -- the run of RULES.md, section 25 (A run with classes), and its sets
 graded : List (List ℕ)
 unfolding classed handover minus
@@ -287,11 +293,13 @@ numbered zero x = []
 numbered (suc k) x = x ∷ numbered k (suc x)
 
 table : List Row
-unfolding report classed sync handover stop local write minus times worked graded gradedSets underway further underwaySets three backed set settled rivals rivalSets finished asked finishedSets wrote wroteSets sought heard counted full each numbered
+unfolding report classed sync handover stop local write minus times worked forced graded gradedSets underway further underwaySets three backed set settled rivals rivalSets finished asked finishedSets wrote wroteSets sought heard counted full each numbered
 table =
     -- The check ends at the first row that fails, and so rows that refuse an edit of a definition stand first.
     -- P: the sets of the worked run; event 10 applies nothing
     case 3 worked (handover 3 1) 4096 0 ([] ∷ [] ∷ [] ∷ (101 ∷ []) ∷ [] ∷ [] ∷ (101 ∷ []) ∷ (301 ∷ []) ∷ [] ∷ [] ∷ (101 ∷ 301 ∷ []) ∷ [])
+    -- P: one message that is taken out forces another out; event 11 applies all three
+    ∷ case 3 forced (handover 1 1) 4096 0 (times 10 ([] ∷ []) ++ ((101 ∷ 201 ∷ 301 ∷ []) ∷ []))
     -- P: n = 4, two marks: not applied; three: applied
     ∷ quiet 4 (report 1 5 ∷ handover 1 1 ∷ handover 2 1 ∷ []) (handover 1 2) 4096 0 4
     ∷ case 4 (report 1 5 ∷ handover 1 1 ∷ handover 2 1 ∷ handover 1 2 ∷ handover 3 1 ∷ []) (handover 1 3) 4096 0 ([] ∷ [] ∷ [] ∷ [] ∷ [] ∷ (101 ∷ []) ∷ [])
@@ -552,5 +560,5 @@ pub record AllCases : Type 0 where
   hold : results table ≡ expected table
 
 pub all-cases : AllCases
-unfolding computed flatten results expected table called bothWays tracked played given report classed sync handover stop local write minus times worked graded gradedSets underway further underwaySets three backed set settled rivals rivalSets finished asked finishedSets wrote wroteSets sought heard counted full each numbered
+unfolding computed flatten results expected table called bothWays tracked played given report classed sync handover stop local write minus times worked forced graded gradedSets underway further underwaySets three backed set settled rivals rivalSets finished asked finishedSets wrote wroteSets sought heard counted full each numbered
 all-cases = record { hold = refl }
