@@ -462,7 +462,7 @@ void furnacejade_look(const furnacejade_table *t, size_t c, furnacejade_look_ans
  *     furnacejade_count_answer before;
  *     furnacejade_count_before(table, 3, &first, &second, &before);
  *     if (before.number == FURNACEJADE_ACCEPTED)
- *         printf("%zu of the %zu needed put 3.1 before 1.1\n", before.count, table->n / 2 + 1);
+ *         printf("%zu put 3.1 before 1.1, %zu needed\n", before.count, table->n / 2 + 1);
  */
 void furnacejade_count_before(const furnacejade_table *t, size_t c, const furnacejade_name *first, const furnacejade_name *second, furnacejade_count_answer *answer);
 

@@ -264,8 +264,24 @@ fn checker(engine: &dyn Engine) -> Result<(), String> {
     Ok(())
 }
 
+/// Of four controllers, 1 has sent two messages, and 2 has two marks for the first; then 1 stops, and the second is cut
+/// off.
+fn cut_off(engine: &dyn Engine) -> Result<(), String> {
+    let mut s = Script::fresh(engine, 1, 4);
+    for record in [report(1, 5), report(1, 6), handover(2, 1), handover(2, 2), stop(1, 1)] {
+        expect(s.number(record) == 0, "a run with a message that is cut off")?;
+    }
+    expect(s.both(1, (1, 1), (1, 2)) == Some([1, 0]), "two that are pending where it stopped")?;
+    expect(s.before(2, (1, 1), (1, 1)) == (0, 0), "two marks before itself")?;
+    for none in [(1, 2), (3, 1), (0, 1), (255, 1)] {
+        expect(s.both(2, (1, 1), none) == Some([2, 0]), "two marks before none")?;
+    }
+    Ok(())
+}
+
 pub fn check(engine: &dyn Engine) -> Result<(), String> {
     worked(engine)?;
+    cut_off(engine)?;
     checker(engine)?;
     forced_out(engine)?;
     most_and_least(engine)?;

@@ -127,7 +127,7 @@ fn any_name(random: &mut Random, state: &State, c: usize) -> Name {
     name(known.sender, known.number)
 }
 
-/// A count of "goes before" at any number, mostly of two messages that are pending there.
+/// A count of "goes before" at any number, its names mostly from what is pending there, if anything is.
 pub fn any_asked(random: &mut Random, state: &State) -> Asked {
     let controller = any_number(random, state.n);
     let first = any_name(random, state, controller);

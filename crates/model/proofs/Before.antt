@@ -1,17 +1,19 @@
--- What the count of "goes before" that a call answers is: from 0 to n; of a message against itself 0; of both directions together at most
--- n; and of two pending messages, line 16's relation against the majority. Assumes nothing.
+-- What the count of "goes before" that a call answers is: of two pending messages, line 16's relation against the majority; of a message
+-- that is not pending, none, and before it every mark; on every table, from 0 to n, 0 of a message against itself and if refused, and of
+-- both directions together at most n. Assumes nothing.
 use mathlib.Core.Path.{_≡_, refl, sym, ap, ap₂, _∙_}
 use mathlib.Core.Bool.{Bool, true, false, _&&_, cond}
+use mathlib.Core.Logic.{_≢_, inl, inr}
 use mathlib.Core.List.{List}
 use Prim.Native.Nat.{ℕ, zero, suc, min, _+_, _≤_, _<_}
 use native.Mathlib.Omega.{arith}
 use native.Mathlib.Decide.{ℕ-discrete}
 use lib.ListN.{getD-replicate}
 use lib.Dec.{eqb, leb, ltb}
-use borrow.Author.Tests.{eqb-true, eq-eqb}
+use borrow.Author.Tests.{eqb-true, eq-eqb, ne-eqb, le-ltb}
 use Rattle.lists.proofs.Tests.{cond-case, cond-true, cond-false, and-left, and-right, both, contradiction}
-use Rattle.lists.proofs.Below.{count-ext}
-use Rattle.model.specs.Tables.{seats, yes?, unheld, at, message, entry, held, mark}
+use Rattle.lists.proofs.Below.{count-ext, count-none}
+use Rattle.model.specs.Tables.{seats, absent, yes?, unheld, at, message, entry, held, mark}
 use Rattle.model.specs.Delivery.{majority, markCount, goesBefore}
 use Rattle.model.specs.Largest.{precedes}
 use Rattle.model.specs.Events.{nameOf}
@@ -21,7 +23,7 @@ use Rattle.model.specs.declared.ForwardNumber.{ForwardNumber}
 use Rattle.model.specs.declared.Name.{Name}
 use Rattle.model.specs.declared.Pending.{Pending}
 use Rattle.model.specs.declared.Table.{Table}
-use Rattle.model.specs.Facts.{Among, WellFormed}
+use Rattle.model.specs.Facts.{Among, GoodMark, WellFormed}
 use Rattle.model.proofs.Tested.{tested}
 use Rattle.model.proofs.Allowed.{look-passed}
 use Rattle.model.proofs.Largest.{before-bound, before-itself, before-both}
@@ -69,12 +71,28 @@ module _ (t : Table) (P : List Pending) (a : Name) where
       number : (i : ℕ) → here i ≡ true → message t i .number .0 ≡ a .number .0
       number i q = eqb-true (message t i .number .0) (a .number .0) (and-right (eqb (message t i .sender) (a .sender)) _ (named i q))
 
+  -- what holds of every mark absent, and of every slot that is pending here and has the name
+  pub pending-case : (Q : Pending → Type 0) → Q unheld → ((s : ℕ) → s < t .count → here s ≡ true → Q (entry P s)) → Q (pendingOf t P a)
+  unfolding pendingOf pendingBelow
+  pending-case Q none some = go (t .count) some
+    where
+      go : (k : ℕ) → ((s : ℕ) → s < k → here s ≡ true → Q (entry P s)) → Q (pendingBelow k t P a)
+      go zero f = none
+      go (suc k) f = cond-case Q (here k) (entry P k) (pendingBelow k t P a) (λ e. f k (omega arith) e) (λ _. go k (λ s h. f s (omega arith)))
+
+-- a message that has no mark goes before none
+pub unheld-before : (n : ℕ) (q : Pending) → ((f : ℕ) → f < n → mark q f ≤ absent) → goesBefore n unheld q ≡ 0
+unfolding goesBefore
+unheld-before n q m =
+    count-none (min n seats) _
+    (λ f h. ap (λ (k : ForwardNumber). ltb (k .0) (mark q f)) (getD-replicate seats f _ _ (omega arith)) ∙ le-ltb absent (mark q f) (m f (omega arith)))
+
 -- a message goes before one that has no mark by each of its own marks
 pub before-unheld : (n : ℕ) (p : Pending) → goesBefore n p unheld ≡ markCount n p
 unfolding goesBefore markCount
 before-unheld n p = count-ext (min n seats) _ _ (λ f h. ap (λ (m : ForwardNumber). ltb (mark p f) (m .0)) (getD-replicate seats f _ _ (omega arith)))
 
--- WHAT THE CALL ANSWERS, on every table: a refusal counts 0
+-- WHAT THE CALL ANSWERS
 
 module _ (t : Table) (c : ℕ) where
   abbrev P : List Pending
@@ -92,6 +110,35 @@ module _ (t : Table) (c : ℕ) where
       found : (s : ℕ) → s < t .count → held (at t c) s ≡ true → pendingOf t P (nameOf (message t s)) ≡ entry P s
       found s h p = pending-found t P (nameOf (message t s)) w s h
           (both p (both (eq-eqb (message t s .sender) (message t s .sender) refl) (eq-eqb (message t s .number .0) (message t s .number .0) refl)))
+
+  module _ (w : WellFormed t) (h : Among (t .n) c) (a b : Name) where
+    answered : countBefore t c a b .count ≡ goesBefore (t .n) (pendingOf t P a) (pendingOf t P b)
+    unfolding countBefore
+    answered = cond-true _ 0 (eq-eqb _ 0 (look-passed t c (tested t w) h))
+
+    -- a message that is not pending at c, or not of the run, goes before none
+    pub count-none-before : ((s : ℕ) → s < t .count → here t P a s ≡ false) → countBefore t c a b .count ≡ 0
+    count-none-before none = answered ∙ ap (λ (p : Pending). goesBefore (t .n) p (pendingOf t P b)) (pending-none t P a none) ∙ unheld-before (t .n) _ marks
+      where
+        least : (k : ℕ) → GoodMark k → k ≤ absent
+        least k (inl e) = omega (arith, e)
+        least k (inr g) = omega (arith, g .1)
+
+        marks : (f : ℕ) → f < t .n → mark (pendingOf t P b) f ≤ absent
+        marks = pending-case t P b (λ (q : Pending). (f : ℕ) → f < t .n → mark q f ≤ absent)
+            (λ f l. omega (arith, w .few, ap (λ (m : ForwardNumber). m .0) (getD-replicate seats f (record { 0 = absent }) (record { 0 = 0 }) (omega (arith, w .few)))))
+            (λ s l e f lf. least _ (w .controllers c h .marks s f l (and-left _ _ e) lf))
+
+    -- and before such a one a message that is pending there counts its marks
+    pub count-marks : (s : ℕ) → s < t .count → here t P a s ≡ true → ((u : ℕ) → u < t .count → here t P b u ≡ false)
+        → countBefore t c a b .count ≡ markCount (t .n) (entry P s)
+    count-marks s l e none = answered ∙ ap₂ (goesBefore (t .n)) (pending-found t P a w s l e) (pending-none t P b none) ∙ before-unheld (t .n) (entry P s)
+
+  -- ON EVERY TABLE
+
+  pub refusal-counts-none : (a b : Name) → countBefore t c a b .number ≢ 0 → countBefore t c a b .count ≡ 0
+  unfolding countBefore
+  refusal-counts-none a b d = cond-false _ 0 (ne-eqb _ 0 d)
 
   abbrev allowed : Bool
   allowed = eqb (firstNo (lookQuestions t c)) 0

@@ -6,7 +6,7 @@ use Prim.Native.Nat.{ℕ, zero, suc, _+_, _*_, _/_, _%_, _-_}
 use mathlib.Core.Bool.{Bool, true, false, cond}
 use mathlib.Core.List.{List, [], _∷_, _++_, map, flatten}
 use lib.Dec.{eqb}
-use Rattle.model.specs.Tables.{messageNumber, noSums, noRegister, noPanel, fresh}
+use Rattle.model.specs.Tables.{messageNumber, noSums, noRegister, noPanel, fresh, at, withController, withRead}
 use Rattle.model.specs.Calls.{EventAnswer, step, event, freshTable, look, countBefore}
 use Rattle.model.specs.Runs.{progress, fileRun}
 use Rattle.model.specs.declared.Name.{Name}
@@ -64,6 +64,8 @@ data Case : Type 0 where
   -- the count of "goes before" at each of n controllers, of one message and another and then of the other and the one: at the start and
   -- behind each of the events
   counts : ℕ → List (List ℕ) → ℕ → ℕ → Case
+  -- a look at controller 1 of two, in a fresh table but for its read position in its own log, which passes that log's end
+  astray : Case
   -- a request for a fresh table
   request : ℕ → ℕ → Case
   -- a file, with no bytes lent
@@ -121,6 +123,7 @@ played t (r ∷ rs) c =
 given : Case → Given
 given (events v n rs c) = played (fresh v n) rs c
 given (counts n rs x y) = record { number = 0; sets = tracked (fresh 1 n) rs x y; shown = noPanel; finished = false; lines = [] }
+given astray = let t = fresh 1 2 in called (withController t 1 (withRead (at t 1) 1)) (panel 1)
 given (request v n) = record { number = freshTable v n .number; sets = []; shown = noPanel; finished = false; lines = [] }
 given (file s) = record { number = fileRun s [] [] .answer .number; sets = []; shown = noPanel; finished = false; lines = [] }
 given (run s room space) =
@@ -306,6 +309,8 @@ table =
     -- P: how many put one message before another, at a controller that has stopped and has both pending
     ∷ counted 1 101 102 1
     ∷ counted 1 102 101 0
+    -- a table in which a read position passes a log's end gives 4
+    ∷ row astray 4 []
     -- a report: 8 before 9 before 10; 12 and 15 stand below
     ∷ quiet 1 [] (report 2 361) 0 8 0
     ∷ quiet 2 (stop 1 0 ∷ []) (report 1 361) 0 9 1
@@ -522,17 +527,19 @@ table =
     ∷ (0 ∷ 0 ∷ 0 ∷ 0 ∷ 0 ∷ 1 ∷ []) ∷ (0 ∷ 0 ∷ 0 ∷ 0 ∷ 1 ∷ 1 ∷ []) ∷ (0 ∷ 0 ∷ 0 ∷ 0 ∷ 1 ∷ 1 ∷ []) ∷ (0 ∷ 0 ∷ 0 ∷ 0 ∷ 0 ∷ 0 ∷ []) ∷ [])
     -- a count: 4 before 8
     ∷ row (events 1 0 [] (before 1 101 102)) 4 ((0 ∷ []) ∷ [])
-    ∷ row (events 1 2 [] (before 0 101 102)) 8 ((0 ∷ []) ∷ [])
+    ∷ row (events 1 2 (report 1 5 ∷ []) (before 0 101 102)) 8 ([] ∷ (0 ∷ []) ∷ [])
     ∷ row (events 1 2 [] (before 3 101 102)) 8 ((0 ∷ []) ∷ [])
     -- P: a pending message before itself: none; before one that is cut off, that was never sent, or that no controller can have sent: each
-    -- of its marks; no mark before any of them
+    -- of its marks; each of these before it: none
     ∷ counted 2 101 101 0
     ∷ counted 2 101 102 2
     ∷ counted 2 102 101 0
     ∷ counted 2 101 301 2
+    ∷ counted 2 301 101 0
     ∷ counted 2 101 1 2
     ∷ counted 2 1 101 0
     ∷ counted 2 101 25501 2
+    ∷ counted 2 25501 101 0
     ∷ counted 2 100 25501 0
     -- P: a pending message before one that was applied
     ∷ row (events 1 1 (report 1 5 ∷ handover 1 1 ∷ report 1 6 ∷ []) (before 1 102 101)) 0 (each 1 101 ++ ([] ∷ (1 ∷ []) ∷ []))

@@ -12,7 +12,7 @@ use Rattle.model.specs.Tables.{yes?, entry}
 use Rattle.model.specs.Delivery.{Slots, has, majority, markCount, goesBefore}
 use Rattle.model.specs.declared.Pending.{Pending}
 
--- Over N slots: `held` are those pending, `fit` those with at least m marks, and `before` is "goes before".
+-- Over N slots: `held` are those pending, `fit` those with at least m marks, and `before` is the relation of line 16.
 module _ (N : ℕ) (held fit : ℕ → Bool) (before : ℕ → ℕ → Bool) where
   -- "sets of pending messages in which each has at least m marks, and in which each member goes before each pending non-member"
   pub record Closed (S : Slots) : Type 0 where
