@@ -75,9 +75,12 @@ fn worked(engine: &dyn Engine) -> Result<(), String> {
     expect(rest.is_empty(), "counts in the worked run: all its events")
 }
 
-/// After event 9 of the run of section 8, and after event 11, which applies all three.
+/// The run of section 8 applies all three at event 11 and nothing before; the counts after event 9, and after event 11.
 fn forced_out(engine: &dyn Engine) -> Result<(), String> {
     let (mut s, file) = (Script::fresh(engine, 1, 3), bytes_of(FORCED_OUT));
+    let mut listing = [0; 64];
+    let lines = engine.run(&file, &mut listing, &mut [0; SCRATCH]).written;
+    expect(&listing[..lines] == b"11 1 7 0 1.1 2.1 3.1\n", "the line where one forces another out")?;
     let mut rest = &file[2..];
     let mut play = |s: &mut Script, events: usize| {
         for _ in 0..events {

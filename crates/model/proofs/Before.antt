@@ -35,10 +35,14 @@ module _ (t : Table) (P : List Pending) (a : Name) where
   abbrev pub here : ℕ → Bool
   here s = yes? (entry P s .held) && isNamed a (message t s)
 
-  below-none : (k : ℕ) → ((s : ℕ) → s < k → here s ≡ false) → pendingBelow k t P a ≡ unheld
-  unfolding pendingBelow
-  below-none zero f = refl
-  below-none (suc k) f = cond-false _ _ (f k (omega arith)) ∙ below-none k (λ s h. f s (omega arith))
+  -- what holds of every mark absent, and of every slot that is pending here and has the name
+  pub pending-case : (Q : Pending → Type 0) → Q unheld → ((s : ℕ) → s < t .count → here s ≡ true → Q (entry P s)) → Q (pendingOf t P a)
+  unfolding pendingOf pendingBelow
+  pending-case Q none some = go (t .count) some
+    where
+      go : (k : ℕ) → ((s : ℕ) → s < k → here s ≡ true → Q (entry P s)) → Q (pendingBelow k t P a)
+      go zero f = none
+      go (suc k) f = cond-case Q (here k) (entry P k) (pendingBelow k t P a) (λ e. f k (omega arith) e) (λ _. go k (λ s h. f s (omega arith)))
 
   below-found : (k s : ℕ) → s < k → here s ≡ true → ((i : ℕ) → i < k → here i ≡ true → i ≡ s) → pendingBelow k t P a ≡ entry P s
   unfolding pendingBelow
@@ -54,8 +58,7 @@ module _ (t : Table) (P : List Pending) (a : Name) where
 
   -- a message that is not pending here, or not of the run, has every mark absent
   pub pending-none : ((s : ℕ) → s < t .count → here s ≡ false) → pendingOf t P a ≡ unheld
-  unfolding pendingOf
-  pending-none f = below-none (t .count) f
+  pending-none f = pending-case (λ (p : Pending). p ≡ unheld) refl (λ s h e. contradiction e (f s h))
 
   -- one that is pending here has the marks of its slot: no other slot has its name
   pub pending-found : WellFormed t → (s : ℕ) → s < t .count → here s ≡ true → pendingOf t P a ≡ entry P s
@@ -70,15 +73,6 @@ module _ (t : Table) (P : List Pending) (a : Name) where
 
       number : (i : ℕ) → here i ≡ true → message t i .number .0 ≡ a .number .0
       number i q = eqb-true (message t i .number .0) (a .number .0) (and-right (eqb (message t i .sender) (a .sender)) _ (named i q))
-
-  -- what holds of every mark absent, and of every slot that is pending here and has the name
-  pub pending-case : (Q : Pending → Type 0) → Q unheld → ((s : ℕ) → s < t .count → here s ≡ true → Q (entry P s)) → Q (pendingOf t P a)
-  unfolding pendingOf pendingBelow
-  pending-case Q none some = go (t .count) some
-    where
-      go : (k : ℕ) → ((s : ℕ) → s < k → here s ≡ true → Q (entry P s)) → Q (pendingBelow k t P a)
-      go zero f = none
-      go (suc k) f = cond-case Q (here k) (entry P k) (pendingBelow k t P a) (λ e. f k (omega arith) e) (λ _. go k (λ s h. f s (omega arith)))
 
 -- a message that has no mark goes before none
 pub unheld-before : (n : ℕ) (q : Pending) → ((f : ℕ) → f < n → mark q f ≤ absent) → goesBefore n unheld q ≡ 0
@@ -98,27 +92,25 @@ module _ (t : Table) (c : ℕ) where
   abbrev P : List Pending
   P = at t c .pending
 
+  answered : WellFormed t → Among (t .n) c → (a b : Name) → countBefore t c a b .count ≡ goesBefore (t .n) (pendingOf t P a) (pendingOf t P b)
+  unfolding countBefore
+  answered w h a b = cond-true _ 0 (eq-eqb _ 0 (look-passed t c (tested t w) h))
+
   -- of two messages that are pending at c, line 16's relation is the count against the majority
   pub count-precedes : WellFormed t → Among (t .n) c → (s u : ℕ) → s < t .count → u < t .count → held (at t c) s ≡ true → held (at t c) u ≡ true
       → precedes (t .n) P s u ≡ leb (majority (t .n)) (countBefore t c (nameOf (message t s)) (nameOf (message t u)) .count)
-  unfolding countBefore isNamed
+  unfolding isNamed
   count-precedes w h s u hs hu ps pu =
-      ap (leb (majority (t .n)))
-      (sym (cond-true _ 0 (eq-eqb _ 0 (look-passed t c (tested t w) h))
-      ∙ ap₂ (goesBefore (t .n)) (found s hs ps) (found u hu pu)))
+      ap (leb (majority (t .n))) (sym (answered w h _ _ ∙ ap₂ (goesBefore (t .n)) (found s hs ps) (found u hu pu)))
     where
       found : (s : ℕ) → s < t .count → held (at t c) s ≡ true → pendingOf t P (nameOf (message t s)) ≡ entry P s
       found s h p = pending-found t P (nameOf (message t s)) w s h
           (both p (both (eq-eqb (message t s .sender) (message t s .sender) refl) (eq-eqb (message t s .number .0) (message t s .number .0) refl)))
 
   module _ (w : WellFormed t) (h : Among (t .n) c) (a b : Name) where
-    answered : countBefore t c a b .count ≡ goesBefore (t .n) (pendingOf t P a) (pendingOf t P b)
-    unfolding countBefore
-    answered = cond-true _ 0 (eq-eqb _ 0 (look-passed t c (tested t w) h))
-
     -- a message that is not pending at c, or not of the run, goes before none
     pub count-none-before : ((s : ℕ) → s < t .count → here t P a s ≡ false) → countBefore t c a b .count ≡ 0
-    count-none-before none = answered ∙ ap (λ (p : Pending). goesBefore (t .n) p (pendingOf t P b)) (pending-none t P a none) ∙ unheld-before (t .n) _ marks
+    count-none-before none = answered w h a b ∙ ap (λ (p : Pending). goesBefore (t .n) p (pendingOf t P b)) (pending-none t P a none) ∙ unheld-before (t .n) _ marks
       where
         least : (k : ℕ) → GoodMark k → k ≤ absent
         least k (inl e) = omega (arith, e)
@@ -132,7 +124,7 @@ module _ (t : Table) (c : ℕ) where
     -- and before such a one a message that is pending there counts its marks
     pub count-marks : (s : ℕ) → s < t .count → here t P a s ≡ true → ((u : ℕ) → u < t .count → here t P b u ≡ false)
         → countBefore t c a b .count ≡ markCount (t .n) (entry P s)
-    count-marks s l e none = answered ∙ ap₂ (goesBefore (t .n)) (pending-found t P a w s l e) (pending-none t P b none) ∙ before-unheld (t .n) (entry P s)
+    count-marks s l e none = answered w h a b ∙ ap₂ (goesBefore (t .n)) (pending-found t P a w s l e) (pending-none t P b none) ∙ before-unheld (t .n) (entry P s)
 
   -- ON EVERY TABLE
 

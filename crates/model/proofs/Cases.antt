@@ -309,7 +309,7 @@ table =
     -- P: how many put one message before another, at a controller that has stopped and has both pending
     ∷ counted 1 101 102 1
     ∷ counted 1 102 101 0
-    -- a table in which a read position passes a log's end gives 4
+    -- P: a table in which a read position passes a log's end gives 4
     ∷ row astray 4 []
     -- a report: 8 before 9 before 10; 12 and 15 stand below
     ∷ quiet 1 [] (report 2 361) 0 8 0
