@@ -94,6 +94,32 @@ impl Record {
             }
         }
     }
+
+    /// The record of which these are all the bytes, whatever its fields hold; nothing if they have the form of none. Both
+    /// forms of a report are read, whatever the version.
+    ///
+    /// ```
+    /// use furnacejade::Record;
+    /// let write = Record::Write { sender: 2, register: 9, value: 1500 };
+    /// assert_eq!(Record::from_bytes(&write.bytes()), Some(write));
+    /// assert_eq!(Record::from_bytes(&[3, 5, 2, 0]), None);
+    /// ```
+    pub fn from_bytes(bytes: &[u8]) -> Option<Record> {
+        Some(match *bytes {
+            [4, 1, sender, high, low] => Record::Report { sender, amount: i16::from_be_bytes([high, low]) },
+            [5, 1, sender, high, low, class] => {
+                Record::ClassedReport { sender, amount: i16::from_be_bytes([high, low]), class: Class(class) }
+            }
+            [2, 2, sender] => Record::Sync { sender },
+            [3, 3, receiver, owner] => Record::Handover { receiver, owner },
+            [4, 4, controller, high, low] => Record::Stop { controller, kept: u16::from_be_bytes([high, low]) },
+            [2, 5, controller] => Record::LocalRead { controller },
+            [7, 6, sender, register, a, b, c, d] => {
+                Record::Write { sender, register, value: u32::from_be_bytes([a, b, c, d]) }
+            }
+            _ => return None,
+        })
+    }
 }
 
 /// A run file of a version, 1 or 2, and of n controllers, with these records.

@@ -1,0 +1,231 @@
+//! A run file played event by event. What an event did is read from its answer and from the table before and after it.
+
+use crate::text::Expectation;
+use furnacejade::{event, fresh, look, run, Answer, Controller, Message, Name, Record, Refusal, Sums, Table, SCRATCH};
+
+/// More than any file's lines need.
+const LISTING: usize = 16_384;
+
+/// What an event did, but for the set that it applied.
+#[derive(Debug)]
+pub enum Effect {
+    /// A message was sent.
+    Sent(Name),
+    /// The receiver read a message in a log, at this entry of it.
+    Read { owner: u8, entry: usize, name: Name, heard: Heard },
+    /// A log was cut; these were the entries behind what is kept.
+    Stopped { kept: usize, lost: Vec<Name> },
+    /// A controller read its own sums.
+    LocalRead(Sums),
+}
+
+/// What the message of a handover was to its receiver.
+#[derive(Debug)]
+pub enum Heard {
+    /// Unknown: it was forwarded, as this entry of the receiver's own log.
+    Forwarded { entry: usize },
+    /// Pending: the mark of the log's owner was noted.
+    Marked,
+    /// Applied already: the entry was passed over.
+    Passed,
+}
+
+/// A set that a panel applied, with the sums that it then showed, and those that a finished sync of its own answered.
+#[derive(Debug)]
+pub struct Applied {
+    pub names: Vec<Name>,
+    pub sums: Sums,
+    pub finished: Option<Sums>,
+}
+
+/// An event that was accepted.
+#[derive(Debug)]
+pub struct Step {
+    /// From 1; also the number of its record in the file.
+    pub number: usize,
+    pub offset: usize,
+    pub record: Record,
+    /// The controller that acted.
+    pub controller: usize,
+    pub effect: Effect,
+    pub applied: Option<Applied>,
+}
+
+/// A file or a record that was refused: where it begins, and what is there of it.
+#[derive(Debug)]
+pub struct Refused<'a> {
+    pub number: Refusal,
+    pub offset: usize,
+    pub bytes: &'a [u8],
+}
+
+/// An expectation that was reached, and what the panel showed there and then.
+#[derive(Debug)]
+pub struct Checked {
+    pub expectation: Expectation,
+    /// The events before it.
+    pub events: usize,
+    pub shown: Result<Sums, Refusal>,
+}
+
+impl Checked {
+    pub fn holds(&self) -> bool {
+        self.shown == Ok(self.expectation.sums)
+    }
+}
+
+/// What became of a file.
+#[derive(Debug)]
+pub struct Play<'a> {
+    pub steps: Vec<Step>,
+    pub refused: Option<Refused<'a>>,
+    pub checked: Vec<Checked>,
+    /// The table that the last accepted event left; the blank one if the file itself was refused.
+    pub table: Table,
+}
+
+/// Which controller acts in a record: the one that sends, receives, stops or reads.
+pub fn actor(record: Record) -> u8 {
+    match record {
+        Record::Report { sender, .. }
+        | Record::ClassedReport { sender, .. }
+        | Record::Sync { sender }
+        | Record::Write { sender, .. } => sender,
+        Record::Handover { receiver, .. } => receiver,
+        Record::Stop { controller, .. } | Record::LocalRead { controller } => controller,
+    }
+}
+
+/// The bytes with which a record begins, to its end or to that of the file.
+pub fn first_record(bytes: &[u8]) -> &[u8] {
+    let length = bytes.first().map_or(0, |length| *length as usize + 1);
+    &bytes[..length.min(bytes.len())]
+}
+
+pub fn name_of(message: &Message) -> Name {
+    Name { sender: message.sender, number: message.number }
+}
+
+/// The controller of a number, from 1.
+pub fn controller(table: &Table, number: usize) -> &Controller {
+    &table.controllers[number - 1]
+}
+
+/// The names in a log.
+pub fn log(table: &Table, owner: usize) -> Vec<Name> {
+    let Controller { length, log, .. } = controller(table, owner);
+    log[..*length].iter().map(|slot| name_of(&table.messages[*slot as usize])).collect()
+}
+
+/// The names of what is pending at a controller, in the order sent.
+pub fn pending(table: &Table, c: usize) -> Vec<Name> {
+    let messages = table.messages[..table.count].iter().zip(&controller(table, c).pending);
+    messages.filter(|(_, pending)| pending.held != 0).map(|(message, _)| name_of(message)).collect()
+}
+
+fn effect_of(record: Record, before: &Table, after: &Table, answer: &Answer) -> Effect {
+    match record {
+        Record::Handover { receiver, owner } => {
+            let (reader, read) = (receiver as usize, owner as usize);
+            let place = controller(before, reader).read[read - 1];
+            let slot = controller(before, read).log[place] as usize;
+            let known = controller(before, reader);
+            let heard = match controller(after, reader).length {
+                entry if entry > known.length => Heard::Forwarded { entry },
+                _ if known.pending[slot].held != 0 => Heard::Marked,
+                _ => Heard::Passed,
+            };
+            Effect::Read { owner, entry: place + 1, name: name_of(&before.messages[slot]), heard }
+        }
+        Record::Stop { controller, kept } => {
+            Effect::Stopped { kept: kept as usize, lost: log(before, controller as usize).split_off(kept as usize) }
+        }
+        Record::LocalRead { .. } => Effect::LocalRead(answer.sums),
+        _ => Effect::Sent(name_of(&after.messages[before.count])),
+    }
+}
+
+fn applied_by(answer: &Answer, table: &Table, c: usize) -> Option<Applied> {
+    let names = answer.applied().to_vec();
+    if names.is_empty() {
+        return None;
+    }
+    let sums = look(table, c).expect("the engine's own table").sums;
+    Some(Applied { names, sums, finished: answer.sync_answer() })
+}
+
+/// The expectations that stand before an offset and were not checked yet.
+fn check(play: &mut Play, expectations: &mut &[Expectation], offset: usize) {
+    while let Some((expectation, others)) = expectations.split_first().filter(|(first, _)| first.offset <= offset) {
+        let (expectation, events) = (*expectation, play.steps.len());
+        play.checked.push(Checked {
+            expectation,
+            events,
+            shown: look(&play.table, expectation.panel as usize).map(|panel| panel.sums),
+        });
+        *expectations = others;
+    }
+}
+
+/// Plays a file up to its end, its first refusal or so many events.
+pub fn play<'a>(bytes: &'a [u8], mut expectations: &[Expectation], most: usize) -> Play<'a> {
+    let (mut listing, mut scratch) = (vec![0; LISTING], [0; SCRATCH]);
+    let mut play = Play { steps: vec![], refused: None, checked: vec![], table: Table::BLANK };
+    let number = run(bytes, &mut listing, &mut scratch).number;
+    if [Refusal::FILE_LENGTH, Refusal::VERSION, Refusal::COUNT].contains(&number) {
+        let bytes = &bytes[..bytes.len().min(2)];
+        play.refused = Some(Refused { number, offset: 0, bytes });
+        return play;
+    }
+    play.table = fresh(bytes[0] as usize, bytes[1] as usize).expect("the file's version and count were accepted");
+    let mut rest = &bytes[2..];
+    check(&mut play, &mut expectations, 2);
+    while !rest.is_empty() && play.steps.len() < most {
+        let (before, offset) = (play.table.clone(), bytes.len() - rest.len());
+        match event(&mut play.table, rest, &mut scratch) {
+            Ok((answer, left)) => {
+                let record = Record::from_bytes(first_record(rest)).expect("an accepted record has the form of one");
+                let (number, c) = (play.steps.len() + 1, actor(record) as usize);
+                let effect = effect_of(record, &before, &play.table, &answer);
+                let applied = applied_by(&answer, &play.table, c);
+                play.steps.push(Step { number, offset, record, controller: c, effect, applied });
+                rest = left;
+                check(&mut play, &mut expectations, bytes.len() - rest.len());
+            }
+            Err(number) => {
+                play.refused = Some(Refused { number, offset, bytes: first_record(rest) });
+                break;
+            }
+        }
+    }
+    play
+}
+
+impl Play<'_> {
+    /// The slot of a message that was sent.
+    pub fn slot(&self, name: Name) -> Option<usize> {
+        self.table.messages[..self.table.count].iter().position(|message| name_of(message) == name)
+    }
+
+    /// The event that sent a message.
+    pub fn sent(&self, name: Name) -> Option<&Step> {
+        self.steps.iter().find(|step| matches!(step.effect, Effect::Sent(sent) if sent == name))
+    }
+
+    /// The event in which a panel applied a message, with the set.
+    pub fn applied(&self, name: Name, panel: usize) -> Option<(&Step, &Applied)> {
+        let mine = self.steps.iter().filter(|step| step.controller == panel);
+        let mut sets = mine.filter_map(|step| Some((step, step.applied.as_ref()?)));
+        sets.find(|(_, applied)| applied.names.contains(&name))
+    }
+
+    /// The event that stopped a controller.
+    pub fn stopped(&self, c: usize) -> Option<&Step> {
+        self.steps.iter().find(|step| step.controller == c && matches!(step.effect, Effect::Stopped { .. }))
+    }
+
+    /// How many controllers must put a message first, or mark it.
+    pub fn majority(&self) -> usize {
+        self.table.n / 2 + 1
+    }
+}

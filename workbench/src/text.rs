@@ -1,0 +1,337 @@
+//! The text form of a run file: a line for each event, and what assembles it.
+//!
+//! Every field may hold what its bytes can hold: whether the engine carries a record out is for the engine to say.
+
+use furnacejade::{Class, Record, Sums};
+use std::fmt::{Display, Formatter};
+
+/// What begins a line, with what follows it.
+const LINES: [(&str, &str); 10] = [
+    ("version", "version 1"),
+    ("controllers", "controllers 3"),
+    ("report", "report 1 +30, or report 1 +30 class 2"),
+    ("sync", "sync 1"),
+    ("hand", "hand 1 <- 2 3 3, a receiver and the owners of the logs"),
+    ("stop", "stop 1 keep 4"),
+    ("read", "read 1"),
+    ("write", "write 1 register 3 = 1500"),
+    ("expect", "expect 1 30 0, a panel and what it shows as added and withdrawn"),
+    ("bytes", "bytes 03 09 01 02, in hexadecimal"),
+];
+
+/// A place in a text. Lines and columns count from 1, columns in characters.
+#[derive(Clone, Copy, Debug, PartialEq, Eq)]
+pub struct Place {
+    pub line: usize,
+    pub column: usize,
+}
+
+impl Display for Place {
+    fn fmt(&self, f: &mut Formatter<'_>) -> std::fmt::Result {
+        write!(f, "line {}, column {}", self.line, self.column)
+    }
+}
+
+/// What is wrong with a text, and where.
+#[derive(Debug, PartialEq, Eq)]
+pub struct Mistake {
+    pub place: Place,
+    pub text: String,
+}
+
+/// Both sums that a panel is to show when the bytes before an offset have been carried out.
+#[derive(Clone, Copy, Debug, PartialEq, Eq)]
+pub struct Expectation {
+    pub place: Place,
+    pub offset: usize,
+    pub panel: u8,
+    pub sums: Sums,
+}
+
+/// A run file with the places of the text that it comes from.
+#[derive(Debug, Default, PartialEq, Eq)]
+pub struct Assembled {
+    pub bytes: Vec<u8>,
+    /// Where the bytes from an offset on come from, by offset.
+    pub places: Vec<(usize, Place)>,
+    pub expectations: Vec<Expectation>,
+}
+
+impl Assembled {
+    /// The place that an offset comes from.
+    pub fn place(&self, offset: usize) -> Option<Place> {
+        let after = self.places.partition_point(|(start, _)| *start <= offset);
+        Some(self.places[after.checked_sub(1)?].1)
+    }
+
+    fn add(&mut self, bytes: &[u8], place: Place) {
+        self.places.push((self.bytes.len(), place));
+        self.bytes.extend(bytes);
+    }
+}
+
+/// The text of a record, which assembles to its bytes.
+pub fn record_text(record: Record) -> String {
+    match record {
+        Record::Report { sender, amount } => format!("report {sender} {amount:+}"),
+        Record::ClassedReport { sender, amount, class } => format!("report {sender} {amount:+} class {}", class.0),
+        Record::Sync { sender } => format!("sync {sender}"),
+        Record::Handover { receiver, owner } => format!("hand {receiver} <- {owner}"),
+        Record::Stop { controller, kept } => format!("stop {controller} keep {kept}"),
+        Record::LocalRead { controller } => format!("read {controller}"),
+        Record::Write { sender, register, value } => format!("write {sender} register {register} = {value}"),
+    }
+}
+
+/// The run file of a text, or all that is wrong with it.
+pub fn assemble(text: &str) -> Result<Assembled, Vec<Mistake>> {
+    let (mut assembled, mut head, mut mistakes) = (Assembled::default(), Head::Version, vec![]);
+    let mut lines = 0;
+    for (number, text) in (1..).zip(text.lines()) {
+        let mut line = Line::new(number, text);
+        if let Err(mistake) = line.assemble(&mut head, &mut assembled) {
+            mistakes.push(mistake);
+        }
+        lines = number;
+    }
+    if mistakes.is_empty() && head != Head::Records {
+        let place = Place { line: lines + 1, column: 1 };
+        mistakes.push(Mistake { place, text: format!("the text ends before {}", head.wanted()) });
+    }
+    match mistakes.is_empty() {
+        true => Ok(assembled),
+        false => Err(mistakes),
+    }
+}
+
+/// What a text must have next.
+#[derive(Clone, Copy, PartialEq, Eq)]
+enum Head {
+    Version,
+    Controllers,
+    Records,
+}
+
+impl Head {
+    fn wanted(self) -> &'static str {
+        match self {
+            Head::Version => "`version 1` or `version 2`",
+            Head::Controllers => "`controllers` and how many there are",
+            Head::Records => "an event",
+        }
+    }
+}
+
+struct Word<'a> {
+    text: &'a str,
+    column: usize,
+}
+
+/// The words of a line that are left, up to its comment.
+struct Line<'a> {
+    number: usize,
+    words: std::vec::IntoIter<Word<'a>>,
+    /// The column behind the last word.
+    end: usize,
+    /// What the line begins with.
+    first: &'a str,
+}
+
+/// The words of a line, and the column behind the last. The signs `<-` and `=` need no space around them.
+fn words(line: &str) -> (Vec<Word<'_>>, usize) {
+    let mut rest = line.split('#').next().unwrap_or_default().trim_end();
+    let (mut words, mut column) = (vec![], 1);
+    while let Some(first) = rest.chars().next() {
+        let blank = rest.len() - rest.trim_start().len();
+        let size = match rest {
+            _ if blank > 0 => blank,
+            _ if rest.starts_with("<-") => 2,
+            _ if "=<".contains(first) => 1,
+            _ => rest.find(|c: char| c.is_whitespace() || "=<".contains(c)).unwrap_or(rest.len()),
+        };
+        let (text, after) = rest.split_at(size);
+        if blank == 0 {
+            words.push(Word { text, column });
+        }
+        column += text.chars().count();
+        rest = after;
+    }
+    (words, column)
+}
+
+impl<'a> Line<'a> {
+    fn new(number: usize, text: &'a str) -> Line<'a> {
+        let (words, end) = words(text);
+        Line { number, words: words.into_iter(), end, first: "" }
+    }
+
+    fn mistake(&self, column: usize, text: String) -> Mistake {
+        Mistake { place: Place { line: self.number, column }, text }
+    }
+
+    /// The next word, which is to be what the text says.
+    fn word(&mut self, what: &str) -> Result<Word<'a>, Mistake> {
+        match self.words.next() {
+            Some(word) => Ok(word),
+            None => Err(self.mistake(self.end, format!("{what} is missing; {}", self.form()))),
+        }
+    }
+
+    /// How a line that begins as this one does is written.
+    fn form(&self) -> String {
+        let form = LINES.iter().find(|(first, _)| *first == self.first);
+        form.map_or(String::new(), |(_, form)| format!("a line reads: {form}"))
+    }
+
+    /// The next word, which must be this one.
+    fn literally(&mut self, wanted: &str) -> Result<(), Mistake> {
+        let word = self.word(&format!("`{wanted}`"))?;
+        match word.text == wanted {
+            true => Ok(()),
+            false => {
+                let text = format!("`{}` stands where `{wanted}` belongs; {}", word.text, self.form());
+                Err(self.mistake(word.column, text))
+            }
+        }
+    }
+
+    fn number<T: TryFrom<i64>>(&mut self, what: &str, least: i64, most: i64) -> Result<T, Mistake> {
+        let word = self.word(what)?;
+        self.in_range(&word, what, least, most)
+    }
+
+    fn in_range<T: TryFrom<i64>>(&self, word: &Word, what: &str, least: i64, most: i64) -> Result<T, Mistake> {
+        let number = word.text.parse().ok().filter(|number| (least..=most).contains(number));
+        number.and_then(|number| T::try_from(number).ok()).ok_or_else(|| {
+            let text = format!("`{}` stands where {what} belongs, a number from {least} to {most}", word.text);
+            self.mistake(word.column, text)
+        })
+    }
+
+    fn byte(&mut self, what: &str) -> Result<u8, Mistake> {
+        self.number(what, 0, 255)
+    }
+
+    fn class(&mut self) -> Result<Class, Mistake> {
+        let word = self.word("the class")?;
+        match Class::ALL.into_iter().find(|class| class.to_string() == word.text) {
+            Some(class) => Ok(class),
+            None => self.in_range(&word, "the class, XL, L, M, S or", 0, 255).map(Class),
+        }
+    }
+
+    fn ends(&mut self) -> Result<(), Mistake> {
+        match self.words.next() {
+            None => Ok(()),
+            Some(word) => {
+                let text = format!("`{}` is more than belongs here; {}", word.text, self.form());
+                Err(self.mistake(word.column, text))
+            }
+        }
+    }
+
+    /// The line's bytes, or its expectation, behind what was assembled before.
+    fn assemble(&mut self, head: &mut Head, assembled: &mut Assembled) -> Result<(), Mistake> {
+        let Some(first) = self.words.next() else { return Ok(()) };
+        let place = Place { line: self.number, column: first.column };
+        self.first = first.text;
+        if LINES.iter().all(|(word, _)| *word != first.text) {
+            let known: Vec<&str> = LINES.iter().map(|(word, _)| *word).collect();
+            let text = format!("no line begins with `{}`, but with one of {}", first.text, known.join(", "));
+            return Err(self.mistake(first.column, text));
+        }
+        // Bytes may stand in the place of a head too, as those of a file that has none.
+        let (wanted, next) = match (first.text, *head) {
+            ("version", _) => (Head::Version, Head::Controllers),
+            ("controllers", _) => (Head::Controllers, Head::Records),
+            ("bytes", Head::Version) => (Head::Version, Head::Records),
+            _ => (Head::Records, Head::Records),
+        };
+        let due = std::mem::replace(head, next);
+        if wanted != due {
+            let text = format!("`{}` stands where {} belongs", first.text, due.wanted());
+            return Err(self.mistake(first.column, text));
+        }
+        match first.text {
+            "version" => assembled.add(&[self.byte("the version")?], place),
+            "controllers" => assembled.add(&[self.byte("the number of controllers")?], place),
+            "hand" => return self.handovers(assembled),
+            "expect" => {
+                let panel = self.byte("the panel")?;
+                let added = self.number("what was added", 0, u32::MAX as i64)?;
+                let withdrawn = self.number("what was withdrawn", 0, u32::MAX as i64)?;
+                let (offset, sums) = (assembled.bytes.len(), Sums { added, withdrawn });
+                assembled.expectations.push(Expectation { place, offset, panel, sums });
+            }
+            "bytes" => assembled.add(&self.hexadecimal()?, place),
+            event => assembled.add(&self.record(event)?.bytes(), place),
+        }
+        self.ends()
+    }
+
+    /// An event of one record.
+    fn record(&mut self, event: &str) -> Result<Record, Mistake> {
+        Ok(match event {
+            "report" => {
+                let sender = self.byte("the sender")?;
+                let amount = self.number("the amount", i16::MIN as i64, i16::MAX as i64)?;
+                match self.words.as_slice() {
+                    [] => Record::Report { sender, amount },
+                    _ => {
+                        self.literally("class")?;
+                        Record::ClassedReport { sender, amount, class: self.class()? }
+                    }
+                }
+            }
+            "sync" => Record::Sync { sender: self.byte("the sender")? },
+            "stop" => {
+                let controller = self.byte("the controller")?;
+                self.literally("keep")?;
+                Record::Stop { controller, kept: self.number("how many entries are kept", 0, u16::MAX as i64)? }
+            }
+            "read" => Record::LocalRead { controller: self.byte("the controller")? },
+            _ => {
+                let sender = self.byte("the sender")?;
+                self.literally("register")?;
+                let register = self.byte("the register")?;
+                self.literally("=")?;
+                Record::Write { sender, register, value: self.number("the value", 0, u32::MAX as i64)? }
+            }
+        })
+    }
+
+    /// Handovers to one receiver, one for each owner of a log.
+    fn handovers(&mut self, assembled: &mut Assembled) -> Result<(), Mistake> {
+        let receiver = self.byte("the receiver")?;
+        self.literally("<-")?;
+        let mut owner = self.word("the owner of a log")?;
+        loop {
+            let place = Place { line: self.number, column: owner.column };
+            let record = Record::Handover { receiver, owner: self.in_range(&owner, "the owner of a log", 0, 255)? };
+            assembled.add(&record.bytes(), place);
+            owner = match self.words.next() {
+                Some(word) => word,
+                None => return Ok(()),
+            };
+        }
+    }
+
+    /// Bytes of two digits each, with or without spaces between them.
+    fn hexadecimal(&mut self) -> Result<Vec<u8>, Mistake> {
+        let mut bytes = vec![];
+        for word in self.words.by_ref() {
+            let digits: Option<Vec<u8>> = word.text.chars().map(|c| c.to_digit(16).map(|digit| digit as u8)).collect();
+            match digits {
+                Some(digits) if digits.len() % 2 == 0 => {
+                    bytes.extend(digits.chunks(2).map(|pair| pair[0] * 16 + pair[1]));
+                }
+                _ => {
+                    let place = Place { line: self.number, column: word.column };
+                    let text = format!("`{}` stands where bytes belong, two hexadecimal digits each", word.text);
+                    return Err(Mistake { place, text });
+                }
+            }
+        }
+        Ok(bytes)
+    }
+}
