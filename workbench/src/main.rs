@@ -1,6 +1,248 @@
-//! Write a run, run it, see it, and see why.
+//! Write a run, run it, see it, and see why: `workbench --help`.
 
+mod disassemble;
 mod play;
+mod report;
+mod source;
 mod text;
+mod why;
+mod words;
 
-fn main() {}
+use furnacejade::{look, MessageNumber, Name};
+use play::Play;
+use source::{Form, Source};
+use std::io::{ErrorKind, Write};
+use std::process::ExitCode;
+
+const HELP: &str = "\
+Write a run, run it, see it, and see why.
+
+    workbench assemble TEXT [-o RUN]              a text to a run file
+    workbench disassemble RUN [-o TEXT]           any run file to its text
+    workbench run FILE                            what each event did, and every panel at the end
+    workbench why FILE MESSAGE PANEL [--after N]  why a panel has applied a message, or has not
+    workbench draw FILE [-o SVG]                  the run as a picture
+
+FILE is a text or a run file. `-` is standard input. `workbench COMMAND --help` says more.
+
+The exit status is 0 if all went well, 1 if the engine refused something or an expectation failed, and 2 if the command or
+the text cannot be understood, or a file cannot be read or written.
+";
+
+const ASSEMBLE: &str = "\
+workbench assemble TEXT [-o RUN]
+
+Writes the run file of a text, to standard output unless -o names a file. One event stands in a line:
+
+    version 2                    1 or 2: reports name a class in version 2; the first line
+    controllers 5                the second line
+    report 4 +30                 controller 4 reports 30 eggs, in version 1
+    report 4 -2 class M          it takes 2 back, in version 2: class 1 to 4, or XL, L, M, S
+    sync 3                       controller 3 asks for the sums by a message
+    hand 1 <- 4 4 2              controller 1 reads the next two entries of log 4, and one of log 2
+    stop 4 keep 4                controller 4 stops; its log keeps 4 entries
+    read 2                       controller 2 reads its own sums
+    write 1 register 3 = 1500    controller 1 sets a register
+    expect 2 867 30              panel 2 shows 867 added and 30 withdrawn here (`workbench run` looks)
+    bytes 03 09 01 02            any bytes, in hexadecimal; also in place of the first two lines
+    # a comment, to the end of the line
+
+A field may hold whatever its bytes can hold, so that refused records can be written too. An expectation gives no bytes.
+";
+
+const DISASSEMBLE: &str = "\
+workbench disassemble RUN [-o TEXT]
+
+Writes the text of a run file, to standard output unless -o names a file. Any file has one: bytes that have the form of no
+record are shown as bytes, with their offset and what is wrong. `workbench assemble` makes the same file of it.
+";
+
+const RUN: &str = "\
+workbench run FILE [--text | --bytes]
+
+Plays a text or a run file up to its end or its first refusal. Prints each event with what it did, each set that a panel
+applied with its messages and the sums that the panel then showed, each expectation, the refusal with its question and the
+fact behind it, and at the end every panel side by side: sums, classes, registers with their stamps (date, writer), what is
+pending with how many marks of those needed, and how far each log is read.
+
+A file is taken for a text if it is one; --text and --bytes say which it is.
+";
+
+const WHY: &str = "\
+workbench why FILE MESSAGE PANEL [--after EVENT] [--text | --bytes]
+
+Says of a message, as 3.1, and a panel, as 2, when it was applied there. If it was not: which controllers have marked it and
+how many are needed; which pending messages keep it out, and how many controllers put it before each; and what is unread
+that would bring more. It is asked at the end of the run, or after an event.
+";
+
+const DRAW: &str = "\
+workbench draw FILE [-o SVG] [--text | --bytes]
+
+Writes a picture of the run, to standard output unless -o names a file. A browser shows it as it is.
+";
+
+/// Why a command could not do what it was asked, for standard error.
+type Failed = String;
+
+/// What a command was asked for.
+struct Asked {
+    words: Vec<String>,
+    output: Option<String>,
+    after: Option<usize>,
+    form: Form,
+}
+
+/// A command: its name, its help, how many words it needs, its options, and what it does.
+struct Command {
+    name: &'static str,
+    help: &'static str,
+    words: usize,
+    options: &'static [&'static str],
+    carry_out: fn(&Asked) -> Result<bool, Failed>,
+}
+
+const COMMANDS: [Command; 5] = [
+    Command { name: "assemble", help: ASSEMBLE, words: 1, options: &["-o"], carry_out: assemble },
+    Command { name: "disassemble", help: DISASSEMBLE, words: 1, options: &["-o"], carry_out: disassemble },
+    Command { name: "run", help: RUN, words: 1, options: &["--text", "--bytes"], carry_out: run },
+    Command { name: "why", help: WHY, words: 3, options: &["--after", "--text", "--bytes"], carry_out: why },
+    Command { name: "draw", help: DRAW, words: 1, options: &["-o", "--text", "--bytes"], carry_out: draw },
+];
+
+impl Command {
+    fn failed(&self, what: &str) -> Failed {
+        format!("workbench {}: {what}; `workbench {} --help` says more\n", self.name, self.name)
+    }
+
+    /// The words and options of a command line; nothing if help is asked for.
+    fn parse(&self, line: &[String]) -> Result<Option<Asked>, Failed> {
+        let mut asked = Asked { words: vec![], output: None, after: None, form: Form::Either };
+        let mut line = line.iter();
+        while let Some(word) = line.next() {
+            let mut value = || line.next().ok_or_else(|| self.failed(&format!("{word} lacks what it names")));
+            match word.as_str() {
+                "--help" | "-h" => return Ok(None),
+                option if option.len() > 1 && option.starts_with('-') && !self.options.contains(&option) => {
+                    return Err(self.failed(&format!("there is no option {option}")));
+                }
+                "-o" => asked.output = Some(value()?.clone()),
+                "--after" => asked.after = Some(self.number(value()?, "an event")?),
+                "--text" => asked.form = Form::Text,
+                "--bytes" => asked.form = Form::Bytes,
+                _ => asked.words.push(word.clone()),
+            }
+        }
+        match asked.words.len() == self.words {
+            true => Ok(Some(asked)),
+            false => Err(self.failed(&format!(
+                "{} expected, not {}",
+                words::count(self.words, "word", "words"),
+                asked.words.len()
+            ))),
+        }
+    }
+
+    fn number(&self, word: &str, what: &str) -> Result<usize, Failed> {
+        word.parse().map_err(|_| self.failed(&format!("`{word}` is not the number of {what}")))
+    }
+}
+
+/// Writes to the file that was named, or to standard output.
+fn put(asked: &Asked, bytes: &[u8]) -> Result<(), Failed> {
+    let (result, name) = match &asked.output {
+        Some(path) => (std::fs::write(path, bytes), path.as_str()),
+        None => {
+            let mut output = std::io::stdout().lock();
+            (output.write_all(bytes).and_then(|()| output.flush()), "standard output")
+        }
+    };
+    match result {
+        // Whoever reads may have seen enough.
+        Err(error) if error.kind() != ErrorKind::BrokenPipe => Err(format!("{name}: {error}\n")),
+        _ => Ok(()),
+    }
+}
+
+fn assemble(asked: &Asked) -> Result<bool, Failed> {
+    let source = Source::load(&asked.words[0], Form::Text)?;
+    put(asked, source.bytes()).map(|()| true)
+}
+
+fn disassemble(asked: &Asked) -> Result<bool, Failed> {
+    let file = source::read(&asked.words[0])?;
+    put(asked, disassemble::disassemble(&file).as_bytes()).map(|()| true)
+}
+
+fn run(asked: &Asked) -> Result<bool, Failed> {
+    let source = Source::load(&asked.words[0], asked.form)?;
+    let play = play::play(source.bytes(), source.expectations(), usize::MAX);
+    put(asked, report::report(&source, &play).as_bytes())?;
+    Ok(report::succeeded(&source, &play))
+}
+
+fn draw(asked: &Asked) -> Result<bool, Failed> {
+    let source = Source::load(&asked.words[0], asked.form)?;
+    let play = play::play(source.bytes(), source.expectations(), usize::MAX);
+    put(asked, report::report(&source, &play).as_bytes())?;
+    Ok(report::succeeded(&source, &play))
+}
+
+fn why(asked: &Asked) -> Result<bool, Failed> {
+    let (message, panel) = (&asked.words[1], &asked.words[2]);
+    let source = Source::load(&asked.words[0], asked.form)?;
+    let play = play::play(source.bytes(), &[], asked.after.unwrap_or(usize::MAX));
+    let refused = play.refused.as_ref().map(|refused| report::refusal(&source, &play, refused)).unwrap_or_default();
+    if play.table.n == 0 {
+        return Err(refused);
+    }
+    if let Some(after) = asked.after.filter(|after| *after > play.steps.len()) {
+        return Err(format!("{refused}event {after} is not reached: {} were accepted\n", play.steps.len()));
+    }
+    let question = question(&play, message, panel).map_err(|error| format!("{refused}{error}\n"))?;
+    put(asked, (question.answer() + &refused).as_bytes())?;
+    Ok(play.refused.is_none())
+}
+
+/// The message and the panel that two words name.
+fn question<'a>(play: &'a Play, message: &str, panel: &str) -> Result<why::Question<'a>, String> {
+    let number = |word: &str| word.parse().ok();
+    let name = message.split_once('.').and_then(|(sender, k)| Some((number(sender)?, number(k)?)));
+    let Some((sender, number)) = name else { return Err(format!("`{message}` names no message, as 3.1 does")) };
+    let name = Name { sender, number: MessageNumber(number) };
+    let Some(slot) = play.slot(name) else {
+        let sent: Vec<Name> = play.table.messages[..play.table.count].iter().map(play::name_of).collect();
+        let sent = if sent.is_empty() { "nothing was".into() } else { format!("sent were {}", words::list(&sent)) };
+        return Err(format!("{name} was not sent in {} events; {sent}", play.steps.len()));
+    };
+    let Ok(panel) = panel.parse() else { return Err(format!("`{panel}` is not the number of a panel")) };
+    look(&play.table, panel)
+        .map_err(|refusal| format!("panel {panel} is refused with {}: {refusal}", refusal.number()))?;
+    Ok(why::Question { play, name, slot, panel })
+}
+
+fn main() -> ExitCode {
+    let line: Vec<String> = std::env::args().skip(1).collect();
+    let first = line.first().map_or("--help", String::as_str);
+    let result = match COMMANDS.iter().find(|command| command.name == first) {
+        Some(command) => command.parse(&line[1..]).and_then(|asked| match asked {
+            Some(asked) => (command.carry_out)(&asked),
+            None => Ok(put_help(command.help)),
+        }),
+        None if ["--help", "-h", "help"].contains(&first) => Ok(put_help(HELP)),
+        None => Err(format!("workbench: there is no command {first}; `workbench --help` lists them\n")),
+    };
+    match result {
+        Ok(true) => ExitCode::SUCCESS,
+        Ok(false) => ExitCode::from(1),
+        Err(failed) => {
+            eprint!("{failed}");
+            ExitCode::from(2)
+        }
+    }
+}
+
+fn put_help(help: &str) -> bool {
+    print!("{help}");
+    true
+}

@@ -1,7 +1,8 @@
 //! A run file played event by event. What an event did is read from its answer and from the table before and after it.
 
 use crate::text::Expectation;
-use furnacejade::{event, fresh, look, run, Answer, Controller, Message, Name, Record, Refusal, Sums, Table, SCRATCH};
+use furnacejade::{event, fresh, look, run};
+use furnacejade::{Answer, Controller, ForwardNumber, Message, Name, Pending, Record, Refusal, Sums, Table, SCRATCH};
 
 /// More than any file's lines need.
 const LISTING: usize = 16_384;
@@ -11,8 +12,8 @@ const LISTING: usize = 16_384;
 pub enum Effect {
     /// A message was sent.
     Sent(Name),
-    /// The receiver read a message in a log, at this entry of it.
-    Read { owner: u8, entry: usize, name: Name, heard: Heard },
+    /// The receiver read a message in a log, at this entry of it. So many marks it then has there, if it is pending.
+    Read { owner: u8, entry: usize, name: Name, heard: Heard, marks: Option<usize> },
     /// A log was cut; these were the entries behind what is kept.
     Stopped { kept: usize, lost: Vec<Name> },
     /// A controller read its own sums.
@@ -26,6 +27,8 @@ pub enum Heard {
     Forwarded { entry: usize },
     /// Pending: the mark of the log's owner was noted.
     Marked,
+    /// Pending, and its own message: its own mark was there from the start.
+    Known,
     /// Applied already: the entry was passed over.
     Passed,
 }
@@ -43,7 +46,6 @@ pub struct Applied {
 pub struct Step {
     /// From 1; also the number of its record in the file.
     pub number: usize,
-    pub offset: usize,
     pub record: Record,
     /// The controller that acted.
     pub controller: usize,
@@ -123,19 +125,27 @@ pub fn pending(table: &Table, c: usize) -> Vec<Name> {
     messages.filter(|(_, pending)| pending.held != 0).map(|(message, _)| name_of(message)).collect()
 }
 
+/// The marks that a controller keeps for a message that is pending there: who gave them, and their numbers.
+pub fn marks(table: &Table, c: usize, slot: usize) -> impl Iterator<Item = (usize, u8)> + '_ {
+    let marks = (1..).zip(&controller(table, c).pending[slot].marks[..table.n]);
+    marks.filter(|(_, mark)| **mark != ForwardNumber::ABSENT).map(|(f, mark)| (f, mark.0))
+}
+
 fn effect_of(record: Record, before: &Table, after: &Table, answer: &Answer) -> Effect {
     match record {
         Record::Handover { receiver, owner } => {
-            let (reader, read) = (receiver as usize, owner as usize);
-            let place = controller(before, reader).read[read - 1];
-            let slot = controller(before, read).log[place] as usize;
-            let known = controller(before, reader);
-            let heard = match controller(after, reader).length {
-                entry if entry > known.length => Heard::Forwarded { entry },
-                _ if known.pending[slot].held != 0 => Heard::Marked,
-                _ => Heard::Passed,
+            let (known, then) = (controller(before, receiver as usize), controller(after, receiver as usize));
+            let place = known.read[owner as usize - 1];
+            let slot = controller(before, owner as usize).log[place] as usize;
+            let heard = match known.pending[slot] {
+                _ if then.length > known.length => Heard::Forwarded { entry: then.length },
+                Pending { held: 0, .. } => Heard::Passed,
+                Pending { marks, .. } if marks[owner as usize - 1] == ForwardNumber::ABSENT => Heard::Marked,
+                _ => Heard::Known,
             };
-            Effect::Read { owner, entry: place + 1, name: name_of(&before.messages[slot]), heard }
+            let name = name_of(&before.messages[slot]);
+            let marks = (then.pending[slot].held != 0).then(|| marks(after, receiver as usize, slot).count());
+            Effect::Read { owner, entry: place + 1, name, heard, marks }
         }
         Record::Stop { controller, kept } => {
             Effect::Stopped { kept: kept as usize, lost: log(before, controller as usize).split_off(kept as usize) }
@@ -188,7 +198,7 @@ pub fn play<'a>(bytes: &'a [u8], mut expectations: &[Expectation], most: usize) 
                 let (number, c) = (play.steps.len() + 1, actor(record) as usize);
                 let effect = effect_of(record, &before, &play.table, &answer);
                 let applied = applied_by(&answer, &play.table, c);
-                play.steps.push(Step { number, offset, record, controller: c, effect, applied });
+                play.steps.push(Step { number, record, controller: c, effect, applied });
                 rest = left;
                 check(&mut play, &mut expectations, bytes.len() - rest.len());
             }

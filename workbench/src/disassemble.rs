@@ -1,0 +1,87 @@
+//! The text of any run file. Bytes that have the form of no record are shown as they are, with what is wrong with them.
+
+use crate::play::first_record;
+use crate::text::record_text;
+use crate::words::{hexadecimal, malformed};
+use furnacejade::Record;
+use std::fmt::Write;
+
+/// So many handovers to one receiver stand in a line.
+const HANDOVERS: usize = 8;
+
+/// So many bytes stand in a line.
+const BYTES: usize = 16;
+
+/// The column of the comments.
+const COMMENT: usize = 34;
+
+/// A part of a file: a record, or bytes that are none.
+struct Piece<'a> {
+    number: usize,
+    offset: usize,
+    bytes: &'a [u8],
+    record: Option<Record>,
+}
+
+fn pieces(file: &[u8]) -> Vec<Piece<'_>> {
+    let (mut pieces, mut offset) = (vec![], 2);
+    while offset < file.len() {
+        let bytes = first_record(&file[offset..]);
+        pieces.push(Piece { number: pieces.len() + 1, offset, bytes, record: Record::from_bytes(bytes) });
+        offset += bytes.len();
+    }
+    pieces
+}
+
+fn receiver(piece: &Piece) -> Option<u8> {
+    match piece.record {
+        Some(Record::Handover { receiver, .. }) => Some(receiver),
+        _ => None,
+    }
+}
+
+/// A line for each event, for handovers in a row to one receiver, and for bytes that are no record. Each ends in a comment
+/// with the numbers of its records and the offset at which it begins.
+pub fn disassemble(file: &[u8]) -> String {
+    let [version, controllers, ..] = *file else {
+        return line(&bytes_line(file), "offset 0: a run file has 2 bytes or more");
+    };
+    let mut text = format!("version {version}\ncontrollers {controllers}\n\n");
+    let pieces = pieces(file);
+    for run in pieces.chunk_by(|one, next| receiver(one).is_some() && receiver(one) == receiver(next)) {
+        for group in run.chunks(HANDOVERS) {
+            text += &group_text(group, version);
+        }
+    }
+    text
+}
+
+fn group_text(group: &[Piece], version: u8) -> String {
+    let (first, last) = (&group[0], &group[group.len() - 1]);
+    let numbers = match group {
+        [_] => format!("record {}", first.number),
+        _ => format!("records {} to {}", first.number, last.number),
+    };
+    let wrong = malformed(first.bytes, version).map_or(String::new(), |wrong| format!(": {wrong}"));
+    let comment = format!("{numbers}, offset {}{wrong}", first.offset);
+    let Some(record) = first.record else {
+        let mut lines = first.bytes.chunks(BYTES).map(bytes_line);
+        let head = line(&lines.next().unwrap_or_default(), &comment);
+        return lines.fold(head, |text, bytes| text + &bytes + "\n");
+    };
+    let mut event = record_text(record);
+    for piece in &group[1..] {
+        if let Some(Record::Handover { owner, .. }) = piece.record {
+            let _ = write!(event, " {owner}");
+        }
+    }
+    line(&event, &comment)
+}
+
+fn bytes_line(bytes: &[u8]) -> String {
+    format!("bytes {}", hexadecimal(bytes)).trim_end().into()
+}
+
+fn line(text: &str, comment: &str) -> String {
+    format!("{text:COMMENT$} # {comment}\n")
+}

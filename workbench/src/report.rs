@@ -1,0 +1,196 @@
+//! A run in words: each event with what it did, the sets, the refusal with the fact behind it, and the panels at the end.
+
+use crate::play::{controller, marks, pending, Checked, Play, Refused};
+use crate::source::Source;
+use crate::text::record_text;
+use crate::words::{self, count, hexadecimal};
+use furnacejade::{look, Class, Panel, Record, Register, Stamp, Sums};
+use std::fmt::Write;
+
+/// So many pending messages of a panel are named in the table of panels.
+const NAMED: usize = 12;
+
+/// Whether the file was carried out whole and every expectation was met.
+pub fn succeeded(source: &Source, play: &Play) -> bool {
+    let unmet = source.expectations().len() - play.checked.iter().filter(|checked| checked.holds()).count();
+    play.refused.is_none() && unmet == 0
+}
+
+pub fn report(source: &Source, play: &Play) -> String {
+    let table = &play.table;
+    let mut text = String::new();
+    if table.n > 0 {
+        let controllers = count(table.n, "controller", "controllers");
+        let head = format!("version {}, {controllers}, majority {}", table.version, play.majority());
+        let _ = writeln!(text, "{}: {head}\n", source.name);
+    }
+    events(&mut text, source, play);
+    if !text.is_empty() {
+        text += "\n";
+    }
+    if let Some(refused) = &play.refused {
+        text += &refusal(source, play, refused);
+    }
+    let _ = writeln!(text, "{}", outcome(source, play));
+    if table.n > 0 {
+        text += "\n";
+        text += &panels(play);
+    }
+    text
+}
+
+/// A line or two for each event, and one for each expectation behind the events before it.
+fn events(text: &mut String, source: &Source, play: &Play) {
+    let width = play.steps.iter().map(|step| record_text(step.record).len()).max().unwrap_or(0);
+    let mut checked = play.checked.iter().peekable();
+    for events in 0..=play.steps.len() {
+        if let Some(step) = events.checked_sub(1).map(|before| &play.steps[before]) {
+            let _ =
+                writeln!(text, "{:5}  {:width$}  {}", step.number, record_text(step.record), words::effect(play, step));
+            if let Some(applied) = &step.applied {
+                let _ = writeln!(text, "{:5}  {:width$}  {}", "", "", words::applied(play, step, applied));
+            }
+        }
+        while let Some(checked) = checked.next_if(|checked| checked.events == events) {
+            let _ = writeln!(text, "{:5}  {}", "", expectation(source, checked));
+        }
+    }
+}
+
+/// What came of an expectation.
+fn expectation(source: &Source, checked: &Checked) -> String {
+    let (expected, panel) = (checked.expectation, checked.expectation.panel);
+    let shown = match checked.shown {
+        Ok(shown) if shown == expected.sums => return format!("expect {panel} {}: so it is", expected.sums),
+        Ok(shown) => format!("panel {panel} shows {shown}"),
+        Err(refusal) => format!("panel {panel} is refused with {}: {refusal}", refusal.number()),
+    };
+    let place = expected.place;
+    format!("{}:{}:{}: FAILED: expected {panel} {}, and {shown}", source.name, place.line, place.column, expected.sums)
+}
+
+/// The number, the question, the record, its place and the fact behind it.
+pub fn refusal(source: &Source, play: &Play, refused: &Refused) -> String {
+    let mut lines = vec![];
+    if let Some(fact) = words::fact(play, source.bytes(), refused) {
+        lines.push(("because", fact));
+    }
+    let in_file = refused.offset >= 2;
+    let what = match in_file {
+        true => format!("record {}", play.steps.len() + 1),
+        false => source.name.clone(),
+    };
+    if in_file {
+        if let Some(record) = Record::from_bytes(refused.bytes) {
+            lines.push(("event", record_text(record)));
+        }
+        lines.push(("offset", refused.offset.to_string()));
+    }
+    lines.push(("bytes", hexadecimal(refused.bytes)));
+    if let Some(place) = source.assembled.place(refused.offset) {
+        lines.push(("text", format!("{}:{}:{}", source.name, place.line, place.column)));
+    }
+    let head = format!("{what} is refused with {}: {}\n", refused.number.number(), refused.number);
+    lines.iter().fold(head, |text, (what, line)| format!("{text}    {what:8} {line}\n"))
+}
+
+/// How many events were accepted, and what came of the expectations.
+fn outcome(source: &Source, play: &Play) -> String {
+    let mut text = format!("{} accepted", count(play.steps.len(), "event", "events"));
+    let all = source.expectations().len();
+    if all > 0 {
+        let held = play.checked.iter().filter(|checked| checked.holds()).count();
+        let _ = write!(text, "; of {}, {held} held", count(all, "expectation", "expectations"));
+        let failed = play.checked.len() - held;
+        if failed > 0 {
+            let _ = write!(text, ", {failed} failed");
+        }
+        if all > play.checked.len() {
+            let _ = write!(text, ", {} not reached", all - play.checked.len());
+        }
+    }
+    text
+}
+
+/// A row of the table of panels: what it says, and a cell of lines for each panel.
+type Row = (String, Vec<Vec<String>>);
+
+/// Every panel side by side.
+fn panels(play: &Play) -> String {
+    let table = &play.table;
+    let all: Vec<(usize, Panel)> = (1..=table.n).filter_map(|c| Some((c, look(table, c).ok()?))).collect();
+    let row = |what: &str, cell: &dyn Fn(usize, &Panel) -> String| -> Row {
+        (what.into(), all.iter().map(|(c, panel)| vec![cell(*c, panel)]).collect())
+    };
+    let mut rows = vec![row("", &|c, _| format!("panel {c}"))];
+    if (1..=table.n).any(|c| play.stopped(c).is_some()) {
+        rows.push(row("stopped", &|c, _| play.stopped(c).map_or("-".into(), |step| format!("event {}", step.number))));
+    }
+    rows.push(row("added", &|_, panel| panel.sums.added.to_string()));
+    rows.push(row("withdrawn", &|_, panel| panel.sums.withdrawn.to_string()));
+    if table.version == 2 {
+        for class in Class::ALL {
+            let of = |panel: &Panel| panel.of(class).unwrap_or(Sums::BLANK);
+            rows.push(row(&format!("{class} added"), &|_, panel| of(panel).added.to_string()));
+            rows.push(row(&format!("{class} withdrawn"), &|_, panel| of(panel).withdrawn.to_string()));
+        }
+    }
+    for (r, register) in (1..).zip(0..furnacejade::REGISTERS) {
+        if all.iter().any(|(_, panel)| panel.registers[register].stamp > Stamp::BLANK) {
+            rows.push(row(&format!("register {r}"), &|_, panel| register_text(panel.registers[register])));
+        }
+    }
+    let waiting = |c: usize| -> Vec<String> { pending_cell(play, c) };
+    rows.push(("pending (marks)".into(), (1..=table.n).map(waiting).collect()));
+    for owner in 1..=table.n {
+        let length = controller(table, owner).length;
+        let read = |c: usize, _: &Panel| format!("{} of {length}", controller(table, c).read[owner - 1]);
+        rows.push(row(&format!("read of log {owner}"), &read));
+    }
+    aligned(&rows)
+}
+
+fn register_text(Register { value, stamp }: Register) -> String {
+    match stamp {
+        Stamp::BLANK => "-".into(),
+        Stamp { date, writer } => format!("{value} ({date}, {writer})"),
+    }
+}
+
+/// What is pending at a controller, with the marks that it has.
+fn pending_cell(play: &Play, c: usize) -> Vec<String> {
+    let names = pending(&play.table, c);
+    let with_marks = |name: &furnacejade::Name| -> String {
+        let marks = play.slot(*name).map_or(0, |slot| marks(&play.table, c, slot).count());
+        format!("{name} ({marks} of {})", play.majority())
+    };
+    let mut lines: Vec<String> = names.iter().take(NAMED).map(with_marks).collect();
+    if names.len() > NAMED {
+        lines.push(format!("and {} more", names.len() - NAMED));
+    }
+    if lines.is_empty() {
+        lines.push("-".into());
+    }
+    lines
+}
+
+/// The rows with their cells one below the other.
+fn aligned(rows: &[Row]) -> String {
+    let title = rows.iter().map(|row| row.0.len()).max().unwrap_or(0);
+    let columns = rows.first().map_or(0, |row| row.1.len());
+    let width = |column: usize| rows.iter().flat_map(|row| &row.1[column]).map(String::len).max().unwrap_or(0);
+    let widths: Vec<usize> = (0..columns).map(width).collect();
+    let mut text = String::new();
+    for (what, cells) in rows {
+        let height = cells.iter().map(Vec::len).max().unwrap_or(0);
+        for line in 0..height {
+            let mut row = format!("{:title$}", if line == 0 { what } else { "" });
+            for (cell, width) in cells.iter().zip(&widths) {
+                let _ = write!(row, "  {:width$}", cell.get(line).map_or("", String::as_str));
+            }
+            text += row.trim_end();
+            text += "\n";
+        }
+    }
+    text
+}

@@ -1,0 +1,227 @@
+//! Events, sets and refusals in words. Each says what was read from an answer or from a table.
+
+use crate::play::{actor, controller, log, name_of, pending, Applied, Effect, Heard, Play, Refused, Step};
+use crate::text::record_text;
+use furnacejade::{Class, Message, Name, Payload, Record, Refusal, Sums};
+
+/// One thing or several: "1 entry", "2 entries".
+pub fn count(number: usize, one: &str, more: &str) -> String {
+    format!("{number} {}", if number == 1 { one } else { more })
+}
+
+/// "1.1, 2.1 and 3.1".
+pub fn list<T: ToString>(things: &[T]) -> String {
+    let texts: Vec<String> = things.iter().map(T::to_string).collect();
+    match &texts[..] {
+        [before @ .., last] if !before.is_empty() => format!("{} and {last}", before.join(", ")),
+        _ => texts.concat(),
+    }
+}
+
+pub fn hexadecimal(bytes: &[u8]) -> String {
+    bytes.iter().map(|byte| format!("{byte:02X}")).collect::<Vec<_>>().join(" ")
+}
+
+pub fn sums(Sums { added, withdrawn }: Sums) -> String {
+    format!("{added} added, {withdrawn} withdrawn")
+}
+
+/// What a message says: "+30", "-2 M", "sync", "register 3 = 1500".
+pub fn said(message: &Message) -> String {
+    let Payload { kind, class, added, withdrawn, reg, value } = message.payload;
+    match (kind, class) {
+        (Payload::SYNC, _) => "sync".into(),
+        (Payload::WRITE, _) => format!("register {reg} = {value}"),
+        (_, Class::NONE) => format!("{:+}", added as i32 - withdrawn as i32),
+        _ => format!("{:+} {class}", added as i32 - withdrawn as i32),
+    }
+}
+
+/// A message with what it says: "1.1 (+30)".
+pub fn message(play: &Play, name: Name) -> String {
+    let said = play.slot(name).map(|slot| said(&play.table.messages[slot]));
+    format!("{name} ({})", said.unwrap_or_default())
+}
+
+/// A log as seen by one of its readers: "its own log", "log 2".
+pub fn log_of(owner: usize, reader: usize) -> String {
+    if owner == reader {
+        "its own log".into()
+    } else {
+        format!("log {owner}")
+    }
+}
+
+/// What an event did, but for the set that it applied.
+pub fn effect(play: &Play, step: &Step) -> String {
+    let c = step.controller;
+    match &step.effect {
+        Effect::Sent(name) => format!("controller {c} sends {}", message(play, *name)),
+        Effect::Read { owner, entry, name, heard, marks } => {
+            let read = format!("controller {c} reads {name}, entry {entry} of {}", log_of(*owner as usize, c));
+            let heard = match heard {
+                Heard::Forwarded { entry } => format!("new to it, forwarded as entry {entry} of its own log"),
+                Heard::Marked => format!("marked by {owner}"),
+                Heard::Known => "known to it, with its own mark".into(),
+                Heard::Passed => "applied already, passed over".into(),
+            };
+            let marks = marks.map_or(String::new(), |marks| format!("; {marks} of {} marks", play.majority()));
+            format!("{read}: {heard}{marks}")
+        }
+        Effect::Stopped { kept, lost } => {
+            let stops = format!("controller {c} stops: {} of {} kept", kept, entries(kept + lost.len()));
+            let (own, others): (Vec<Name>, Vec<Name>) = lost.iter().partition(|name| name.sender as usize == c);
+            let cut = |names: &[Name], what: &str| match names {
+                [] => String::new(),
+                _ => format!("; {what} {}", list(names)),
+            };
+            format!("{stops}{}{}", cut(&own, "cut off:"), cut(&others, "no longer forwarded here:"))
+        }
+        Effect::LocalRead(read) => format!("controller {c} reads its own sums: {}", sums(*read)),
+    }
+}
+
+/// A set with its messages and the panel's sums.
+pub fn applied(play: &Play, step: &Step, Applied { names, sums: shown, finished }: &Applied) -> String {
+    let c = step.controller;
+    let messages: Vec<String> = names.iter().map(|name| message(play, *name)).collect();
+    let as_one = if names.len() > 1 { " as one set" } else { "" };
+    let text = format!("panel {c} applies {}{as_one}, and shows {}", list(&messages), sums(*shown));
+    match finished {
+        Some(answer) => format!("{text}; its sync is finished and answers {}", sums(*answer)),
+        None => text,
+    }
+}
+
+pub fn entries(number: usize) -> String {
+    count(number, "entry", "entries")
+}
+
+/// The forms of the records of a kind, with fields of zero.
+fn forms(kind: u8) -> Vec<Record> {
+    let record = |length: u8| {
+        let mut bytes = vec![0; length as usize + 1];
+        bytes[..2].copy_from_slice(&[length, kind]);
+        Record::from_bytes(&bytes)
+    };
+    (1..16).filter_map(record).collect()
+}
+
+/// The version that a form belongs to, if it belongs to one alone.
+fn version_of(form: Record) -> Option<u8> {
+    match form {
+        Record::Report { .. } => Some(1),
+        Record::ClassedReport { .. } => Some(2),
+        _ => None,
+    }
+}
+
+/// What is wrong with the form of a record, of which these are the bytes that are there; nothing if it has the form of one
+/// of this version.
+pub fn malformed(bytes: &[u8], version: u8) -> Option<String> {
+    let (length, rest) = bytes.split_first()?;
+    if rest.len() < *length as usize {
+        let there = count(rest.len(), "is", "are");
+        return Some(format!("the length byte counts {}, and {there} there", count(*length as usize, "byte", "bytes")));
+    }
+    let Some(kind) = rest.first() else { return Some("the length is 0, and so there is no kind".into()) };
+    let forms = forms(*kind);
+    let of_version = |form: &&Record| version_of(**form).unwrap_or(version) == version;
+    let Some(form) = forms.iter().find(of_version).or(forms.first()) else {
+        return Some(format!("no kind has the number {kind}"));
+    };
+    let wanted = form.bytes()[0];
+    let text = record_text(*form);
+    let event = text.split(' ').next().unwrap_or_default();
+    let in_version = version_of(*form).map_or(String::new(), |version| format!(" of version {version}"));
+    (*length != wanted).then(|| format!("a {event}{in_version} has length {wanted}, and this one {length}"))
+}
+
+/// The controllers that a record names.
+fn named(record: Record) -> Vec<u8> {
+    match record {
+        Record::Handover { receiver, owner } => vec![receiver, owner],
+        _ => vec![actor(record)],
+    }
+}
+
+/// The fact behind a refusal, read from the bytes and the table.
+pub fn fact(play: &Play, file: &[u8], refused: &Refused) -> Option<String> {
+    let number = refused.number;
+    match number {
+        Refusal::FILE_LENGTH => return Some(format!("the file has {}", count(file.len(), "byte", "bytes"))),
+        Refusal::VERSION => return Some(format!("byte 0, the version, is {}", file.first()?)),
+        Refusal::COUNT => return Some(format!("byte 1, the number of controllers, is {}", file.get(1)?)),
+        Refusal::RECORD | Refusal::KIND | Refusal::LENGTH => return malformed(refused.bytes, play.table.version as u8),
+        _ => {}
+    }
+    let record = Record::from_bytes(refused.bytes)?;
+    if number == Refusal::CONTROLLER {
+        let n = play.table.n;
+        let strangers: Vec<u8> = named(record).into_iter().filter(|c| !(1..=n).contains(&(*c as usize))).collect();
+        return Some(format!("the run has controllers 1 to {n}, and none is {}", strangers.first()?));
+    }
+    let c = actor(record) as usize;
+    match number {
+        Refusal::STOPPED => Some(format!("controller {c} stopped at event {}", play.stopped(c)?.number)),
+        Refusal::FULL => Some(format!("the run has {}", count(play.table.count, "message", "messages"))),
+        Refusal::OWN_PENDING | Refusal::READ_PENDING => own_pending(play, c),
+        Refusal::NOT_SYNCED => Some(latest(play, c)),
+        _ => fact_of_fields(play, record),
+    }
+}
+
+/// The fact behind a refusal that the fields of a record give.
+fn fact_of_fields(play: &Play, record: Record) -> Option<String> {
+    let table = &play.table;
+    match record {
+        Record::Handover { receiver, owner } => {
+            let (receiver, owner) = (receiver as usize, owner as usize);
+            Some(match controller(table, owner).length {
+                0 => format!("log {owner} has no entries"),
+                1 => format!("controller {receiver} has read the one entry of log {owner}"),
+                length => format!("controller {receiver} has read all {length} entries of log {owner}"),
+            })
+        }
+        Record::Stop { controller: c, kept } => {
+            let (c, kept) = (c as usize, kept as usize);
+            let length = controller(table, c).length;
+            let (read, reader) = (1..=table.n).map(|r| (controller(table, r).read[c - 1], r)).max_by_key(|x| x.0)?;
+            Some(match kept > length {
+                true => format!("log {c} has {}, and {kept} are to be kept", entries(length)),
+                false => {
+                    format!("controller {reader} has read {} of log {c}, and {kept} are to be kept", entries(read))
+                }
+            })
+        }
+        Record::Report { amount, .. } => Some(format!("the amount is {amount}")),
+        Record::ClassedReport { amount, .. } if amount == 0 || amount.unsigned_abs() > 360 => {
+            Some(format!("the amount is {amount}"))
+        }
+        Record::ClassedReport { class, .. } => Some(format!("the class is {}", class.0)),
+        Record::Write { register, .. } => Some(format!("the register is {register}")),
+        Record::Sync { .. } | Record::LocalRead { .. } => None,
+    }
+}
+
+/// What a controller has sent and not applied.
+fn own_pending(play: &Play, c: usize) -> Option<String> {
+    let own: Vec<Name> = pending(&play.table, c).into_iter().filter(|name| name.sender as usize == c).collect();
+    let is = if own.len() == 1 { "is" } else { "are" };
+    (!own.is_empty()).then(|| format!("{} of its own {is} pending at controller {c}", list(&own)))
+}
+
+/// What a controller has sent last.
+fn latest(play: &Play, c: usize) -> String {
+    let sent = play.table.messages[..play.table.count].iter().filter(|message| message.sender as usize == c);
+    match sent.max_by_key(|message| message.number) {
+        Some(last) => format!("the latest message of controller {c} is {} ({})", name_of(last), said(last)),
+        None => format!("controller {c} has sent nothing"),
+    }
+}
+
+/// Where the names of a log stand that a reader has not read, with their entries.
+pub fn unread(play: &Play, owner: usize, reader: usize) -> Vec<(usize, Name)> {
+    let read = controller(&play.table, reader).read[owner - 1];
+    (1..).zip(log(&play.table, owner)).skip(read).collect()
+}
