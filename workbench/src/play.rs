@@ -12,13 +12,17 @@ const LISTING: usize = 16_384;
 pub enum Effect {
     /// A message was sent.
     Sent(Name),
-    /// The receiver read a message in a log, at this entry of it. So many marks it then has there, if it is pending.
-    Read { owner: u8, entry: usize, name: Name, heard: Heard, marks: Option<usize> },
+    /// The receiver read a message in a log, at this entry of it. The marks are those that it then has for the message, before
+    /// it applies anything; none if it has applied it already.
+    Read { owner: u8, entry: usize, name: Name, heard: Heard, marks: Vec<Mark> },
     /// A log was cut; these were the entries behind what is kept.
     Stopped { kept: usize, lost: Vec<Name> },
     /// A controller read its own sums.
     LocalRead(Sums),
 }
+
+/// Who gave a mark, and the mark: the entry of that controller's log.
+pub type Mark = (usize, u8);
 
 /// What the message of a handover was to its receiver.
 #[derive(Debug)]
@@ -125,10 +129,20 @@ pub fn pending(table: &Table, c: usize) -> Vec<Name> {
     messages.filter(|(_, pending)| pending.held != 0).map(|(message, _)| name_of(message)).collect()
 }
 
-/// The marks that a controller keeps for a message that is pending there: who gave them, and their numbers.
-pub fn marks(table: &Table, c: usize, slot: usize) -> impl Iterator<Item = (usize, u8)> + '_ {
-    let marks = (1..).zip(&controller(table, c).pending[slot].marks[..table.n]);
-    marks.filter(|(_, mark)| **mark != ForwardNumber::ABSENT).map(|(f, mark)| (f, mark.0))
+/// The marks that a controller keeps for a message; none if it is not pending there.
+pub fn marks(table: &Table, c: usize, slot: usize) -> Vec<Mark> {
+    let Pending { held, marks } = controller(table, c).pending[slot];
+    let marks = (1..=table.n).zip(marks).filter(|(_, mark)| held != 0 && *mark != ForwardNumber::ABSENT);
+    marks.map(|(f, mark)| (f, mark.0)).collect()
+}
+
+/// The marks of a message once an entry that gives one has been read.
+fn marks_with(mut marks: Vec<Mark>, read: Mark, heard: &Heard) -> Vec<Mark> {
+    if matches!(heard, Heard::Forwarded { .. } | Heard::Marked) {
+        marks.push(read);
+        marks.sort_unstable();
+    }
+    marks
 }
 
 fn effect_of(record: Record, before: &Table, after: &Table, answer: &Answer) -> Effect {
@@ -144,7 +158,7 @@ fn effect_of(record: Record, before: &Table, after: &Table, answer: &Answer) -> 
                 _ => Heard::Known,
             };
             let name = name_of(&before.messages[slot]);
-            let marks = (then.pending[slot].held != 0).then(|| marks(after, receiver as usize, slot).count());
+            let marks = marks_with(marks(before, receiver as usize, slot), (owner as usize, place as u8 + 1), &heard);
             Effect::Read { owner, entry: place + 1, name, heard, marks }
         }
         Record::Stop { controller, kept } => {

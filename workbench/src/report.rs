@@ -161,7 +161,7 @@ fn register_text(Register { value, stamp }: Register) -> String {
 fn pending_cell(play: &Play, c: usize) -> Vec<String> {
     let names = pending(&play.table, c);
     let with_marks = |name: &furnacejade::Name| -> String {
-        let marks = play.slot(*name).map_or(0, |slot| marks(&play.table, c, slot).count());
+        let marks = play.slot(*name).map_or(0, |slot| marks(&play.table, c, slot).len());
         format!("{name} ({marks} of {})", play.majority())
     };
     let mut lines: Vec<String> = names.iter().take(NAMED).map(with_marks).collect();

@@ -63,8 +63,7 @@ impl Question<'_> {
     /// Which controllers have marked it, and how many are needed.
     fn marks(&self) -> String {
         let Question { play, name, slot, panel } = self;
-        let held = controller(&play.table, *panel).pending[*slot].held != 0;
-        let marks: Vec<(usize, u8)> = marks(&play.table, *panel, *slot).filter(|_| held).collect();
+        let marks = marks(&play.table, *panel, *slot);
         let mark_of = |f: usize| marks.iter().find(|(owner, _)| *owner == f).map(|(_, mark)| *mark);
         let number = marks.len();
         let mut text = format!("\nmarks at panel {panel}: {number} of the {} needed\n", play.majority());
@@ -80,19 +79,18 @@ impl Question<'_> {
             };
             let _ = writeln!(text, "    controller {f}: {state}");
         }
-        let possible = (1..=play.table.n).filter(|f| self.may_mark(*f)).count();
+        let possible = (1..=play.table.n).filter(|f| mark_of(*f).is_some() || self.may_mark(*f)).count();
         if possible < play.majority() {
-            let _ =
-                writeln!(text, "    no more than {possible} can mark it: the others have stopped, or it was cut off");
+            let _ = writeln!(text, "    there can be no more than {possible}: it is not applied here any more");
         }
         text
     }
 
-    /// Whether a controller's log has the message, or may have it yet.
+    /// Whether the panel may yet learn of a controller's mark: it runs, and the controller's log has the message, or may.
     fn may_mark(&self, f: usize) -> bool {
-        let Question { play, name, .. } = self;
+        let Question { play, name, panel, .. } = self;
         let has = |f: usize| log(&play.table, f).contains(name);
-        has(f) || play.stopped(f).is_none() && (1..=play.table.n).any(has)
+        play.stopped(*panel).is_none() && (has(f) || play.stopped(f).is_none() && (1..=play.table.n).any(has))
     }
 
     /// Which handovers let a controller hear of the message.
@@ -124,7 +122,7 @@ impl Question<'_> {
         let mut text = String::from("\nkept out by pending messages that it does not go before: ");
         if blockers.is_empty() {
             text += "none\n";
-            if marks(&play.table, *panel, self.slot).count() >= play.majority() {
+            if marks(&play.table, *panel, self.slot).len() >= play.majority() {
                 let _ = writeln!(text, "    sets are applied at handovers: the next to {panel} may apply it");
             }
             return text;
@@ -146,14 +144,15 @@ impl Question<'_> {
     /// Whether the panel's controller has a controller's mark for a pending message.
     fn is_marked(&self, name: Name, owner: usize) -> bool {
         let Question { play, panel, .. } = self;
-        let held = |slot: &usize| controller(&play.table, *panel).pending[*slot].held != 0;
-        let slot = play.slot(name).filter(held);
-        slot.is_some_and(|slot| marks(&play.table, *panel, slot).any(|(f, _)| f == owner))
+        play.slot(name).is_some_and(|slot| marks(&play.table, *panel, slot).iter().any(|(f, _)| *f == owner))
     }
 
     /// What the panel's controller has not read of this message and of those that keep it out.
     fn unread(&self) -> String {
         let Question { play, name, panel, .. } = self;
+        if play.stopped(*panel).is_some() {
+            return String::new();
+        }
         let held = controller(&play.table, *panel).pending[self.slot].held != 0;
         let mut wanted = vec![*name];
         if held {

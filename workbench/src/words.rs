@@ -65,8 +65,10 @@ pub fn effect(play: &Play, step: &Step) -> String {
                 Heard::Known => "known to it, with its own mark".into(),
                 Heard::Passed => "applied already, passed over".into(),
             };
-            let marks = marks.map_or(String::new(), |marks| format!("; {marks} of {} marks", play.majority()));
-            format!("{read}: {heard}{marks}")
+            match marks.len() {
+                0 => format!("{read}: {heard}"),
+                number => format!("{read}: {heard}; {number} of {} marks", play.majority()),
+            }
         }
         Effect::Stopped { kept, lost } => {
             let stops = format!("controller {c} stops: {} of {} kept", kept, entries(kept + lost.len()));

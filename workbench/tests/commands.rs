@@ -1,0 +1,340 @@
+//! The commands as a user calls them: what they print, to the letter, their exit status, and where mistakes are.
+
+use std::io::Write;
+use std::process::{Command, Output, Stdio};
+use std::time::{Duration, Instant};
+
+/// The output of a command that is given this on standard input.
+fn workbench(words: &[&str], input: &[u8]) -> Output {
+    let mut command = Command::new(env!("CARGO_BIN_EXE_workbench"));
+    let piped = command.args(words).stdin(Stdio::piped()).stdout(Stdio::piped()).stderr(Stdio::piped());
+    let mut child = piped.spawn().expect("the workbench starts");
+    let mut stdin = child.stdin.take().expect("a pipe");
+    let input = input.to_vec();
+    // A command that takes no input ends without reading it.
+    let writer = std::thread::spawn(move || drop(stdin.write_all(&input)));
+    let output = child.wait_with_output().expect("the workbench ends");
+    writer.join().expect("the input was written");
+    output
+}
+
+fn text(bytes: &[u8]) -> String {
+    String::from_utf8(bytes.to_vec()).expect("output is text")
+}
+
+/// What a command prints, which ends with this status and has nothing to complain of.
+fn printed(words: &[&str], input: &[u8], status: i32) -> String {
+    let output = workbench(words, input);
+    assert_eq!((text(&output.stderr).as_str(), output.status.code()), ("", Some(status)), "{words:?}");
+    text(&output.stdout)
+}
+
+/// What a command complains of on standard error, which then prints nothing.
+fn complaint(words: &[&str], input: &[u8]) -> String {
+    let output = workbench(words, input);
+    assert_eq!((text(&output.stdout).as_str(), output.status.code()), ("", Some(2)), "{words:?}");
+    text(&output.stderr)
+}
+
+fn file(path: &str) -> Vec<u8> {
+    std::fs::read(path).unwrap_or_else(|error| panic!("{path}: {error}"))
+}
+
+fn assert_golden(words: &[&str], path: &str) {
+    assert_eq!(printed(words, b"", 0), text(&file(path)), "{words:?} prints something else than {path} has");
+}
+
+#[test]
+fn samples_run_as_their_reports_say() {
+    for sample in ["worked", "stop", "label"] {
+        assert_golden(&["run", &format!("samples/{sample}.txt")], &format!("samples/{sample}.report"));
+    }
+}
+
+#[test]
+fn samples_are_drawn_as_their_pictures_are() {
+    assert_golden(&["draw", "samples/worked.txt"], "../docs/worked.svg");
+    assert_golden(&["draw", "samples/stop.txt"], "../docs/stop.svg");
+}
+
+#[test]
+fn a_panel_that_waits_says_why() {
+    let questions: [&[&str]; 6] = [
+        &["why", "samples/worked.txt", "3.1", "3", "--after", "10"],
+        &["why", "samples/worked.txt", "3.1", "3"],
+        &["why", "samples/label.txt", "4.5", "2"],
+        &["why", "samples/stop.txt", "5.3", "1"],
+        &["why", "samples/stop.txt", "5.3", "5"],
+        &["why", "samples/stop.txt", "5.1", "4"],
+    ];
+    let answers = questions.map(|words| format!("$ workbench {}\n{}", words.join(" "), printed(words, b"", 0)));
+    assert_eq!(answers.join("\n"), text(&file("samples/why.report")));
+}
+
+#[test]
+fn the_worked_run_is_written_as_text() {
+    assert_eq!(workbench(&["assemble", "samples/worked.txt"], b"").stdout, file("../bindings/worked.run"));
+    assert_golden(&["disassemble", "../bindings/worked.run"], "samples/worked.disassembled");
+}
+
+#[test]
+fn what_was_disassembled_assembles_to_the_same_bytes() {
+    let mut files: Vec<Vec<u8>> = ["worked", "classes", "underway", "settings", "reading"]
+        .map(|name| file(&format!("../bindings/{name}.run")))
+        .into();
+    files.extend([
+        vec![],
+        vec![7],
+        vec![1, 3],
+        vec![0, 255, 0, 0],
+        vec![2, 9, 4, 1, 200, 128, 0, 255],
+        b"version 1\n".to_vec(),
+    ]);
+    files.push([vec![1, 3], vec![255; 300], vec![4, 4, 1, 255]].concat());
+    for bytes in files {
+        let text = printed(&["disassemble", "-"], &bytes, 0);
+        assert_eq!(workbench(&["assemble", "-"], text.as_bytes()).stdout, bytes, "{text}");
+    }
+}
+
+#[test]
+fn bytes_that_are_no_record_are_shown_with_their_offset() {
+    let text = printed(&["disassemble", "-"], &[1, 3, 2, 2, 1, 3, 9, 1, 2, 0, 5, 1, 1, 0, 7, 2, 4, 4, 1], 0);
+    let lines: Vec<String> = text.lines().map(|line| line.split_whitespace().collect::<Vec<_>>().join(" ")).collect();
+    let wanted = [
+        "version 1",
+        "controllers 3",
+        "",
+        "sync 1 # record 1, offset 2",
+        "bytes 03 09 01 02 # record 2, offset 5: no kind has the number 9",
+        "bytes 00 # record 3, offset 9: the length is 0, and so there is no kind",
+        "report 1 +7 class 2 # record 4, offset 10: a report of version 1 has length 4, and this one 5",
+        "bytes 04 04 01 # record 5, offset 16: the length byte counts 4 bytes, and 2 are there",
+    ];
+    assert_eq!(lines, wanted);
+}
+
+#[test]
+fn a_text_with_every_line_is_assembled() {
+    let lines = "# all\r\nversion 2\r\n\tcontrollers 5\n\nreport 4 +30 class 2\nreport 4 -2 class S # taken back\nreport 1 360\nsync 3\n\
+        hand 1<-4 4 4\nstop 4 keep 4\nread 2\nwrite 1 register 3=1500\nexpect 2 867 30\nbytes 0309 01 02\nbytes\n";
+    let records = "0502 050104001E02 050104FFFE04 0401010168 020203 03030104 03030104 03030104 0404040004 020502 07060103000005DC 03090102";
+    let digits: Vec<u8> = records.replace(' ', "").chars().map(|c| c.to_digit(16).unwrap() as u8).collect();
+    let mut wanted: Vec<u8> = digits.chunks(2).map(|pair| pair[0] * 16 + pair[1]).collect();
+    wanted.swap(0, 1);
+    assert_eq!(workbench(&["assemble", "-"], lines.as_bytes()).stdout, wanted);
+}
+
+#[test]
+fn mistakes_have_a_file_a_line_and_a_column() {
+    let head = "version 1\ncontrollers 3\n";
+    let after_head = [
+        ("synk 1", "3:1: no line begins with `synk`"),
+        ("sync", "3:5: the sender is missing"),
+        ("sync 256", "3:6: `256` stands where the sender belongs, a number from 0 to 255"),
+        ("sync 1 2", "3:8: `2` is more than belongs here"),
+        ("  report 1 40000", "3:12: `40000` stands where the amount belongs, a number from -32768 to 32767"),
+        ("report 1 +5 klass 2", "3:13: `klass` stands where `class` belongs"),
+        ("report 1 +5 class XXL", "3:19: `XXL` stands where the class, XL, L, M, S or"),
+        ("hand 1 <-", "3:10: the owner of a log is missing"),
+        ("hand 1 <- 2 x 3", "3:13: `x` stands where the owner of a log belongs"),
+        ("hand 1 - 2", "3:8: `-` stands where `<-` belongs"),
+        ("stop 1 4", "3:8: `4` stands where `keep` belongs"),
+        ("stop 1 keep 65536", "3:13: `65536` stands where how many entries are kept"),
+        ("write 1 register 3 1500", "3:20: `1500` stands where `=` belongs"),
+        ("write 1 register 3 = 4294967296", "3:22: `4294967296` stands where the value belongs"),
+        ("expect 1 30", "3:12: what was withdrawn is missing"),
+        ("bytes 0g", "3:7: `0g` stands where bytes belong"),
+        ("bytes 1 2", "3:7: `1` stands where bytes belong"),
+        ("version 1", "3:1: `version` stands where an event belongs"),
+        ("# \u{e9}\n\u{e9} 1", "4:1: no line begins with `\u{e9}`"),
+    ];
+    for (line, wanted) in after_head {
+        let found = complaint(&["run", "--text", "-"], format!("{head}{line}\n").as_bytes());
+        assert!(found.starts_with(&format!("standard input:{wanted}")), "{line}: {found}");
+        assert_eq!(found.lines().count(), 1, "{line}: {found}");
+    }
+    let heads = [
+        ("", "1:1: the text ends before `version 1` or `version 2`"),
+        ("version 1", "2:1: the text ends before `controllers` and how many there are"),
+        ("controllers 3", "1:1: `controllers` stands where `version 1` or `version 2` belongs"),
+        ("version 1\nsync 1", "2:1: `sync` stands where `controllers` and how many there are belongs"),
+    ];
+    for (text, wanted) in heads {
+        assert_eq!(complaint(&["assemble", "-"], text.as_bytes()), format!("standard input:{wanted}\n"));
+    }
+    assert_eq!(
+        complaint(&["assemble", "-"], b"version 1\n# \xC3\xA9 \xFF"),
+        "standard input:2:5: a text is written in UTF-8, and this byte is not\n"
+    );
+    let both = complaint(&["assemble", "-"], b"version 1\ncontrollers 3\nsync\nread");
+    assert_eq!(both.lines().count(), 2, "{both}");
+}
+
+#[test]
+fn an_expectation_that_fails_is_named_and_fails_the_run() {
+    let lines = "version 1\ncontrollers 1\nreport 1 +5\n  expect 1 5 0\nhand 1 <- 1\nexpect 1 5 0\nexpect 2 0 0\n";
+    let report = printed(&["run", "-"], lines.as_bytes(), 1);
+    for wanted in [
+        "standard input:4:3: FAILED: expected 1 5 0, and panel 1 shows 0 0\n",
+        "expect 1 5 0: so it is\n",
+        "standard input:7:1: FAILED: expected 2 0 0, and panel 2 is refused with 8: Is every controller named from 1 to n?\n",
+        "2 events accepted; of 3 expectations, 1 held, 2 failed\n",
+    ] {
+        assert!(report.contains(wanted), "{report}");
+    }
+    let report = printed(&["run", "-"], b"version 1\ncontrollers 1\nread 2\nexpect 1 0 0\n", 1);
+    assert!(report.contains("0 events accepted; of 1 expectation, 0 held, 1 not reached\n"), "{report}");
+}
+
+/// The part of a report that is about its refusal.
+fn refusal(report: &str) -> Vec<&str> {
+    let lines = report.lines().skip_while(|line| !line.contains(" is refused with "));
+    lines.take_while(|line| !line.ends_with(" accepted")).collect()
+}
+
+#[test]
+fn a_refusal_has_its_place_and_the_fact_behind_it() {
+    let report = printed(
+        &["run", "-"],
+        b"version 1\ncontrollers 4\nreport 1 +5\nreport 1 +6\nreport 1 +7\nhand 4 <- 1 1 1 1\n",
+        1,
+    );
+    let wanted = [
+        "record 7 is refused with 13: Does the log have an entry that the receiver has not read?",
+        "    because  controller 4 has read all 3 entries of log 1",
+        "    event    hand 4 <- 1",
+        "    offset   29",
+        "    bytes    03 03 04 01",
+        "    text     standard input:6:17",
+    ];
+    assert_eq!(refusal(&report), wanted);
+}
+
+#[test]
+fn each_refusal_says_its_fact() {
+    let head = "version 1\ncontrollers 3\n";
+    let facts = [
+        ("bytes 04 01 01", 5, "the length byte counts 4 bytes, and 2 are there"),
+        ("bytes 00", 6, "the length is 0, and so there is no kind"),
+        ("bytes 01 07", 6, "no kind has the number 7"),
+        ("report 1 +5 class 1", 7, "a report of version 1 has length 4, and this one 5"),
+        ("hand 1 <- 4", 8, "the run has controllers 1 to 3, and none is 4"),
+        ("sync 0", 8, "the run has controllers 1 to 3, and none is 0"),
+        ("report 1 -361", 9, "the amount is -361"),
+        ("stop 2 keep 0\nread 2", 10, "controller 2 stopped at event 1"),
+        ("report 1 +5\nreport 1 +5\nsync 1", 11, "1.1 and 1.2 of its own are pending at controller 1"),
+        ("hand 1 <- 2", 13, "log 2 has no entries"),
+        ("report 1 +5\nhand 2 <- 1 1", 13, "controller 2 has read the one entry of log 1"),
+        ("report 1 +5\nstop 1 keep 2", 14, "log 1 has 1 entry, and 2 are to be kept"),
+        ("report 1 +5\nhand 3 <- 1\nstop 1 keep 0", 14, "controller 3 has read 1 entry of log 1, and 0 are to be kept"),
+        ("report 1 +5\nread 1", 18, "1.1 of its own is pending at controller 1"),
+        ("write 1 register 9 = 5", 19, "the register is 9"),
+        ("write 1 register 1 = 5", 20, "controller 1 has sent nothing"),
+        (
+            "report 1 +5\nhand 2 <- 1\nhand 1 <- 2\nwrite 1 register 1 = 5",
+            20,
+            "the latest message of controller 1 is 1.1 (+5)",
+        ),
+    ];
+    for (lines, number, fact) in facts {
+        let report = printed(&["run", "-"], format!("{head}{lines}\n").as_bytes(), 1);
+        let found = refusal(&report);
+        assert!(found[0].contains(&format!(" is refused with {number}: ")), "{report}");
+        assert_eq!(found[1], format!("    because  {fact}"));
+    }
+    let in_version_2 = [
+        ("report 1 +5", 7, "a report of version 2 has length 5, and this one 4"),
+        ("report 1 0 class 1", 9, "the amount is 0"),
+        ("report 1 1 class 5", 17, "the class is 5"),
+    ];
+    for (line, number, fact) in in_version_2 {
+        let report = printed(&["run", "-"], format!("version 2\ncontrollers 3\n{line}\n").as_bytes(), 1);
+        assert!(refusal(&report)[0].contains(&format!(" is refused with {number}: ")), "{report}");
+        assert_eq!(refusal(&report)[1], format!("    because  {fact}"));
+    }
+    let full = format!("{head}{}", "report 1 +1\n".repeat(65));
+    assert_eq!(refusal(&printed(&["run", "-"], full.as_bytes(), 1))[1], "    because  the run has 64 messages");
+    for (bytes, number, fact) in [
+        (vec![1], 1, "the file has 1 byte"),
+        (vec![1; 65_536], 1, "the file has 65536 bytes"),
+        (vec![3, 3], 2, "byte 0, the version, is 3"),
+        (vec![1, 8], 3, "byte 1, the number of controllers, is 8"),
+    ] {
+        let report = printed(&["run", "--bytes", "-"], &bytes, 1);
+        assert!(report.starts_with(&format!("standard input is refused with {number}: ")), "{report}");
+        assert_eq!(refusal(&report)[1], format!("    because  {fact}"));
+    }
+}
+
+#[test]
+fn why_asks_for_a_message_and_a_panel_that_are_there() {
+    let sample = "samples/worked.txt";
+    let wanted = [
+        (vec!["why", sample, "2.1", "1"], "2.1 was not sent in 11 events; sent were 1.1 and 3.1\n"),
+        (vec!["why", sample, "3.1", "1", "--after", "4"], "3.1 was not sent in 4 events; sent were 1.1\n"),
+        (vec!["why", sample, "3", "1"], "`3` names no message, as 3.1 does\n"),
+        (vec!["why", sample, "3.1", "4"], "panel 4 is refused with 8: Is every controller named from 1 to n?\n"),
+        (vec!["why", sample, "3.1", "1", "--after", "12"], "event 12 is not reached: 11 were accepted\n"),
+    ];
+    for (words, wanted) in wanted {
+        assert_eq!(complaint(&words, b""), wanted);
+    }
+    let refused = workbench(&["why", "-", "1.1", "1"], b"version 1\ncontrollers 1\nreport 1 +5\nread 1\n");
+    assert_eq!(refused.status.code(), Some(1));
+    assert!(text(&refused.stdout).contains("record 2 is refused with 18: "));
+}
+
+#[test]
+fn every_command_has_help_and_complains_of_what_it_does_not_know() {
+    for command in ["assemble", "disassemble", "run", "why", "draw"] {
+        assert!(printed(&[command, "--help"], b"", 0).starts_with(&format!("workbench {command} ")));
+        assert!(printed(&["--help"], b"", 0).contains(&format!("    workbench {command} ")));
+        assert!(complaint(&[command, "--loud"], b"").contains("there is no option --loud"));
+        assert!(complaint(&[command], b"").starts_with(&format!("workbench {command}: ")));
+        let more: &[&str] = if command == "why" { &["1.1", "1"] } else { &[] };
+        let missing = complaint(&[&[command, "no/such.file"], more].concat(), b"");
+        assert!(missing.starts_with("no/such.file: "), "{missing}");
+    }
+    assert!(complaint(&["shout"], b"").starts_with("workbench: there is no command shout"));
+    assert!(complaint(&["assemble", "samples/worked.txt", "-o", "no/such.file"], b"").starts_with("no/such.file: "));
+}
+
+/// The longest run files: local reads, handovers between seven controllers, and bytes that are no records.
+fn longest() -> [Vec<u8>; 3] {
+    let mut handovers = vec![1, 7];
+    for message in 0..9 {
+        handovers.extend([4, 1, message % 7 + 1, 0, 1]);
+    }
+    let reads = [vec![2, 7], [2, 5, 3].repeat(21_844)].concat();
+    for round in 0..400 {
+        let (receiver, owner) = (round % 7 + 1, round / 7 % 7 + 1);
+        handovers.extend([2, 5, receiver as u8, 3, 3, receiver as u8, owner as u8]);
+    }
+    let zeros = [vec![1, 7], vec![0; 65_533]].concat();
+    handovers.resize(65_535, 0);
+    [reads, handovers, zeros]
+}
+
+#[test]
+fn the_longest_files_take_well_below_a_second() {
+    for bytes in longest() {
+        let mut text = vec![];
+        for words in [
+            &["disassemble", "-"][..],
+            &["run", "--bytes", "-"],
+            &["draw", "--bytes", "-"],
+            &["why", "--bytes", "-", "1.1", "1"],
+        ] {
+            let start = Instant::now();
+            let output = workbench(words, &bytes);
+            assert!(start.elapsed() < Duration::from_secs(1), "{words:?} took {:?}", start.elapsed());
+            if words[0] == "disassemble" {
+                text = output.stdout;
+            }
+        }
+        let start = Instant::now();
+        assert_eq!(workbench(&["assemble", "-"], &text).stdout, bytes);
+        assert!(start.elapsed() < Duration::from_secs(1), "assemble took {:?}", start.elapsed());
+    }
+}
