@@ -1,9 +1,12 @@
 //! The picture of a run, as an SVG: a line for each controller, and events from left to right.
 //!
-//! Every event has a column. As many columns as fit make a band, and the next band stands below it, as staves of music do.
+//! Every event has a column. As many columns as fit make a band, and the bands stand below each other, as staves do.
 
 use crate::play::{actor, pending, Applied, Checked, Effect, Heard, Play, Refused, Step};
-use crate::svg::*;
+use crate::svg::{
+    class, height_of, shorten, width_of, wrap, Canvas, Line, BOLD, DARK, FAINT, LEFT, LEFT_SMALL, LEGEND, LIGHT, PLAIN,
+    SHOWN, SMALL, TITLE,
+};
 use furnacejade::{look, Class, Name, Panel, Payload, Record, Register, Sums, CONTROLLERS};
 use std::collections::{BTreeSet, HashMap};
 
@@ -12,6 +15,8 @@ const BAND_WIDTH: i32 = 1_200;
 /// A picture is at least so wide, for its title and its legend.
 const LEAST_WIDTH: i32 = 760;
 const MARGIN: i32 = 16;
+/// What is between heading, legend and notes.
+const GAP: i32 = 8;
 /// Where lanes begin: the names of the controllers stand left of it.
 const LANES: i32 = 114;
 const COLUMN_GAP: i32 = 14;
@@ -42,7 +47,7 @@ const BYTES: usize = 24;
 const FEW: usize = 4;
 /// So many characters of a title are shown, and of a line of facts.
 const TITLE_LENGTH: usize = 100;
-const FACTS: usize = 24;
+const FACTS: usize = 20;
 
 /// The picture of what became of a run file.
 pub fn svg(title: &str, play: &Play) -> String {
@@ -95,7 +100,7 @@ enum Shape {
 
 impl Shape {
     fn boxed(class: &'static str, lines: Vec<Line>) -> Shape {
-        let width = width(&lines) + 2 * PADDING;
+        let width = width_of(&lines) + 2 * PADDING;
         Shape::Box { class, lines, width }
     }
 
@@ -114,7 +119,7 @@ impl Shape {
             Shape::Entry { radius, .. } => *radius,
             Shape::Ring => 8,
             Shape::Octagon | Shape::Verdict(_) => 9,
-            Shape::Box { lines, .. } => height(lines) / 2 + 3,
+            Shape::Box { lines, .. } => height_of(lines) / 2 + 3,
         }
     }
 
@@ -124,30 +129,32 @@ impl Shape {
             Shape::Bare => {}
             Shape::Entry { kind, place, .. } => {
                 match *kind {
-                    Payload::SYNC => canvas
-                        .path("y", &format!("M{x} {}l{reach} {reach}l-{reach} {reach}l-{reach}-{reach}z", y - reach)),
-                    Payload::WRITE => canvas.rectangle("w", (x, y), (2 * reach, 2 * reach)),
-                    _ => canvas.circle("r", (x, y), reach),
+                    Payload::SYNC => {
+                        let (r, top) = (reach, y - reach);
+                        canvas.path(class::SYNC, &format!("M{x} {top}l{r} {r}l-{r} {r}l-{r}-{r}z"));
+                    }
+                    Payload::WRITE => canvas.rectangle(class::WRITE, (x, y), (2 * reach, 2 * reach)),
+                    _ => canvas.circle(class::REPORT, (x, y), reach),
                 }
                 let style = if *kind == Payload::REPORT { LIGHT } else { DARK };
                 canvas.text(x, y + 4, &Line::new(style, place));
             }
-            Shape::Ring => canvas.circle("c", (x, y), 6),
+            Shape::Ring => canvas.circle(class::LOCAL_READ, (x, y), 6),
             Shape::Octagon => {
-                canvas.path("q", &format!("M{} {}h8l5 5v8l-5 5h-8l-5-5v-8z", x - 4, y - 9));
-                canvas.path("g", &format!("M{} {}l6 6m0-6l-6 6", x - 3, y - 3));
+                canvas.path(class::STOP, &format!("M{} {}h8l5 5v8l-5 5h-8l-5-5v-8z", x - 4, y - 9));
+                canvas.path(class::STOP_CROSS, &format!("M{} {}l6 6m0-6l-6 6", x - 3, y - 3));
             }
             Shape::Verdict(true) => {
-                canvas.circle("u", (x, y), 8);
-                canvas.path("u", &format!("M{} {y}l3 3l5-6", x - 4));
+                canvas.circle(class::HELD, (x, y), 8);
+                canvas.path(class::HELD, &format!("M{} {y}l3 3l5-6", x - 4));
             }
             Shape::Verdict(false) => {
-                canvas.circle("z", (x, y), 8);
-                canvas.path("z", &format!("M{} {}l6 6m0-6l-6 6", x - 3, y - 3));
+                canvas.circle(class::FAILED, (x, y), 8);
+                canvas.path(class::FAILED, &format!("M{} {}l6 6m0-6l-6 6", x - 3, y - 3));
             }
             Shape::Box { class, lines, width } => {
                 canvas.rectangle(class, (x, y), (*width, 2 * reach));
-                canvas.lines(x, y - height(lines) / 2, lines);
+                canvas.lines(x, y - height_of(lines) / 2, lines);
             }
         }
     }
@@ -171,19 +178,19 @@ impl Mark {
 
     fn width(&self) -> i32 {
         let side = if self.lift > 0 { LOOP_SIDE } else { 0 };
-        (self.shape.width() + 2 * side).max(width(&self.above)).max(width(&self.below))
+        (self.shape.width() + 2 * side).max(width_of(&self.above)).max(width_of(&self.below))
     }
 
     /// How far it goes above its lane, and below.
     fn reach(&self) -> (i32, i32) {
         let reach = self.shape.reach();
-        (reach + self.lift + height(&self.above) + 3, reach + height(&self.below) + 3)
+        (reach + self.lift + height_of(&self.above) + 3, reach + height_of(&self.below) + 3)
     }
 
     fn draw(&self, canvas: &mut Canvas, (x, y): (i32, i32)) {
         let reach = self.shape.reach();
         self.shape.draw(canvas, (x, y));
-        canvas.lines(x, y - reach - self.lift - height(&self.above), &self.above);
+        canvas.lines(x, y - reach - self.lift - height_of(&self.above), &self.above);
         canvas.lines(x, y + reach + 3, &self.below);
     }
 }
@@ -245,7 +252,7 @@ impl Column {
     fn draw(&self, canvas: &mut Canvas, x: i32, lanes: &[i32]) {
         canvas.open(&self.title);
         if let (true, Some(first), Some(last)) = (self.across, lanes.first(), lanes.last()) {
-            canvas.path("z", &format!("M{x} {}V{}", first - LEAST_REACH, last + LEAST_REACH));
+            canvas.path(class::FAILED, &format!("M{x} {}V{}", first - LEAST_REACH, last + LEAST_REACH));
         }
         if let (Some(arrow), Some(mark)) = (&self.arrow, self.marks.first()) {
             arrow.draw(canvas, mark, x, lanes);
@@ -338,7 +345,7 @@ impl<'a> Picture<'a> {
         };
         if let Some(applied) = &step.applied {
             self.signs.insert(Sign::Set);
-            mark.shape = Shape::boxed("t", self.set(c, applied));
+            mark.shape = Shape::boxed(class::SET, self.set(c, applied));
         }
         let title = format!("event {}: {}", step.number, self.words(step));
         let mut column = Column::new(step.number, title, vec![mark]);
@@ -385,7 +392,7 @@ impl<'a> Picture<'a> {
             Heard::Passed => (Sign::Passed, Shape::Bare),
         };
         self.signs.insert(sign);
-        let (class, style) = if sign == Sign::Passed { ("o", FAINT) } else { ("a", PLAIN) };
+        let (class, style) = if sign == Sign::Passed { (class::PASSED, FAINT) } else { (class::ARROW, PLAIN) };
         let (mut mark, name_line) = (Mark::new(reader, shape), Line::new(style, name));
         if sign != Sign::Passed {
             self.signs.insert(Sign::Marks);
@@ -409,7 +416,7 @@ impl<'a> Picture<'a> {
         for (what, names) in [("cut off:", own), ("entries lost:", others)] {
             if !names.is_empty() {
                 let words = [what.to_string()].into_iter().chain(names.iter().map(Name::to_string));
-                mark.below.extend(wrap(words, FACTS).into_iter().map(|line| Line::new(SMALL, line)));
+                mark.below.extend(wrap(words, FACTS + lost.len() / 2).into_iter().map(|line| Line::new(SMALL, line)));
             }
         }
         mark
@@ -512,7 +519,7 @@ impl<'a> Picture<'a> {
         let concerned = Record::from_bytes(refused.bytes).map(|record| actor(record) as usize);
         let concerned = concerned.filter(|c| (1..=n).contains(c));
         let lines = vec![Line::new(PLAIN, "refused"), Line::new(BOLD, refused.number.number())];
-        let mark = Mark::new(concerned.unwrap_or(n.div_ceil(2)), Shape::boxed("x", lines));
+        let mark = Mark::new(concerned.unwrap_or(n.div_ceil(2)), Shape::boxed(class::REFUSED, lines));
         let title = format!("record {number} is refused by question {}: {}", refused.number.number(), refused.number);
         let mut column = Column::new(number, title, vec![mark]);
         column.across = concerned.is_none();
@@ -531,9 +538,10 @@ impl<'a> Picture<'a> {
         let right = left + slack;
         let top = self.height + HEAD;
         let (lanes, bottom) = self.lanes(&columns, top);
-        let guides = columns.iter().zip(&middles).filter(|(column, _)| !column.head.is_empty());
+        let events = columns.len() - usize::from(last);
+        let guides = columns[..events].iter().zip(&middles).filter(|(column, _)| !column.head.is_empty());
         let guides: String = guides.map(|(_, x)| format!("M{x} {top}V{bottom}")).collect();
-        self.bands.path("v", &guides);
+        self.bands.path(class::GUIDE, &guides);
         for (c, y) in (1..).zip(&lanes) {
             let stop = columns.iter().position(|column| column.stops(c)).map(|column| middles[column]);
             let end = if last { *middles.last().unwrap_or(&right) } else { right };
@@ -579,46 +587,51 @@ impl<'a> Picture<'a> {
         }
         let runs = if stopped { LANES } else { stop.unwrap_or(end) };
         if runs > LANES {
-            self.bands.path("l", &format!("M{LANES} {y}H{runs}"));
+            self.bands.path(class::LANE, &format!("M{LANES} {y}H{runs}"));
         }
         if runs < end {
-            self.bands.path("d", &format!("M{runs} {y}H{end}"));
+            self.bands.path(class::STOPPED_LANE, &format!("M{runs} {y}H{end}"));
         }
     }
 
     /// The whole picture: title, legend, bands and notes.
     fn finish(mut self, title: &str) -> String {
         let Play { table, steps, refused, .. } = self.play;
-        let mut canvas = Canvas::default();
-        let mut lines = vec![Line::new(TITLE, shorten(title, TITLE_LENGTH))];
-        let mut height = MARGIN;
         if let Some(refused) = refused {
             self.notes.splice(0..0, refusal(refused, steps.len() + 1, table.n > 0));
         }
-        self.width = self.width.max(width(&self.notes) + 2 * MARGIN);
-        if table.n > 0 {
-            let (n, m) = (table.n, self.play.majority());
-            let (controllers, events) = (counted(n, "controller"), counted(steps.len(), "event"));
-            let facts = format!("version {}, {controllers}, majority {m}, {events}", table.version);
-            let rule = format!("A panel applies a set once its controller has each message in it from {m} of {n} logs, and {m} of {n} have it before whatever stays behind.");
+        let (mut canvas, heading) = (Canvas::default(), self.heading(title));
+        self.width = self.width.max(width_of(&self.notes).max(width_of(&heading)) + 2 * MARGIN);
+        canvas.lines(MARGIN, MARGIN, &heading);
+        let mut height = self.legend(&mut canvas, MARGIN + height_of(&heading) + GAP);
+        canvas.place(&self.bands, height);
+        height += (self.height - BAND_GAP + GAP).max(0);
+        canvas.lines(MARGIN, height, &self.notes);
+        height += height_of(&self.notes) + MARGIN;
+        canvas.picture(title, self.width, height)
+    }
+
+    /// The title, and what holds for the whole run.
+    fn heading(&self, title: &str) -> Vec<Line> {
+        let mut lines = vec![Line::new(TITLE, shorten(title, TITLE_LENGTH))];
+        let (n, m, version) = (self.play.table.n, self.play.majority(), self.play.table.version);
+        if n > 0 {
+            let (controllers, events) = (counted(n, "controller"), counted(self.play.steps.len(), "event"));
+            let facts = format!("version {version}, {controllers}, majority {m}, {events}");
+            let rule = format!(
+                "A panel applies a set once its controller has each message in it from {m} of {n} logs, \
+                 and {m} of {n} have it before whatever stays behind."
+            );
             lines.extend([Line::new(LEFT, facts), Line::new(LEFT_SMALL, rule)]);
         }
-        self.width = self.width.max(width(&lines) + 2 * MARGIN);
-        canvas.lines(MARGIN, height, &lines);
-        height += crate::svg::height(&lines) + 8;
-        height = self.legend(&mut canvas, height);
-        canvas.place(&self.bands, height);
-        height += (self.height - BAND_GAP + 8).max(0);
-        canvas.lines(MARGIN, height, &self.notes);
-        height += crate::svg::height(&self.notes) + MARGIN;
-        canvas.picture(title, self.width, height)
+        lines
     }
 
     /// What the signs mean that stand in the picture, in rows; answers where they end.
     fn legend(&self, canvas: &mut Canvas, top: i32) -> i32 {
         let (n, mut x, mut y) = (self.play.table.n, MARGIN, top + 10);
         for sign in &self.signs {
-            let (sample, line) = (sign.width(n), Line::new(LEFT_SMALL, sign.meaning(n)));
+            let (sample, line) = (sign.width(n), Line::new(LEGEND, sign.meaning(n)));
             let width = sample + 6 + line.width();
             if x > MARGIN && x + width > self.width - MARGIN {
                 (x, y) = (MARGIN, y + LEGEND_ROW);
@@ -644,13 +657,13 @@ impl Sign {
             Sign::Forwarded => "handover: joins the reader's log",
             Sign::Marked => "handover: pending there already",
             Sign::Passed => "handover: applied there already",
-            Sign::Marks if n <= FEW => "its places in the logs, from 1 on, as far as the reader has them",
+            Sign::Marks if n <= FEW => "its place in log 1, log 2, and so on, as far as the reader has it",
             Sign::Marks => "the logs that the reader has it from",
             Sign::Set => "set applied, and what the panel then shows",
             Sign::Stop => "stop",
             Sign::Held => "as expected",
             Sign::Failed => "not as expected",
-            Sign::Refused => "refused, by this question",
+            Sign::Refused => "refused, with the number of the question",
         }
     }
 
@@ -661,19 +674,19 @@ impl Sign {
             Sign::Sync => entry(Payload::SYNC),
             Sign::Write => entry(Payload::WRITE),
             Sign::LocalRead => Shape::Ring,
-            Sign::Set => Shape::boxed("t", vec![Line::new(PLAIN, "1.1")]),
+            Sign::Set => Shape::boxed(class::SET, vec![Line::new(PLAIN, "1.1")]),
             Sign::Stop => Shape::Octagon,
             Sign::Held => Shape::Verdict(true),
             Sign::Failed => Shape::Verdict(false),
-            Sign::Refused => Shape::boxed("x", vec![Line::new(BOLD, "9")]),
+            Sign::Refused => Shape::boxed(class::REFUSED, vec![Line::new(BOLD, "9")]),
             Sign::Marked | Sign::Passed | Sign::Marks => Shape::Bare,
         }
     }
 
-    /// Marks as an example: all logs but the first have it, each later than the next.
+    /// Marks as an example: some logs behind the first have it.
     fn marks(n: usize) -> Line {
-        let places: Vec<usize> = (1..=n).map(|c| if c == 1 && n > 1 { 0 } else { n + 1 - c }).collect();
-        Line::new(LEFT_SMALL, marks_text(&places))
+        let place = |c| if (c == 1 && n > 1) || c > FEW { 0 } else { n + 1 - c };
+        Line::new(LEFT_SMALL, marks_text(&(1..=n).map(place).collect::<Vec<usize>>()))
     }
 
     fn width(self, n: usize) -> i32 {
@@ -690,11 +703,11 @@ impl Sign {
         let arrow = format!("M{} {y}h{}", x + 3, SAMPLE_ARROW - 3);
         match self {
             Sign::Forwarded => {
-                canvas.path("a", &arrow);
+                canvas.path(class::ARROW, &arrow);
                 self.shape().draw(canvas, (x + SAMPLE_ARROW + FORWARDED, y));
             }
-            Sign::Marked => canvas.path("a", &arrow),
-            Sign::Passed => canvas.path("o", &arrow),
+            Sign::Marked => canvas.path(class::ARROW, &arrow),
+            Sign::Passed => canvas.path(class::PASSED, &arrow),
             Sign::Marks => canvas.text(x, y + 4, &Sign::marks(n)),
             _ => self.shape().draw(canvas, (x + self.width(n) / 2, y)),
         }
@@ -715,7 +728,7 @@ fn end(play: &Play) -> Vec<Mark> {
 }
 
 fn end_of(play: &Play, c: usize, panel: &Panel) -> Mark {
-    let mut mark = Mark::new(c, Shape::boxed("i", vec![Line::new(SHOWN, both(panel.sums))]));
+    let mut mark = Mark::new(c, Shape::boxed(class::PANEL, vec![Line::new(SHOWN, both(panel.sums))]));
     let classes = Class::ALL.iter().filter_map(|class| Some((class, panel.of(*class)?)));
     let classes =
         classes.filter(|(_, sums)| *sums != Sums::BLANK).map(|(class, sums)| format!("{class} {}", both(sums)));
@@ -764,12 +777,13 @@ fn both(sums: Sums) -> String {
     format!("+{} −{}", sums.added, sums.withdrawn)
 }
 
-/// Marks: places where there are few controllers, else the controllers that have one; a dash for each that has none.
+/// Marks: of few controllers the place in each log, a dash where there is none; of more the logs that have one.
 fn marks_text(marks: &[usize]) -> String {
     let few = marks.len() <= FEW;
-    let signs = (1..).zip(marks).map(|(c, place)| match place {
-        0 => "-".to_string(),
-        _ => (if few { *place } else { c }).to_string(),
+    let signs = (1..).zip(marks).filter_map(|(log, place)| match place {
+        0 => few.then(|| "-".to_string()),
+        _ if few => Some(place.to_string()),
+        _ => Some(format!("{log}")),
     });
-    signs.collect::<Vec<String>>().join(if few { " " } else { "" })
+    signs.collect::<Vec<String>>().join(if few { " " } else { "," })
 }

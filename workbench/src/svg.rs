@@ -17,9 +17,29 @@ const CREAM: &str = "#FFF6DF";
 const BLUSH: &str = "#FDEBDF";
 const INK: &str = "#333";
 const GREY: &str = "#666";
-const LANE: &str = "#999";
+const DIM: &str = "#888";
 const PALE: &str = "#BBB";
-const GUIDE: &str = "#EEE";
+const MIST: &str = "#EEE";
+
+/// What shapes and lines are called in the style sheet: a letter each, as there may be thousands of them.
+pub mod class {
+    pub const LANE: &str = "l";
+    pub const STOPPED_LANE: &str = "d";
+    pub const GUIDE: &str = "v";
+    pub const ARROW: &str = "a";
+    pub const PASSED: &str = "o";
+    pub const REPORT: &str = "r";
+    pub const SYNC: &str = "y";
+    pub const WRITE: &str = "w";
+    pub const LOCAL_READ: &str = "c";
+    pub const STOP: &str = "q";
+    pub const STOP_CROSS: &str = "g";
+    pub const SET: &str = "t";
+    pub const PANEL: &str = "i";
+    pub const REFUSED: &str = "x";
+    pub const HELD: &str = "u";
+    pub const FAILED: &str = "z";
+}
 
 /// How a line of text is set: the class of its element, the size of its font, and the height that it takes.
 #[derive(Clone, Copy, Debug)]
@@ -32,6 +52,7 @@ pub struct Style {
 pub const TITLE: Style = Style { class: "f h", size: 16, height: 22 };
 pub const LEFT: Style = Style { class: "f", size: 12, height: 17 };
 pub const LEFT_SMALL: Style = Style { class: "f s", size: 10, height: 14 };
+pub const LEGEND: Style = Style { class: "f k", size: 10, height: 14 };
 pub const PLAIN: Style = Style { class: "", size: 12, height: 14 };
 pub const BOLD: Style = Style { class: "b", size: 12, height: 14 };
 pub const FAINT: Style = Style { class: "p", size: 12, height: 14 };
@@ -59,12 +80,12 @@ impl Line {
 }
 
 /// The width of the widest line.
-pub fn width(lines: &[Line]) -> i32 {
+pub fn width_of(lines: &[Line]) -> i32 {
     lines.iter().map(Line::width).max().unwrap_or(0)
 }
 
 /// The height of all lines.
-pub fn height(lines: &[Line]) -> i32 {
+pub fn height_of(lines: &[Line]) -> i32 {
     lines.iter().map(|line| line.style.height).sum()
 }
 
@@ -101,7 +122,7 @@ pub fn escape(text: &str) -> String {
             '>' => escaped.push_str("&gt;"),
             '"' => escaped.push_str("&quot;"),
             '\t' | '\n' | '\r' => escaped.push(' '),
-            '\0'..='\x1F' | '\u{FFFE}' | '\u{FFFF}' => escaped.push('\u{FFFD}'),
+            _ if c.is_control() || "\u{FFFE}\u{FFFF}".contains(c) => escaped.push('\u{FFFD}'),
             _ => escaped.push(c),
         }
     }
@@ -178,7 +199,7 @@ fn class_of(class: &str) -> String {
     }
 }
 
-/// The heads of arrows, and the dots at which they begin, in both colours.
+/// The heads of arrows in two colours, and the dot at which one begins.
 const MARKERS: &str = "<defs>\
     <marker id=\"h\" refX=\"8\" refY=\"4\" markerWidth=\"8\" markerHeight=\"8\" markerUnits=\"userSpaceOnUse\" \
     orient=\"auto\"><path class=\"i\" d=\"M0 0L8 4L0 8z\"/></marker>\
@@ -190,22 +211,25 @@ const MARKERS: &str = "<defs>\
 
 /// What each class looks like.
 fn style() -> String {
+    use class::*;
     format!(
-        "text{{font:12px \"DejaVu Sans Mono\",Menlo,Consolas,\"Liberation Mono\",monospace;text-anchor:middle;\
-         fill:{BLACK};white-space:pre}}
+        "text{{font:12px \"DejaVu Sans Mono\",Menlo,Consolas,\"Liberation Mono\",monospace;text-anchor:middle}}
 path{{fill:none}}
 .f{{text-anchor:start}}.h{{font-size:16px;font-weight:bold}}.b{{font-weight:bold}}.p{{fill:{GREY}}}
 .s{{font-size:10px;fill:{GREY}}}.e{{font-size:10px;fill:{WHITE}}}.k{{font-size:10px}}
 .n{{font-size:13px;font-weight:bold;fill:{WHITE}}}
-.l{{stroke:{LANE};stroke-width:2}}.d{{stroke:{PALE};stroke-width:2;stroke-dasharray:2 5}}
-.v{{stroke:{GUIDE}}}
-.a{{stroke:{INK};stroke-width:1.5;marker-start:url(#j);marker-end:url(#h)}}
-.o{{stroke:{GREY};stroke-dasharray:4 3;marker-end:url(#i)}}
-.r{{fill:{BLUE}}}.y{{fill:{GREEN}}}.w{{fill:{PURPLE}}}
-.c{{fill:{WHITE};stroke:{SKY};stroke-width:4}}.q{{fill:{BLACK}}}
-.t{{fill:{CREAM};stroke:{ORANGE};stroke-width:1.5}}.i{{fill:{INK}}}
-.x{{fill:{BLUSH};stroke:{VERMILLION};stroke-width:2.5}}.z{{fill:{WHITE};stroke:{VERMILLION};stroke-width:2.5}}
-.u{{fill:{WHITE};stroke:{GREEN};stroke-width:2}}.g{{stroke:{WHITE};stroke-width:2}}
+.{LANE}{{stroke:{DIM};stroke-width:2}}
+.{STOPPED_LANE}{{stroke:{PALE};stroke-width:2;stroke-dasharray:2 5}}
+.{GUIDE}{{stroke:{MIST}}}
+.{ARROW}{{stroke:{INK};stroke-width:1.5;marker-start:url(#j);marker-end:url(#h)}}
+.{PASSED}{{stroke:{GREY};stroke-dasharray:4 3;marker-end:url(#i)}}
+.{REPORT}{{fill:{BLUE}}}.{SYNC}{{fill:{GREEN}}}.{WRITE}{{fill:{PURPLE}}}
+.{LOCAL_READ}{{fill:{WHITE};stroke:{SKY};stroke-width:4}}
+.{STOP}{{fill:{BLACK}}}.{STOP_CROSS}{{stroke:{WHITE};stroke-width:2}}
+.{SET}{{fill:{CREAM};stroke:{ORANGE};stroke-width:1.5}}.{PANEL}{{fill:{INK}}}
+.{REFUSED}{{fill:{BLUSH};stroke:{VERMILLION};stroke-width:2.5}}
+.{HELD}{{fill:{WHITE};stroke:{GREEN};stroke-width:2}}
+.{FAILED}{{fill:{WHITE};stroke:{VERMILLION};stroke-width:2.5}}
 "
     )
 }
