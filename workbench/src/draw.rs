@@ -2,13 +2,15 @@
 //!
 //! Every event has a column. As many columns as fit make a band, and the bands stand below each other, as staves do.
 
-use crate::play::{actor, pending, Applied, Checked, Effect, Heard, Play, Refused, Step};
+use crate::column::{Arrow, Column, Mark, Shape, FORWARDED, LEAST_REACH, LOOP, SENT};
+use crate::legend::{legend, marks_text, Sign};
+use crate::play::{self, actor, pending, Applied, Checked, Effect, Heard, Play, Refused, Step};
 use crate::svg::{
-    class, height_of, shorten, width_of, wrap, Canvas, Line, BOLD, DARK, FAINT, LEFT, LEFT_SMALL, LEGEND, LIGHT, PLAIN,
-    SHOWN, SMALL, TITLE,
+    class, height_of, shorten, width_of, wrap, Canvas, Line, BOLD, FAINT, LEFT, LEFT_SMALL, PLAIN, SHOWN, SMALL, TITLE,
 };
+use crate::words::{self, count, hexadecimal};
 use furnacejade::{look, Class, Name, Panel, Payload, Record, Register, Sums, CONTROLLERS};
-use std::collections::{BTreeSet, HashMap};
+use std::collections::BTreeSet;
 
 /// A band is at most so wide, but for what its panels show in the end.
 const BAND_WIDTH: i32 = 1_200;
@@ -19,32 +21,14 @@ const MARGIN: i32 = 16;
 const GAP: i32 = 8;
 /// Where lanes begin: the names of the controllers stand left of it.
 const LANES: i32 = 114;
-const COLUMN_GAP: i32 = 14;
-const LEAST_COLUMN: i32 = 38;
-/// What each lane has above and below its line at least, and what is between two lanes besides.
-const LEAST_REACH: i32 = 15;
+/// What is between two lanes besides what each has above and below.
 const LANE_GAP: i32 = 22;
 /// The row with the numbers of the events, and what is between two bands.
 const HEAD: i32 = 20;
 const BAND_GAP: i32 = 30;
-/// The radius of a message where it is sent, and where it joins the log of another.
-const SENT: i32 = 10;
-const FORWARDED: i32 = 8;
-/// What a handover from the own log rises above the lane, and how far left of the rest it begins.
-const LOOP: i32 = 14;
-const LOOP_SIDE: i32 = 9;
-/// What is free around the name on an arrow, from its middle.
-const NAME: i32 = 9;
-const PADDING: i32 = 6;
-/// The rows of the legend, what is between two signs, and the length of an arrow there.
-const LEGEND_ROW: i32 = 24;
-const LEGEND_GAP: i32 = 18;
-const SAMPLE_ARROW: i32 = 26;
 /// So many pending messages are named, and so many bytes of a refused record.
 const NAMED: usize = 6;
 const BYTES: usize = 24;
-/// Of so many controllers the marks show places.
-const FEW: usize = 4;
 /// So many characters of a title are shown, and of a line of facts.
 const TITLE_LENGTH: usize = 100;
 const FACTS: usize = 20;
@@ -58,212 +42,6 @@ pub fn svg(title: &str, play: &Play) -> String {
     picture.finish(title)
 }
 
-/// The signs that a legend explains, in its order.
-#[derive(Clone, Copy, Debug, PartialEq, Eq, PartialOrd, Ord)]
-enum Sign {
-    Report,
-    Sync,
-    Write,
-    LocalRead,
-    Forwarded,
-    Marked,
-    Passed,
-    Marks,
-    Set,
-    Stop,
-    Held,
-    Failed,
-    Refused,
-}
-
-/// What stands on a lane.
-#[derive(Debug)]
-enum Shape {
-    /// The lane alone.
-    Bare,
-    /// A message that joins a log, with its kind and its place there.
-    Entry {
-        kind: u8,
-        place: usize,
-        radius: i32,
-    },
-    Ring,
-    Octagon,
-    /// Whether an expectation held.
-    Verdict(bool),
-    Box {
-        class: &'static str,
-        lines: Vec<Line>,
-        width: i32,
-    },
-}
-
-impl Shape {
-    fn boxed(class: &'static str, lines: Vec<Line>) -> Shape {
-        let width = width_of(&lines) + 2 * PADDING;
-        Shape::Box { class, lines, width }
-    }
-
-    fn width(&self) -> i32 {
-        match self {
-            Shape::Box { width, .. } => *width,
-            _ => 2 * self.reach(),
-        }
-    }
-
-    /// How far it goes above and below its lane.
-    fn reach(&self) -> i32 {
-        match self {
-            Shape::Bare => 1,
-            Shape::Entry { kind: Payload::SYNC, radius, .. } => radius + 2,
-            Shape::Entry { radius, .. } => *radius,
-            Shape::Ring => 8,
-            Shape::Octagon | Shape::Verdict(_) => 9,
-            Shape::Box { lines, .. } => height_of(lines) / 2 + 3,
-        }
-    }
-
-    fn draw(&self, canvas: &mut Canvas, (x, y): (i32, i32)) {
-        let reach = self.reach();
-        match self {
-            Shape::Bare => {}
-            Shape::Entry { kind, place, .. } => {
-                match *kind {
-                    Payload::SYNC => {
-                        let (r, top) = (reach, y - reach);
-                        canvas.path(class::SYNC, &format!("M{x} {top}l{r} {r}l-{r} {r}l-{r}-{r}z"));
-                    }
-                    Payload::WRITE => canvas.rectangle(class::WRITE, (x, y), (2 * reach, 2 * reach)),
-                    _ => canvas.circle(class::REPORT, (x, y), reach),
-                }
-                let style = if *kind == Payload::REPORT { LIGHT } else { DARK };
-                canvas.text(x, y + 4, &Line::new(style, place));
-            }
-            Shape::Ring => canvas.circle(class::LOCAL_READ, (x, y), 6),
-            Shape::Octagon => {
-                canvas.path(class::STOP, &format!("M{} {}h8l5 5v8l-5 5h-8l-5-5v-8z", x - 4, y - 9));
-                canvas.path(class::STOP_CROSS, &format!("M{} {}l6 6m0-6l-6 6", x - 3, y - 3));
-            }
-            Shape::Verdict(true) => {
-                canvas.circle(class::HELD, (x, y), 8);
-                canvas.path(class::HELD, &format!("M{} {y}l3 3l5-6", x - 4));
-            }
-            Shape::Verdict(false) => {
-                canvas.circle(class::FAILED, (x, y), 8);
-                canvas.path(class::FAILED, &format!("M{} {}l6 6m0-6l-6 6", x - 3, y - 3));
-            }
-            Shape::Box { class, lines, width } => {
-                canvas.rectangle(class, (x, y), (*width, 2 * reach));
-                canvas.lines(x, y - height_of(lines) / 2, lines);
-            }
-        }
-    }
-}
-
-/// What a column has at one lane: a shape, and lines of text above and below it.
-#[derive(Debug)]
-struct Mark {
-    lane: usize,
-    shape: Shape,
-    above: Vec<Line>,
-    below: Vec<Line>,
-    /// What is free between the shape and the lines above it.
-    lift: i32,
-}
-
-impl Mark {
-    fn new(lane: usize, shape: Shape) -> Mark {
-        Mark { lane, shape, above: vec![], below: vec![], lift: 0 }
-    }
-
-    fn width(&self) -> i32 {
-        let side = if self.lift > 0 { LOOP_SIDE } else { 0 };
-        (self.shape.width() + 2 * side).max(width_of(&self.above)).max(width_of(&self.below))
-    }
-
-    /// How far it goes above its lane, and below.
-    fn reach(&self) -> (i32, i32) {
-        let reach = self.shape.reach();
-        (reach + self.lift + height_of(&self.above) + 3, reach + height_of(&self.below) + 3)
-    }
-
-    fn draw(&self, canvas: &mut Canvas, (x, y): (i32, i32)) {
-        let reach = self.shape.reach();
-        self.shape.draw(canvas, (x, y));
-        canvas.lines(x, y - reach - self.lift - height_of(&self.above), &self.above);
-        canvas.lines(x, y + reach + 3, &self.below);
-    }
-}
-
-/// A handover, to the lane of its column's mark.
-#[derive(Debug)]
-struct Arrow {
-    owner: usize,
-    class: &'static str,
-    name: Line,
-}
-
-impl Arrow {
-    fn draw(&self, canvas: &mut Canvas, mark: &Mark, x: i32, lanes: &[i32]) {
-        let (from, to, reach) = (lanes[self.owner - 1], lanes[mark.lane - 1], mark.shape.reach());
-        if self.owner == mark.lane {
-            let (left, top) = (x - mark.shape.width() / 2 - LOOP_SIDE, to - reach - LOOP);
-            let right = if reach > 1 { x } else { x + LOOP_SIDE };
-            let data = format!("M{left} {to}V{}q0-6 6-6H{}q6 0 6 6V{}", top + 6, right - 6, to - reach);
-            canvas.path(self.class, &data);
-            return canvas.text((left + right) / 2, top - 4, &self.name);
-        }
-        let down = (to - from).signum();
-        let (end, neighbour) = (to - down * reach, if down > 0 { mark.lane - 1 } else { mark.lane + 1 });
-        let middle = (lanes[neighbour - 1] + end) / 2 - down * 3;
-        let (before, after) = (middle - down * NAME, middle + down * NAME);
-        canvas.path(self.class, &format!("M{x} {from}V{before}M{x} {after}V{end}"));
-        canvas.text(x, middle + 4, &self.name);
-    }
-}
-
-/// An event, or something else that has a place in time.
-#[derive(Debug)]
-struct Column {
-    head: String,
-    title: String,
-    marks: Vec<Mark>,
-    arrow: Option<Arrow>,
-    /// Whether it concerns all lanes.
-    across: bool,
-}
-
-impl Column {
-    fn new(head: impl ToString, title: String, marks: Vec<Mark>) -> Column {
-        Column { head: head.to_string(), title, marks, arrow: None, across: false }
-    }
-
-    fn width(&self) -> i32 {
-        let marks = self.marks.iter().map(Mark::width).max().unwrap_or(0);
-        let name = self.arrow.as_ref().map_or(0, |arrow| arrow.name.width());
-        let least = if self.head.is_empty() { 0 } else { LEAST_COLUMN - COLUMN_GAP };
-        marks.max(name).max(least) + COLUMN_GAP
-    }
-
-    fn stops(&self, lane: usize) -> bool {
-        self.marks.iter().any(|mark| mark.lane == lane && matches!(mark.shape, Shape::Octagon))
-    }
-
-    fn draw(&self, canvas: &mut Canvas, x: i32, lanes: &[i32]) {
-        canvas.open(&self.title);
-        if let (true, Some(first), Some(last)) = (self.across, lanes.first(), lanes.last()) {
-            canvas.path(class::FAILED, &format!("M{x} {}V{}", first - LEAST_REACH, last + LEAST_REACH));
-        }
-        if let (Some(arrow), Some(mark)) = (&self.arrow, self.marks.first()) {
-            arrow.draw(canvas, mark, x, lanes);
-        }
-        for mark in &self.marks {
-            mark.draw(canvas, (x, lanes[mark.lane - 1]));
-        }
-        canvas.close();
-    }
-}
-
 /// What a controller is at a moment.
 #[derive(Clone, Copy)]
 struct State {
@@ -274,8 +52,6 @@ struct State {
 struct Picture<'a> {
     play: &'a Play<'a>,
     signs: BTreeSet<Sign>,
-    /// The marks that a controller has for a message: its places in the logs, 0 where it has none.
-    marks: HashMap<(usize, Name), [usize; CONTROLLERS]>,
     /// The controllers now, and at the start of the band.
     now: [State; CONTROLLERS],
     start: [State; CONTROLLERS],
@@ -295,7 +71,6 @@ impl<'a> Picture<'a> {
         Picture {
             play,
             signs: BTreeSet::new(),
-            marks: HashMap::new(),
             now: start,
             start,
             columns: vec![],
@@ -339,7 +114,7 @@ impl<'a> Picture<'a> {
         let c = step.controller;
         let (mut mark, arrow) = match &step.effect {
             Effect::Sent(name) => (self.sent(step, *name), None),
-            Effect::Read { owner, entry, name, heard } => self.read(c, (*owner as usize, *entry), *name, heard),
+            Effect::Read { owner, name, heard, marks, .. } => self.read(c, *owner as usize, (*name, heard, marks)),
             Effect::Stopped { kept, lost } => (self.stop(c, *kept, lost), None),
             Effect::LocalRead(sums) => (self.local_read(c, *sums), None),
         };
@@ -347,7 +122,9 @@ impl<'a> Picture<'a> {
             self.signs.insert(Sign::Set);
             mark.shape = Shape::boxed(class::SET, self.set(c, applied));
         }
-        let title = format!("event {}: {}", step.number, self.words(step));
+        let applied =
+            step.applied.as_ref().map_or(String::new(), |set| format!("; {}", words::applied(self.play, step, set)));
+        let title = format!("event {}: {}{applied}", step.number, words::effect(self.play, step));
         let mut column = Column::new(step.number, title, vec![mark]);
         column.arrow = arrow;
         self.add(column);
@@ -369,7 +146,6 @@ impl<'a> Picture<'a> {
         };
         self.signs.insert(sign);
         let (kind, place) = (self.kind(name), name.number.0 as usize);
-        self.marks.entry((step.controller, name)).or_default()[step.controller - 1] = place;
         let mut mark = Mark::new(step.controller, Shape::Entry { kind, place, radius: SENT });
         mark.above = vec![Line::new(BOLD, name)];
         mark.below = vec![Line::new(PLAIN, text)];
@@ -379,16 +155,15 @@ impl<'a> Picture<'a> {
     fn read(
         &mut self,
         reader: usize,
-        (owner, place): (usize, usize),
-        name: Name,
-        heard: &Heard,
+        owner: usize,
+        (name, heard, marks): (Name, &Heard, &[play::Mark]),
     ) -> (Mark, Option<Arrow>) {
         let (sign, shape) = match heard {
             Heard::Forwarded { entry } => {
                 let entry = Shape::Entry { kind: self.kind(name), place: *entry, radius: FORWARDED };
                 (Sign::Forwarded, entry)
             }
-            Heard::Marked => (Sign::Marked, Shape::Bare),
+            Heard::Marked | Heard::Known => (Sign::Marked, Shape::Bare),
             Heard::Passed => (Sign::Passed, Shape::Bare),
         };
         self.signs.insert(sign);
@@ -396,10 +171,8 @@ impl<'a> Picture<'a> {
         let (mut mark, name_line) = (Mark::new(reader, shape), Line::new(style, name));
         if sign != Sign::Passed {
             self.signs.insert(Sign::Marks);
-            let marks = self.marks.entry((reader, name)).or_default();
-            marks[owner - 1] = place;
             let side = if owner > reader { &mut mark.above } else { &mut mark.below };
-            side.push(Line::new(SMALL, marks_text(&marks[..self.play.table.n])));
+            side.push(Line::new(SMALL, marks_text(marks, self.play.table.n)));
         }
         if owner == reader {
             mark.lift = LOOP + name_line.style.height;
@@ -446,39 +219,6 @@ impl<'a> Picture<'a> {
         applied.finished.and_then(|_| applied.names.iter().rfind(own)).copied()
     }
 
-    /// What an event did.
-    fn words(&self, step: &Step) -> String {
-        let c = step.controller;
-        let mut words = format!("controller {c} ");
-        words += &match (&step.effect, step.record) {
-            (Effect::Sent(name), Record::Report { amount, .. }) => format!("reports {}: {name}", signed(amount)),
-            (Effect::Sent(name), Record::ClassedReport { amount, class, .. }) => {
-                format!("reports {} of class {class}: {name}", signed(amount))
-            }
-            (Effect::Sent(name), Record::Write { register, value, .. }) => {
-                format!("sets register {register} to {value}: {name}")
-            }
-            (Effect::Sent(name), _) => format!("sends a sync: {name}"),
-            (Effect::Read { owner, entry, name, heard }, _) => {
-                let heard = match heard {
-                    Heard::Forwarded { entry } => format!("forwards it as entry {entry} of log {c}"),
-                    Heard::Marked => format!("notes the mark of {owner}"),
-                    Heard::Passed => "passes over it".to_string(),
-                };
-                format!("reads {name}, entry {entry} of log {owner}, and {heard}")
-            }
-            (Effect::Stopped { kept, lost }, _) => {
-                format!("stops, and its log keeps {kept} of {} entries", kept + lost.len())
-            }
-            (Effect::LocalRead(sums), _) => format!("reads its own sums, {}", both(*sums)),
-        };
-        if let Some(applied) = &step.applied {
-            words += &format!("; it applies {}, and its panel shows {}", list(&applied.names), both(applied.sums));
-            words += &self.finished(c, applied).map_or(String::new(), |sync| format!(", which answers {sync}"));
-        }
-        words
-    }
-
     /// The expectations behind so many events. Those of different panels share a column.
     fn checks(&mut self, checked: &mut &[Checked], events: usize) {
         let mut column: Option<Column> = None;
@@ -520,7 +260,7 @@ impl<'a> Picture<'a> {
         let concerned = concerned.filter(|c| (1..=n).contains(c));
         let lines = vec![Line::new(PLAIN, "refused"), Line::new(BOLD, refused.number.number())];
         let mark = Mark::new(concerned.unwrap_or(n.div_ceil(2)), Shape::boxed(class::REFUSED, lines));
-        let title = format!("record {number} is refused by question {}: {}", refused.number.number(), refused.number);
+        let title = format!("record {number} is refused with {}: {}", refused.number.number(), refused.number);
         let mut column = Column::new(number, title, vec![mark]);
         column.across = concerned.is_none();
         self.add(column);
@@ -596,14 +336,14 @@ impl<'a> Picture<'a> {
 
     /// The whole picture: title, legend, bands and notes.
     fn finish(mut self, title: &str) -> String {
-        let Play { table, steps, refused, .. } = self.play;
-        if let Some(refused) = refused {
-            self.notes.splice(0..0, refusal(refused, steps.len() + 1, table.n > 0));
+        if let Some(refused) = &self.play.refused {
+            self.notes.splice(0..0, refusal(self.play, refused));
         }
         let (mut canvas, heading) = (Canvas::default(), self.heading(title));
         self.width = self.width.max(width_of(&self.notes).max(width_of(&heading)) + 2 * MARGIN);
         canvas.lines(MARGIN, MARGIN, &heading);
-        let mut height = self.legend(&mut canvas, MARGIN + height_of(&heading) + GAP);
+        let edges = (MARGIN, self.width - MARGIN);
+        let mut height = legend(&self.signs, self.play.table.n, &mut canvas, edges, MARGIN + height_of(&heading) + GAP);
         canvas.place(&self.bands, height);
         height += (self.height - BAND_GAP + GAP).max(0);
         canvas.lines(MARGIN, height, &self.notes);
@@ -616,7 +356,8 @@ impl<'a> Picture<'a> {
         let mut lines = vec![Line::new(TITLE, shorten(title, TITLE_LENGTH))];
         let (n, m, version) = (self.play.table.n, self.play.majority(), self.play.table.version);
         if n > 0 {
-            let (controllers, events) = (counted(n, "controller"), counted(self.play.steps.len(), "event"));
+            let controllers = count(n, "controller", "controllers");
+            let events = count(self.play.steps.len(), "event", "events");
             let facts = format!("version {version}, {controllers}, majority {m}, {events}");
             let rule = format!(
                 "A panel applies a set once its controller has each message in it from {m} of {n} logs, \
@@ -625,92 +366,6 @@ impl<'a> Picture<'a> {
             lines.extend([Line::new(LEFT, facts), Line::new(LEFT_SMALL, rule)]);
         }
         lines
-    }
-
-    /// What the signs mean that stand in the picture, in rows; answers where they end.
-    fn legend(&self, canvas: &mut Canvas, top: i32) -> i32 {
-        let (n, mut x, mut y) = (self.play.table.n, MARGIN, top + 10);
-        for sign in &self.signs {
-            let (sample, line) = (sign.width(n), Line::new(LEGEND, sign.meaning(n)));
-            let width = sample + 6 + line.width();
-            if x > MARGIN && x + width > self.width - MARGIN {
-                (x, y) = (MARGIN, y + LEGEND_ROW);
-            }
-            sign.draw(n, canvas, (x, y));
-            canvas.text(x + sample + 6, y + 4, &line);
-            x += width + LEGEND_GAP;
-        }
-        match self.signs.is_empty() {
-            true => top,
-            false => y + LEGEND_ROW,
-        }
-    }
-}
-
-impl Sign {
-    fn meaning(self, n: usize) -> &'static str {
-        match self {
-            Sign::Report => "report, and its place in the log",
-            Sign::Sync => "sync",
-            Sign::Write => "write",
-            Sign::LocalRead => "local read",
-            Sign::Forwarded => "handover: joins the reader's log",
-            Sign::Marked => "handover: pending there already",
-            Sign::Passed => "handover: applied there already",
-            Sign::Marks if n <= FEW => "its place in log 1, log 2, and so on, as far as the reader has it",
-            Sign::Marks => "the logs that the reader has it from",
-            Sign::Set => "set applied, and what the panel then shows",
-            Sign::Stop => "stop",
-            Sign::Held => "as expected",
-            Sign::Failed => "not as expected",
-            Sign::Refused => "refused, with the number of the question",
-        }
-    }
-
-    fn shape(self) -> Shape {
-        let entry = |kind| Shape::Entry { kind, place: 1, radius: FORWARDED };
-        match self {
-            Sign::Report | Sign::Forwarded => entry(Payload::REPORT),
-            Sign::Sync => entry(Payload::SYNC),
-            Sign::Write => entry(Payload::WRITE),
-            Sign::LocalRead => Shape::Ring,
-            Sign::Set => Shape::boxed(class::SET, vec![Line::new(PLAIN, "1.1")]),
-            Sign::Stop => Shape::Octagon,
-            Sign::Held => Shape::Verdict(true),
-            Sign::Failed => Shape::Verdict(false),
-            Sign::Refused => Shape::boxed(class::REFUSED, vec![Line::new(BOLD, "9")]),
-            Sign::Marked | Sign::Passed | Sign::Marks => Shape::Bare,
-        }
-    }
-
-    /// Marks as an example: some logs behind the first have it.
-    fn marks(n: usize) -> Line {
-        let place = |c| if (c == 1 && n > 1) || c > FEW { 0 } else { n + 1 - c };
-        Line::new(LEFT_SMALL, marks_text(&(1..=n).map(place).collect::<Vec<usize>>()))
-    }
-
-    fn width(self, n: usize) -> i32 {
-        match self {
-            Sign::Forwarded => SAMPLE_ARROW + 2 * FORWARDED,
-            Sign::Marked | Sign::Passed => SAMPLE_ARROW,
-            Sign::Marks => Sign::marks(n).width(),
-            _ => self.shape().width(),
-        }
-    }
-
-    /// Draws an example of it, from x on.
-    fn draw(self, n: usize, canvas: &mut Canvas, (x, y): (i32, i32)) {
-        let arrow = format!("M{} {y}h{}", x + 3, SAMPLE_ARROW - 3);
-        match self {
-            Sign::Forwarded => {
-                canvas.path(class::ARROW, &arrow);
-                self.shape().draw(canvas, (x + SAMPLE_ARROW + FORWARDED, y));
-            }
-            Sign::Marked => canvas.path(class::ARROW, &arrow),
-            Sign::Passed => canvas.path(class::PASSED, &arrow),
-            Sign::Marks => canvas.text(x, y + 4, &Sign::marks(n)),
-            _ => self.shape().draw(canvas, (x + self.width(n) / 2, y)),
-        }
     }
 }
 
@@ -747,20 +402,18 @@ fn end_of(play: &Play, c: usize, panel: &Panel) -> Mark {
     mark
 }
 
-/// What was refused, where it stands and what is there.
-fn refusal(refused: &Refused, record: usize, in_run: bool) -> Vec<Line> {
-    let what = if in_run { format!("Record {record}") } else { "The file".to_string() };
-    let mut bytes: Vec<String> = refused.bytes.iter().take(BYTES).map(|byte| format!("{byte:02X}")).collect();
-    if refused.bytes.len() > BYTES {
-        bytes.push("…".to_string());
-    }
-    let bytes = if bytes.is_empty() { "no bytes there".to_string() } else { format!("bytes {}", bytes.join(" ")) };
-    let question = format!("{what} is refused by question {}: {}", refused.number.number(), refused.number);
-    vec![Line::new(LEFT, question), Line::new(LEFT, format!("offset {}, {bytes}", refused.offset))]
-}
-
-fn counted(count: usize, what: &str) -> String {
-    format!("{count} {what}{}", if count == 1 { "" } else { "s" })
+/// What was refused, the fact behind it, where it stands and what is there.
+fn refusal(play: &Play, refused: &Refused) -> Vec<Line> {
+    let what = match play.table.n {
+        0 => "The file".to_string(),
+        _ => format!("Record {}", play.steps.len() + 1),
+    };
+    let rest = if refused.bytes.len() > BYTES { " …" } else { "" };
+    let bytes = hexadecimal(&refused.bytes[..refused.bytes.len().min(BYTES)]);
+    let mut lines = vec![format!("{what} is refused with {}: {}", refused.number.number(), refused.number)];
+    lines.extend(words::fact(play, refused).map(|fact| format!("because {fact}")));
+    lines.push(format!("offset {}, bytes {bytes}{rest}", refused.offset));
+    lines.into_iter().map(|line| Line::new(LEFT, line)).collect()
 }
 
 fn list(names: &[Name]) -> String {
@@ -775,15 +428,4 @@ fn signed(amount: i16) -> String {
 
 fn both(sums: Sums) -> String {
     format!("+{} −{}", sums.added, sums.withdrawn)
-}
-
-/// Marks: of few controllers the place in each log, a dash where there is none; of more the logs that have one.
-fn marks_text(marks: &[usize]) -> String {
-    let few = marks.len() <= FEW;
-    let signs = (1..).zip(marks).filter_map(|(log, place)| match place {
-        0 => few.then(|| "-".to_string()),
-        _ if few => Some(place.to_string()),
-        _ => Some(format!("{log}")),
-    });
-    signs.collect::<Vec<String>>().join(if few { " " } else { "," })
 }

@@ -1,9 +1,13 @@
 //! Write a run, run it, see it, and see why: `workbench --help`.
 
+mod column;
 mod disassemble;
+mod draw;
+mod legend;
 mod play;
 mod report;
 mod source;
+mod svg;
 mod text;
 mod why;
 mod words;
@@ -184,7 +188,9 @@ fn run(asked: &Asked) -> Result<bool, Failed> {
 fn draw(asked: &Asked) -> Result<bool, Failed> {
     let source = Source::load(&asked.words[0], asked.form)?;
     let play = play::play(source.bytes(), source.expectations(), usize::MAX);
-    put(asked, report::report(&source, &play).as_bytes())?;
+    let path = std::path::Path::new(&source.name);
+    let title = path.file_name().map_or(source.name.as_str().into(), |name| name.to_string_lossy());
+    put(asked, draw::svg(&title, &play).as_bytes())?;
     Ok(report::succeeded(&source, &play))
 }
 

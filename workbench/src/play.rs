@@ -83,6 +83,7 @@ impl Checked {
 /// What became of a file.
 #[derive(Debug)]
 pub struct Play<'a> {
+    pub file: &'a [u8],
     pub steps: Vec<Step>,
     pub refused: Option<Refused<'a>>,
     pub checked: Vec<Checked>,
@@ -194,7 +195,7 @@ fn check(play: &mut Play, expectations: &mut &[Expectation], offset: usize) {
 /// Plays a file up to its end, its first refusal or so many events.
 pub fn play<'a>(bytes: &'a [u8], mut expectations: &[Expectation], most: usize) -> Play<'a> {
     let (mut listing, mut scratch) = (vec![0; LISTING], [0; SCRATCH]);
-    let mut play = Play { steps: vec![], refused: None, checked: vec![], table: Table::BLANK };
+    let mut play = Play { file: bytes, steps: vec![], refused: None, checked: vec![], table: Table::BLANK };
     let number = run(bytes, &mut listing, &mut scratch).number;
     if [Refusal::FILE_LENGTH, Refusal::VERSION, Refusal::COUNT].contains(&number) {
         let bytes = &bytes[..bytes.len().min(2)];

@@ -72,7 +72,7 @@ fn expectation(source: &Source, checked: &Checked) -> String {
 /// The number, the question, the record, its place and the fact behind it.
 pub fn refusal(source: &Source, play: &Play, refused: &Refused) -> String {
     let mut lines = vec![];
-    if let Some(fact) = words::fact(play, source.bytes(), refused) {
+    if let Some(fact) = words::fact(play, refused) {
         lines.push(("because", fact));
     }
     let in_file = refused.offset >= 2;

@@ -148,12 +148,12 @@ fn named(record: Record) -> Vec<u8> {
 }
 
 /// The fact behind a refusal, read from the bytes and the table.
-pub fn fact(play: &Play, file: &[u8], refused: &Refused) -> Option<String> {
+pub fn fact(play: &Play, refused: &Refused) -> Option<String> {
     let number = refused.number;
     match number {
-        Refusal::FILE_LENGTH => return Some(format!("the file has {}", count(file.len(), "byte", "bytes"))),
-        Refusal::VERSION => return Some(format!("byte 0, the version, is {}", file.first()?)),
-        Refusal::COUNT => return Some(format!("byte 1, the number of controllers, is {}", file.get(1)?)),
+        Refusal::FILE_LENGTH => return Some(format!("the file has {}", count(play.file.len(), "byte", "bytes"))),
+        Refusal::VERSION => return Some(format!("byte 0, the version, is {}", play.file.first()?)),
+        Refusal::COUNT => return Some(format!("byte 1, the number of controllers, is {}", play.file.get(1)?)),
         Refusal::RECORD | Refusal::KIND | Refusal::LENGTH => return malformed(refused.bytes, play.table.version as u8),
         _ => {}
     }
