@@ -412,3 +412,31 @@ fn numbers_have_names_and_texts() {
     assert_eq!(Refusal::from(200).to_string(), "no question has the number 200");
     assert_eq!((Refusal::ACCEPTED.check(), Refusal::KEPT.check()), (Ok(()), Err(Refusal::KEPT)));
 }
+
+#[test]
+fn a_record_is_read_back_from_its_bytes_and_from_no_others() {
+    let records = [
+        Record::Report { sender: 255, amount: -32_768 },
+        Record::ClassedReport { sender: 0, amount: 32_767, class: Class(255) },
+        Record::Sync { sender: 7 },
+        Record::Handover { receiver: 1, owner: 200 },
+        Record::Stop { controller: 3, kept: 65_535 },
+        Record::LocalRead { controller: 9 },
+        Record::Write { sender: 2, register: 0, value: 4_294_967_040 },
+    ];
+    for record in records {
+        let bytes = record.bytes();
+        assert_eq!(Record::from_bytes(&bytes), Some(record));
+        assert_eq!(Record::from_bytes(&bytes[..bytes.len() - 1]), None);
+        assert_eq!(Record::from_bytes(&[&bytes[..], &[0]].concat()), None);
+    }
+    // Of all lengths and kinds these are the forms of a record, seven of them.
+    let forms = (0..=20).flat_map(|length: u8| (0..=255).map(move |kind| (length, kind)));
+    let read = forms.filter_map(|(length, kind)| {
+        let mut bytes = vec![5; length as usize + 1];
+        bytes[0] = length;
+        *bytes.get_mut(1)? = kind;
+        Record::from_bytes(&bytes).map(|record| assert_eq!(record.bytes(), bytes))
+    });
+    assert_eq!(read.count(), records.len());
+}
