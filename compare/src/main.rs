@@ -10,6 +10,7 @@
 //!     faults demand3        which faults the checker of demand 3 sees alone
 //!     reference N SEED      the reference alone: the folder, the edges, and its applied sets over all subsets
 //!     program PATH N SEED   an executable's output for N run files, and the library's
+//!     workbench PATH N SEED FOLDER   the workbench's commands on N run files and on edges, through files in FOLDER
 //!     print                 what the program prints for the file on standard input
 //!     bench                 times, and the stack that each call needs
 
@@ -41,12 +42,14 @@ mod stale_edges;
 mod subsets;
 mod table_cases;
 mod tables;
+mod workbench;
 mod write_edges;
 
 use std::io::{Read, Write};
 
 const MODES: &str = "modes: compare N SEED | long N | one SEED INDEX | count N SEED
-    | faults [random [DIR [NAME]] | demand3] | reference N SEED | program PATH N SEED | print | bench";
+    | faults [random [DIR [NAME]] | demand3] | reference N SEED | program PATH N SEED
+    | workbench PATH N SEED FOLDER | print | bench";
 
 fn clock() -> u64 {
     std::time::SystemTime::now().duration_since(std::time::UNIX_EPOCH).unwrap().as_nanos() as u64
@@ -70,6 +73,7 @@ fn main() {
         "count" => modes::count(cases(), seed()),
         "reference" => modes::reference(cases(), seed()),
         "program" => modes::program(&words[1], number(2, 200) as usize, number(3, 1)),
+        "workbench" => workbench::all(&words[1], number(2, 200) as usize, number(3, 1), &words[4]),
         "print" => print(),
         "bench" => bench::all(),
         _ => println!("{MODES}"),

@@ -373,7 +373,7 @@ fn printed_by(path: &str, input: &[u8]) -> Vec<u8> {
 }
 
 /// The bytes of a case that is a file alone.
-fn file_bytes(case: &Case) -> &[u8] {
+pub fn file_bytes(case: &Case) -> &[u8] {
     match &case.head {
         Head::File { bytes, .. } => bytes,
         _ => &[],
@@ -381,7 +381,7 @@ fn file_bytes(case: &Case) -> &[u8] {
 }
 
 /// A file alone, with what the program lends to its run.
-fn as_lent(case: Case) -> Option<Case> {
+pub fn as_lent(case: Case) -> Option<Case> {
     match case.head {
         Head::File { bytes, .. } => {
             Some(Case { head: Head::File { bytes, listing: LISTING, scratch: SCRATCH }, calls: vec![] })
