@@ -1,5 +1,5 @@
-//! The workbench against the reference, on random and mangled run files and on fixed edges: a file to its text and back,
-//! a run in words, why a panel has (not) applied a message, and pictures. The commands are read as a user reads them.
+//! The workbench against the reference, on random and mangled run files and on fixed edges: a file to its text and
+//! back, a run in words, why a panel has (not) applied a message, and pictures. Output is read as a user reads it.
 
 use crate::case::{hexadecimal, Case, Head};
 use crate::modes::{as_lent, file_bytes};
@@ -71,6 +71,8 @@ struct Workbench<'a> {
 struct Asked<'a> {
     bytes: &'a [u8],
     run: Run,
+    /// What the program prints.
+    printed: String,
     /// Also the number of its picture, and the seed of what is asked of it.
     index: usize,
 }
@@ -99,8 +101,7 @@ impl Workbench<'_> {
         format!("{}/{name}", self.folder)
     }
 
-    /// Puts a run file where commands find it. A new file is quicker than one that is written over, which some disks then
-    /// wait for.
+    /// Puts a run file where commands find it. Its old one is removed, as some disks are slow to write over a file.
     fn put(&self, bytes: &[u8]) {
         if !self.piped {
             let _ = fs::remove_file(self.file("run"));
@@ -108,7 +109,7 @@ impl Workbench<'_> {
         }
     }
 
-    /// Carries out a command on a file of the folder that has these bytes. The words behind its name follow on the file's.
+    /// Carries out a command on a file of the folder that has these bytes. The words follow on the file's name.
     fn done(&self, command: &str, (name, bytes): (&str, &[u8]), words: &[&str]) -> Done {
         let file = if self.piped { "-".into() } else { self.file(name) };
         let mut call = Command::new(self.path);
@@ -151,9 +152,9 @@ impl Workbench<'_> {
         let done = self.done("run", ("run", asked.bytes), &["--bytes"]);
         done.ends_with("run", asked.status())?;
         let text = done.text();
-        let printed = String::from_utf8_lossy(&reference::program(asked.bytes)).into_owned();
-        same("run", printed, rebuilt(&text).unwrap_or(text.clone()))?;
+        same("run", asked.printed.clone(), rebuilt(&text).unwrap_or(text.clone()))?;
         same("run: events", events(asked), events_in(&text))?;
+        same("run: answers", answers(asked), answers_in(&text))?;
         let refused = text.lines().find_map(refusal_in).map(|(what, _)| what.to_string());
         same("run: refusal", self.refused(asked), refused.unwrap_or_default())?;
         let Some(state) = &asked.run.state else { return Ok(()) };
@@ -188,11 +189,14 @@ impl Workbench<'_> {
         let about = |what: &str| format!("why {}: {what}", words.join(" "));
         same("why: state", about(right), about(found))?;
         *tally.states.entry(right).or_default() += 1;
-        if right != "pending" {
-            return Ok(());
+        match right {
+            "applied" => same("why: set", about(&set_with(&asked.printed, &message, panel)), about(&set_in(&text))),
+            "pending" => {
+                same("why: marks", about(&marks(&state, &name, panel)), about(&marks_in(&text)))?;
+                same("why: kept out", about(&keeping_out(&state, &name, panel)), about(&keeping_out_in(&text)))
+            }
+            _ => Ok(()),
         }
-        same("why: marks", about(&marks(&state, &name, panel)), about(&marks_in(&text)))?;
-        same("why: kept out", about(&keeping_out(&state, &name, panel)), about(&keeping_out_in(&text)))
     }
 
     /// A picture is written, if the file has panels at all.
@@ -220,7 +224,8 @@ impl Workbench<'_> {
     }
 
     fn check(&self, bytes: &[u8], index: usize, draws: bool, tally: &mut Tally) -> Result<(), Wrong> {
-        let asked = Asked { bytes, run: played(bytes), index };
+        let printed = String::from_utf8_lossy(&reference::program(bytes)).into_owned();
+        let asked = Asked { bytes, run: played(bytes), printed, index };
         self.put(bytes);
         self.check_text(bytes)?;
         self.check_run(&asked)?;
@@ -334,6 +339,36 @@ fn events_in(text: &str) -> String {
     text.lines().filter(|line| is_event(line)).map(event).collect()
 }
 
+/// What local reads and finished syncs answer, a line for each with the number of its event.
+fn answers(asked: &Asked) -> String {
+    let Some(Run { state: Some(State { version, n, .. }), events, .. }) = Some(&asked.run) else {
+        return String::new();
+    };
+    let (mut state, mut scratch, mut text) = (State::fresh(*version, *n), [0; SCRATCH], String::new());
+    for (number, record) in (1..).zip(first_records(asked.bytes, *events)) {
+        let (answer, _) = state.event(record, &mut scratch);
+        if answer.finished || record_text(record).starts_with("read") {
+            text += &format!("{number} {} added, {} withdrawn\n", answer.sums.added, answer.sums.withdrawn);
+        }
+    }
+    text
+}
+
+/// The same, from the lines of a run in words.
+fn answers_in(text: &str) -> String {
+    let (mut answers, mut event) = (String::new(), "");
+    for line in text.lines() {
+        if is_event(line) {
+            event = line.split_whitespace().next().unwrap_or_default();
+        }
+        let answer = [" reads its own sums: ", " sync is finished and answers "].map(|words| line.split_once(words));
+        for (_, sums) in answer.into_iter().flatten() {
+            answers += &format!("{event} {sums}\n");
+        }
+    }
+    answers
+}
+
 /// What a message says, as it stands in brackets behind its name.
 fn said_of(state: &State, name: &str) -> String {
     let is = |other: &Name| format!("{}.{}", other.sender, other.number) == name;
@@ -399,8 +434,8 @@ struct Question {
     after: Option<usize>,
 }
 
-/// A random message and a random panel of a run, if it has a message. In half of the files it is a message that is pending
-/// there, if one is; in a third it is asked after an event.
+/// A random message and a random panel of a run, if it has a message. In half of the files it is a message that is
+/// pending there, if one is; in a third it is asked after an event.
 fn question(asked: &Asked) -> Option<Question> {
     let random = &mut Random(asked.index as u64);
     let after = random.one_in(3).then(|| random.below(asked.run.events + 1));
@@ -434,6 +469,31 @@ fn state_of(state: &State, name: &Name, panel: usize) -> &'static str {
         true => "unknown",
         false => "cut off",
     }
+}
+
+/// The event in which a panel applied a message, the sums that it then showed, and the set's other messages, by what
+/// the program prints.
+fn set_with(printed: &str, message: &str, panel: usize) -> String {
+    let lines = printed.lines().map(|line| line.split(' ').collect::<Vec<_>>());
+    let with = |words: &Vec<&str>| words[1] == panel.to_string() && words[2..].contains(&message);
+    let Some(words) = lines.filter(|words| words.len() > 4).find(with) else { return "no line".into() };
+    let others: Vec<&str> = words[4..].iter().copied().filter(|other| *other != message).collect();
+    format!("event {}, {} added, {} withdrawn, with {others:?}", words[0], words[2], words[3])
+}
+
+/// The same, from a line as "applied at event 11 (hand 3 <- 1), as one set with 1.1 and 2.1; the panel then showed 30
+/// added, 2 withdrawn".
+fn set_in(text: &str) -> String {
+    let line = text.lines().find_map(|line| line.strip_prefix("applied at event "));
+    let parts = line.and_then(|line| {
+        let (set, sums) = line.split_once("; the panel then showed ")?;
+        let (event, set) = set.split_once(" (")?;
+        Some((event, set.split_once("), ")?.1, sums))
+    });
+    let Some((event, set, sums)) = parts else { return "no line of a set".into() };
+    let names = set.strip_prefix("as one set with ").unwrap_or_default();
+    let others: Vec<&str> = names.split([' ', ',']).filter(|word| word.contains('.')).collect();
+    format!("event {event}, {sums}, with {others:?}")
 }
 
 fn majority(state: &State) -> usize {
