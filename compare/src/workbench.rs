@@ -199,18 +199,22 @@ impl Workbench<'_> {
         }
     }
 
-    /// A picture is written, if the file has panels at all.
+    /// A picture is written; a file without panels may have none.
     fn check_picture(&self, asked: &Asked, tally: &mut Tally) -> Result<(), Wrong> {
         let picture = self.file(&format!("{}.svg", asked.index));
         let _ = fs::remove_file(&picture);
         let done = self.done("draw", ("run", asked.bytes), &["--bytes", "-o", &picture]);
         done.ends_with("draw", asked.status())?;
-        let text = String::from_utf8_lossy(&fs::read(&picture).unwrap_or_default()).into_owned();
-        if asked.run.state.is_none() || ["<svg", "<?xml"].iter().any(|start| text.starts_with(start)) {
-            tally.pictures += 1;
-            return Ok(());
-        }
-        let found = text.chars().take(80).collect();
+        let text = fs::read(&picture).map(|bytes| String::from_utf8_lossy(&bytes).into_owned());
+        let found = match text {
+            Err(_) if asked.run.state.is_none() => return Ok(()),
+            Err(error) => error.to_string(),
+            Ok(text) if ["<svg", "<?xml"].iter().any(|start| text.starts_with(start)) => {
+                tally.pictures += 1;
+                return Ok(());
+            }
+            Ok(text) => text.chars().take(80).collect(),
+        };
         Err(Wrong { check: "draw", expected: "<svg or <?xml at the start".into(), found })
     }
 
