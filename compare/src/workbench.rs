@@ -13,8 +13,21 @@ use std::io::Write;
 use std::process::{exit, Command, Stdio};
 use std::time::{Duration, Instant};
 
+/// So many kinds of files take turns, each of which is to go both ways and to be drawn.
+const FILE_KINDS: usize = 4;
+
 /// One file in so many is drawn.
 const DRAWN_IN: usize = 10;
+
+/// Whether a file goes through standard input and output.
+fn is_piped(index: usize) -> bool {
+    index / FILE_KINDS % 2 == 1
+}
+
+/// Whether a file is drawn: one of each ten, and each time the next.
+fn is_drawn(index: usize) -> bool {
+    index % DRAWN_IN == index / DRAWN_IN % DRAWN_IN
+}
 
 /// The words with which the text of a record begins.
 const EVENTS: [&str; 6] = ["report", "sync", "hand", "stop", "read", "write"];
@@ -60,7 +73,7 @@ impl Done {
     }
 }
 
-/// The executable, and a folder for its files. Every other file goes through standard input and standard output.
+/// The executable, and a folder for its files. Half of the files go through standard input and standard output.
 struct Workbench<'a> {
     path: &'a str,
     folder: &'a str,
@@ -234,7 +247,7 @@ impl Workbench<'_> {
         self.check_text(bytes)?;
         self.check_run(&asked)?;
         self.check_why(&asked, tally)?;
-        match draws && index % DRAWN_IN == 0 {
+        match draws && is_drawn(index) {
             true => self.check_picture(&asked, tally),
             false => Ok(()),
         }
@@ -620,7 +633,7 @@ fn report_and_exit(bytes: &[u8], failed: &Wrong, check: &dyn Fn(&[u8]) -> Result
 /// The edges and N random files through the workbench's commands.
 pub fn all(path: &str, files: usize, seed: u64, folder: &str) {
     println!("seed {seed}, {files} files");
-    let workbench = |index: usize| Workbench { path, folder, piped: index % 2 == 1 };
+    let workbench = |index: usize| Workbench { path, folder, piped: is_piped(index) };
     let edges = edges();
     for (index, bytes) in edges.iter().enumerate() {
         let check = |bytes: &[u8]| {
