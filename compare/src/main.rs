@@ -36,6 +36,7 @@ mod odd;
 mod random;
 mod records;
 mod reference;
+mod reports;
 mod runs;
 mod stack;
 mod stale_edges;

@@ -86,7 +86,9 @@ pub fn refusal(source: &Source, play: &Play, refused: &Refused) -> String {
         }
         lines.push(("offset", refused.offset.to_string()));
     }
-    lines.push(("bytes", hexadecimal(refused.bytes)));
+    if !refused.bytes.is_empty() {
+        lines.push(("bytes", hexadecimal(refused.bytes)));
+    }
     if let Some(place) = source.assembled.place(refused.offset) {
         lines.push(("text", format!("{}:{}:{}", source.name, place.line, place.column)));
     }

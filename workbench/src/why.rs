@@ -122,8 +122,11 @@ impl Question<'_> {
         let mut text = String::from("\nkept out by pending messages that it does not go before: ");
         if blockers.is_empty() {
             text += "none\n";
-            if marks(&play.table, *panel, self.slot).len() >= play.majority() {
-                let _ = writeln!(text, "    sets are applied at handovers: the next to {panel} may apply it");
+            let marked = marks(&play.table, *panel, self.slot).len() >= play.majority();
+            let runs = play.stopped(*panel).is_none();
+            let next = (1..=play.table.n).find(|owner| !words::unread(play, *owner, *panel).is_empty());
+            if let Some(owner) = next.filter(|_| marked && runs) {
+                let _ = writeln!(text, "    sets are applied at handovers: {} applies it", hand(*panel, owner, 1));
             }
             return text;
         }
