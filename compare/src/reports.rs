@@ -294,46 +294,62 @@ fn majority(state: &State) -> usize {
 /// The line of the marks of a pending message.
 pub fn marks(state: &State, name: &Name, panel: usize) -> String {
     let number = state.controllers[panel - 1].pending[name].iter().flatten().count();
-    format!("marks at panel {panel}: {number} of the {} needed", majority(state))
+    format!("marks at panel {panel}: {number} ({} needed)", majority(state))
 }
 
 pub fn marks_in(text: &str) -> String {
     text.lines().find(|line| line.starts_with("marks at panel")).unwrap_or("no line of marks").into()
 }
 
-/// The pending messages that a message does not go before, with both counts, by name; and how many these are.
+/// The pending messages that a message does not go before, with both counts and their marks, by name; how many these are,
+/// and whether they keep it out, as it has its marks. Where all have their marks nothing does.
 pub fn keeping_out(state: &State, name: &Name, panel: usize) -> String {
+    let at = &state.controllers[panel - 1];
+    let marks = |name: &Name| at.pending[name].iter().flatten().count();
+    if at.pending.keys().all(|other| marks(other) >= majority(state)) {
+        return ALL_MARKED.into();
+    }
     let before = |x: &Name, y: &Name| state.count_before(panel, x, y).unwrap_or_default();
-    let others = state.controllers[panel - 1].pending.keys().filter(|other| *other != name);
+    let others = at.pending.keys().filter(|other| *other != name);
     let counts = others.map(|other| (other, before(name, other), before(other, name)));
     let line = |(other, first, second): (&Name, usize, usize)| {
-        format!("{}.{}: {first} of {}, {second}", other.sender, other.number, majority(state))
+        format!("{}.{}: {first} of {}, {second}, {}", other.sender, other.number, majority(state), marks(other))
     };
-    listed(counts.filter(|(_, first, _)| *first < majority(state)).map(line).collect())
+    let lines = counts.filter(|(_, first, _)| *first < majority(state)).map(line).collect();
+    listed(if marks(name) < majority(state) { "does not go before, so far" } else { "kept out by" }, lines)
 }
+
+/// What `why` says where all that is pending has its marks.
+const ALL_MARKED: &str = "all that is pending here has its marks";
 
 /// Lines by their order as texts, with their number.
-fn listed(mut lines: Vec<String>) -> String {
+fn listed(what: &str, mut lines: Vec<String>) -> String {
     lines.sort();
-    format!("{}\n{}", lines.len(), lines.join("\n"))
+    format!("{what}: {}\n{}", lines.len(), lines.join("\n"))
 }
 
-/// The same, from lines as "    1.1 (+30): 1 puts 3.1 before it, 2 needed; 1 puts it before 3.1".
+/// The same, from lines as "    1.1 (+30): 1 puts 3.1 before it, 2 needed; 1 puts it before 3.1; it has 1 mark".
 pub fn keeping_out_in(text: &str) -> String {
-    let mut lines = text.lines().skip_while(|line| !line.starts_with("kept out by pending messages"));
-    let head = lines.next().and_then(|line| line.rsplit(": ").next()).unwrap_or("no line of what keeps it out");
+    if text.contains(ALL_MARKED) {
+        return ALL_MARKED.into();
+    }
+    let is_head = |line: &&str| ["kept out by: ", "does not go before, so far: "].iter().any(|x| line.starts_with(x));
+    let mut lines = text.lines().skip_while(|line| !is_head(line));
+    let (what, number) = lines.next().and_then(|line| line.split_once(": ")).unwrap_or_default();
     let line = |line: &str| -> Option<String> {
         let (other, counts) = line.split_once("): ")?;
         let words: Vec<&str> = counts.split([' ', ',', ';']).filter(|word| !word.is_empty()).collect();
-        let [first, _, _, "before", "it", needed, "needed", second, ..] = words[..] else { return None };
-        Some(format!("{}: {first} of {needed}, {second}", other.split_whitespace().next()?))
+        let [first, _, _, "before", "it", needed, "needed", second, .., "has", marks, _] = words[..] else {
+            return None;
+        };
+        Some(format!("{}: {first} of {needed}, {second}, {marks}", other.split_whitespace().next()?))
     };
     let found: Vec<String> = lines.take_while(|line| line.starts_with("    ")).filter_map(line).collect();
     // The head counts them too.
-    match head.split_whitespace().next().unwrap_or_default() {
-        "none" if found.is_empty() => listed(found),
-        number if number == found.len().to_string() => listed(found),
-        _ => format!("{head}, and below it {}", listed(found)),
+    match number.split_whitespace().next().unwrap_or_default() {
+        "none" if found.is_empty() => listed(what, found),
+        number if number == found.len().to_string() => listed(what, found),
+        _ => format!("{number}, and below it {}", listed(what, found)),
     }
 }
 
@@ -358,17 +374,14 @@ pub fn followed(state: &State, name: &Name, offer: &str) -> String {
         }
     }
     let (at, owner) = (&then.controllers[reader - 1], owners[owners.len() - 1]);
-    let (sender, place) =
-        behind.trim_start_matches(": ").split(' ').next().and_then(|word| word.split_once('.')).unzip();
-    let done = match (sender, place) {
-        _ if offer.contains("it would be with") => at.log.contains(name),
+    let what = behind.trim_start_matches(": ");
+    let named = what.trim_start_matches("puts ").split(' ').next().and_then(|word| word.split_once('.'));
+    let done = match named.map(|(sender, place)| Name { sender: number(sender), number: number(place) }) {
+        _ if behind.contains("would put it there") => at.log.contains(name),
         _ if offer.contains("sets are applied at handovers") => at.applied.contains(name),
-        (Some(sender), Some(place)) => {
-            let other = Name { sender: number(sender), number: number(place) };
-            let marked = at.pending.get(&other).is_some_and(|marks| marks[owner - 1].is_some());
-            marked || at.applied.contains(&other)
-        }
-        _ => false,
+        Some(other) if what.starts_with("puts ") => at.log.contains(&other),
+        Some(other) => at.applied.contains(&other) || at.pending.get(&other).is_some_and(|x| x[owner - 1].is_some()),
+        None => false,
     };
     if done {
         offer.into()

@@ -339,6 +339,10 @@ impl<'a> Picture<'a> {
         if let Some(refused) = &self.play.refused {
             self.notes.splice(0..0, refusal(self.play, refused));
         }
+        if self.play.unreached > 0 {
+            let text = format!("{} not reached", count(self.play.unreached, "expectation was", "expectations were"));
+            self.notes.push(Line::new(LEFT, text));
+        }
         let (mut canvas, heading) = (Canvas::default(), self.heading(title));
         self.width = self.width.max(width_of(&self.notes).max(width_of(&heading)) + 2 * MARGIN);
         canvas.lines(MARGIN, MARGIN, &heading);

@@ -27,7 +27,7 @@ Write a run, run it, see it, and see why.
     workbench why FILE MESSAGE PANEL [--after N]  why a panel has applied a message, or has not
     workbench draw FILE [-o SVG]                  the run as a picture
 
-FILE is a text or a run file. `-` is standard input. `workbench COMMAND --help` says more.
+FILE is a text or a run file. `-` is standard input, and behind -o standard output. `workbench COMMAND --help` says more.
 
 The exit status is 0 if all went well, 1 if the engine refused something or an expectation failed, and 2 if the command or
 the text cannot be understood, or a file cannot be read or written.
@@ -67,17 +67,17 @@ workbench run FILE [--text | --bytes]
 Plays a text or a run file up to its end or its first refusal. Prints each event with what it did, each set that a panel
 applied with its messages and the sums that the panel then showed, each expectation, the refusal with its question and the
 fact behind it, and at the end every panel side by side: sums, classes, registers with their stamps (date, writer), what is
-pending with how many marks of those needed, and how far each log is read.
+pending with how many marks it has, and how far each log is read.
 
-A file is taken for a text if it is one; --text and --bytes say which it is.
+A file is taken for a text if it begins as one; --text and --bytes say which it is.
 ";
 
 const WHY: &str = "\
 workbench why FILE MESSAGE PANEL [--after EVENT] [--text | --bytes]
 
 Says of a message, as 3.1, and a panel, as 2, when it was applied there. If it was not: which controllers have marked it and
-how many are needed; which pending messages keep it out, and how many controllers put it before each; and what is unread
-that would bring more. It is asked at the end of the run, or after an event.
+how many are needed; which pending messages it does not go before, and how many controllers put it before each; and which
+handovers would bring more. It is asked at the end of the run, or after an event.
 ";
 
 const DRAW: &str = "\
@@ -153,10 +153,10 @@ impl Command {
 }
 
 /// Writes to the file that was named, or to standard output.
-fn put(asked: &Asked, bytes: &[u8]) -> Result<(), Failed> {
-    let (result, name) = match &asked.output {
-        Some(path) => (std::fs::write(path, bytes), path.as_str()),
-        None => {
+fn put(output: Option<&str>, bytes: &[u8]) -> Result<(), Failed> {
+    let (result, name) = match output {
+        Some(path) if path != "-" => (std::fs::write(path, bytes), path),
+        _ => {
             let mut output = std::io::stdout().lock();
             (output.write_all(bytes).and_then(|()| output.flush()), "standard output")
         }
@@ -170,19 +170,19 @@ fn put(asked: &Asked, bytes: &[u8]) -> Result<(), Failed> {
 
 fn assemble(asked: &Asked) -> Result<bool, Failed> {
     let source = Source::load(&asked.words[0], Form::Text)?;
-    put(asked, source.bytes()).map(|()| true)
+    put(asked.output.as_deref(), source.bytes()).map(|()| true)
 }
 
 fn disassemble(asked: &Asked) -> Result<bool, Failed> {
     let file = source::read(&asked.words[0])?;
-    put(asked, disassemble::disassemble(&file).as_bytes()).map(|()| true)
+    put(asked.output.as_deref(), disassemble::disassemble(&file).as_bytes()).map(|()| true)
 }
 
 fn run(asked: &Asked) -> Result<bool, Failed> {
     let source = Source::load(&asked.words[0], asked.form)?;
     let play = play::play(source.bytes(), source.expectations(), usize::MAX);
-    put(asked, report::report(&source, &play).as_bytes())?;
-    Ok(report::succeeded(&source, &play))
+    put(asked.output.as_deref(), report::report(&source, &play).as_bytes())?;
+    Ok(report::succeeded(&play))
 }
 
 fn draw(asked: &Asked) -> Result<bool, Failed> {
@@ -190,8 +190,8 @@ fn draw(asked: &Asked) -> Result<bool, Failed> {
     let play = play::play(source.bytes(), source.expectations(), usize::MAX);
     let path = std::path::Path::new(&source.name);
     let title = path.file_name().map_or(source.name.as_str().into(), |name| name.to_string_lossy());
-    put(asked, draw::svg(&title, &play).as_bytes())?;
-    Ok(report::succeeded(&source, &play))
+    put(asked.output.as_deref(), draw::svg(&title, &play).as_bytes())?;
+    Ok(report::succeeded(&play))
 }
 
 fn why(asked: &Asked) -> Result<bool, Failed> {
@@ -199,56 +199,69 @@ fn why(asked: &Asked) -> Result<bool, Failed> {
     let source = Source::load(&asked.words[0], asked.form)?;
     let play = play::play(source.bytes(), &[], asked.after.unwrap_or(usize::MAX));
     let refused = play.refused.as_ref().map(|refused| report::refusal(&source, &play, refused)).unwrap_or_default();
-    if play.table.n == 0 {
-        return Err(refused);
+    let answer = match asked.after.filter(|after| *after > play.steps.len() && play.table.n > 0) {
+        Some(after) => Err(format!("event {after} is not reached: {} accepted\n", events(play.steps.len()))),
+        None if play.table.n == 0 => Ok(String::new()),
+        None => question(&play, message, panel),
+    };
+    match answer {
+        Ok(answer) => {
+            let between = if answer.is_empty() || refused.is_empty() { "" } else { "\n" };
+            put(None, format!("{answer}{between}{refused}").as_bytes())?;
+            Ok(play.refused.is_none())
+        }
+        Err(wrong) => Err(format!("{refused}{wrong}")),
     }
-    if let Some(after) = asked.after.filter(|after| *after > play.steps.len()) {
-        return Err(format!("{refused}event {after} is not reached: {} were accepted\n", play.steps.len()));
-    }
-    let question = question(&play, message, panel).map_err(|error| format!("{refused}{error}\n"))?;
-    put(asked, (question.answer() + &refused).as_bytes())?;
-    Ok(play.refused.is_none())
 }
 
-/// The message and the panel that two words name.
-fn question<'a>(play: &'a Play, message: &str, panel: &str) -> Result<why::Question<'a>, String> {
+fn events(number: usize) -> String {
+    words::count(number, "event", "events")
+}
+
+/// Why the panel that a word names has applied the message that another names, or has not.
+fn question(play: &Play, message: &str, panel: &str) -> Result<String, Failed> {
     let number = |word: &str| word.parse().ok();
     let name = message.split_once('.').and_then(|(sender, k)| Some((number(sender)?, number(k)?)));
-    let Some((sender, number)) = name else { return Err(format!("`{message}` names no message, as 3.1 does")) };
+    let Some((sender, number)) = name else { return Err(format!("`{message}` names no message, as 3.1 does\n")) };
     let name = Name { sender, number: MessageNumber(number) };
-    let Some(slot) = play.slot(name) else {
+    if play.slot(name).is_none() {
         let sent: Vec<Name> = play.table.messages[..play.table.count].iter().map(play::name_of).collect();
-        let sent = if sent.is_empty() { "nothing was".into() } else { format!("sent were {}", words::list(&sent)) };
-        return Err(format!("{name} was not sent in {} events; {sent}", play.steps.len()));
-    };
-    let Ok(panel) = panel.parse() else { return Err(format!("`{panel}` is not the number of a panel")) };
+        let sent = if sent.is_empty() { "nothing".into() } else { words::list(&sent) };
+        return Err(format!("{name} was not sent in {}; sent: {sent}\n", events(play.steps.len())));
+    }
+    let Ok(panel) = panel.parse() else { return Err(format!("`{panel}` is not the number of a panel\n")) };
     look(&play.table, panel)
-        .map_err(|refusal| format!("panel {panel} is refused with {}: {refusal}", refusal.number()))?;
-    Ok(why::Question { play, name, slot, panel })
+        .map_err(|refusal| format!("panel {panel} is refused with {}: {refusal}\n", refusal.number()))?;
+    Ok(why::Question { play, name, panel }.answer())
+}
+
+/// The words of the command line.
+fn words_given() -> Result<Vec<String>, Failed> {
+    let word = |word: std::ffi::OsString| word.into_string().map_err(|word| format!("{word:?} is not UTF-8\n"));
+    std::env::args_os().skip(1).map(word).collect()
+}
+
+fn carry_out(line: &[String]) -> Result<bool, Failed> {
+    let help = |text: &str| put(None, text.as_bytes()).map(|()| true);
+    let first = line.first().map_or("--help", String::as_str);
+    match COMMANDS.iter().find(|command| command.name == first) {
+        Some(command) => match command.parse(&line[1..])? {
+            Some(asked) => (command.carry_out)(&asked),
+            None => help(command.help),
+        },
+        None if ["--help", "-h", "help"].contains(&first) => help(HELP),
+        None => Err(format!("workbench: there is no command {first}; `workbench --help` lists them\n")),
+    }
 }
 
 fn main() -> ExitCode {
-    let line: Vec<String> = std::env::args().skip(1).collect();
-    let first = line.first().map_or("--help", String::as_str);
-    let result = match COMMANDS.iter().find(|command| command.name == first) {
-        Some(command) => command.parse(&line[1..]).and_then(|asked| match asked {
-            Some(asked) => (command.carry_out)(&asked),
-            None => Ok(put_help(command.help)),
-        }),
-        None if ["--help", "-h", "help"].contains(&first) => Ok(put_help(HELP)),
-        None => Err(format!("workbench: there is no command {first}; `workbench --help` lists them\n")),
-    };
-    match result {
+    match words_given().and_then(|line| carry_out(&line)) {
         Ok(true) => ExitCode::SUCCESS,
         Ok(false) => ExitCode::from(1),
         Err(failed) => {
-            eprint!("{failed}");
+            // Whoever reads complaints may be gone.
+            let _ = std::io::stderr().write_all(failed.as_bytes());
             ExitCode::from(2)
         }
     }
-}
-
-fn put_help(help: &str) -> bool {
-    print!("{help}");
-    true
 }

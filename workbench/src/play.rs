@@ -87,6 +87,8 @@ pub struct Play<'a> {
     pub steps: Vec<Step>,
     pub refused: Option<Refused<'a>>,
     pub checked: Vec<Checked>,
+    /// How many expectations were not reached.
+    pub unreached: usize,
     /// The table that the last accepted event left; the blank one if the file itself was refused.
     pub table: Table,
 }
@@ -195,11 +197,13 @@ fn check(play: &mut Play, expectations: &mut &[Expectation], offset: usize) {
 /// Plays a file up to its end, its first refusal or so many events.
 pub fn play<'a>(bytes: &'a [u8], mut expectations: &[Expectation], most: usize) -> Play<'a> {
     let (mut listing, mut scratch) = (vec![0; LISTING], [0; SCRATCH]);
-    let mut play = Play { file: bytes, steps: vec![], refused: None, checked: vec![], table: Table::BLANK };
+    let mut play =
+        Play { file: bytes, steps: vec![], refused: None, checked: vec![], unreached: 0, table: Table::BLANK };
     let number = run(bytes, &mut listing, &mut scratch).number;
     if [Refusal::FILE_LENGTH, Refusal::VERSION, Refusal::COUNT].contains(&number) {
-        let bytes = &bytes[..bytes.len().min(2)];
-        play.refused = Some(Refused { number, offset: 0, bytes });
+        let offset = usize::from(number == Refusal::COUNT);
+        play.refused = Some(Refused { number, offset, bytes: &bytes[..bytes.len().min(2)] });
+        play.unreached = expectations.len();
         return play;
     }
     play.table = fresh(bytes[0] as usize, bytes[1] as usize).expect("the file's version and count were accepted");
@@ -223,6 +227,7 @@ pub fn play<'a>(bytes: &'a [u8], mut expectations: &[Expectation], most: usize) 
             }
         }
     }
+    play.unreached = expectations.len();
     play
 }
 

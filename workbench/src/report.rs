@@ -11,9 +11,8 @@ use std::fmt::Write;
 const NAMED: usize = 12;
 
 /// Whether the file was carried out whole and every expectation was met.
-pub fn succeeded(source: &Source, play: &Play) -> bool {
-    let unmet = source.expectations().len() - play.checked.iter().filter(|checked| checked.holds()).count();
-    play.refused.is_none() && unmet == 0
+pub fn succeeded(play: &Play) -> bool {
+    play.refused.is_none() && play.unreached == 0 && play.checked.iter().all(Checked::holds)
 }
 
 pub fn report(source: &Source, play: &Play) -> String {
@@ -107,8 +106,8 @@ fn outcome(source: &Source, play: &Play) -> String {
         if failed > 0 {
             let _ = write!(text, ", {failed} failed");
         }
-        if all > play.checked.len() {
-            let _ = write!(text, ", {} not reached", all - play.checked.len());
+        if play.unreached > 0 {
+            let _ = write!(text, ", {} not reached", play.unreached);
         }
     }
     text
@@ -143,7 +142,7 @@ fn panels(play: &Play) -> String {
         }
     }
     let waiting = |c: usize| -> Vec<String> { pending_cell(play, c) };
-    rows.push(("pending (marks)".into(), (1..=table.n).map(waiting).collect()));
+    rows.push((format!("pending (marks; {} needed)", play.majority()), (1..=table.n).map(waiting).collect()));
     for owner in 1..=table.n {
         let length = controller(table, owner).length;
         let read = |c: usize, _: &Panel| format!("{} of {length}", controller(table, c).read[owner - 1]);
@@ -164,7 +163,7 @@ fn pending_cell(play: &Play, c: usize) -> Vec<String> {
     let names = pending(&play.table, c);
     let with_marks = |name: &furnacejade::Name| -> String {
         let marks = play.slot(*name).map_or(0, |slot| marks(&play.table, c, slot).len());
-        format!("{name} ({marks} of {})", play.majority())
+        format!("{name} ({marks})")
     };
     let mut lines: Vec<String> = names.iter().take(NAMED).map(with_marks).collect();
     if names.len() > NAMED {

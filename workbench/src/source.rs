@@ -8,7 +8,7 @@ use std::io::Read;
 pub enum Form {
     Text,
     Bytes,
-    /// Text if it is readable as such.
+    /// Text if it begins as one.
     Either,
 }
 
@@ -36,10 +36,10 @@ pub fn shown(path: &str) -> &str {
     }
 }
 
-/// Whether bytes are a text: characters, none of which controls anything but lines and columns.
+/// Whether bytes begin as a text does, and not with a version and a number of controllers, which are control characters.
 fn is_text(bytes: &[u8]) -> bool {
-    let plain = |text: &str| !text.chars().any(|c| c.is_control() && !"\t\r\n".contains(c));
-    !bytes.is_empty() && std::str::from_utf8(bytes).is_ok_and(plain)
+    let in_text = |byte: &u8| b"\t\r\n".contains(byte) || !byte.is_ascii_control();
+    !bytes.is_empty() && bytes.iter().take(2).all(in_text)
 }
 
 /// The text of bytes, or where they are none.
@@ -65,7 +65,8 @@ impl Source {
             let assembled = Assembled { bytes, ..Assembled::default() };
             return Ok(Source { name, assembled });
         }
-        let assembled = text_of(&bytes).map_err(|mistake| vec![mistake]).and_then(assemble);
+        let text = text_of(&bytes).map(|text| text.strip_prefix('\u{FEFF}').unwrap_or(text));
+        let assembled = text.map_err(|mistake| vec![mistake]).and_then(assemble);
         match assembled {
             Ok(assembled) => Ok(Source { name, assembled }),
             Err(found) => Err(mistakes(&name, &found)),

@@ -19,6 +19,9 @@ const LINES: [(&str, &str); 10] = [
     ("bytes", "bytes 03 09 01 02, in hexadecimal"),
 ];
 
+/// So many characters of a word are shown in a complaint.
+const SHOWN: usize = 40;
+
 /// A place in a text. Lines and columns count from 1, columns in characters.
 #[derive(Clone, Copy, Debug, PartialEq, Eq)]
 pub struct Place {
@@ -102,6 +105,12 @@ pub fn assemble(text: &str) -> Result<Assembled, Vec<Mistake>> {
         true => Ok(assembled),
         false => Err(mistakes),
     }
+}
+
+/// A word of a text, as a complaint shows it: not all of a long one, and nothing that would control a terminal.
+fn quoted(word: &str) -> String {
+    let rest = if word.chars().nth(SHOWN).is_some() { "…" } else { "" };
+    format!("`{}{rest}`", word.chars().take(SHOWN).flat_map(char::escape_debug).collect::<String>())
 }
 
 /// What a text must have next.
@@ -189,7 +198,7 @@ impl<'a> Line<'a> {
         match word.text == wanted {
             true => Ok(()),
             false => {
-                let text = format!("`{}` stands where `{wanted}` belongs; {}", word.text, self.form());
+                let text = format!("{} stands where `{wanted}` belongs; {}", quoted(word.text), self.form());
                 Err(self.mistake(word.column, text))
             }
         }
@@ -197,13 +206,13 @@ impl<'a> Line<'a> {
 
     fn number<T: TryFrom<i64>>(&mut self, what: &str, least: i64, most: i64) -> Result<T, Mistake> {
         let word = self.word(what)?;
-        self.in_range(&word, what, least, most)
+        self.in_range(&word, &format!("{what} belongs,"), least, most)
     }
 
     fn in_range<T: TryFrom<i64>>(&self, word: &Word, what: &str, least: i64, most: i64) -> Result<T, Mistake> {
         let number = word.text.parse().ok().filter(|number| (least..=most).contains(number));
         number.and_then(|number| T::try_from(number).ok()).ok_or_else(|| {
-            let text = format!("`{}` stands where {what} belongs, a number from {least} to {most}", word.text);
+            let text = format!("{} stands where {what} a number from {least} to {most}", quoted(word.text));
             self.mistake(word.column, text)
         })
     }
@@ -216,7 +225,7 @@ impl<'a> Line<'a> {
         let word = self.word("the class")?;
         match Class::ALL.into_iter().find(|class| class.to_string() == word.text) {
             Some(class) => Ok(class),
-            None => self.in_range(&word, "the class, XL, L, M, S or", 0, 255).map(Class),
+            None => self.in_range(&word, "the class belongs: XL, L, M, S, or", 0, 255).map(Class),
         }
     }
 
@@ -224,7 +233,7 @@ impl<'a> Line<'a> {
         match self.words.next() {
             None => Ok(()),
             Some(word) => {
-                let text = format!("`{}` is more than belongs here; {}", word.text, self.form());
+                let text = format!("{} is more than belongs here; {}", quoted(word.text), self.form());
                 Err(self.mistake(word.column, text))
             }
         }
@@ -237,7 +246,7 @@ impl<'a> Line<'a> {
         self.first = first.text;
         if LINES.iter().all(|(word, _)| *word != first.text) {
             let known: Vec<&str> = LINES.iter().map(|(word, _)| *word).collect();
-            let text = format!("no line begins with `{}`, but with one of {}", first.text, known.join(", "));
+            let text = format!("no line begins with {}, but with one of {}", quoted(first.text), known.join(", "));
             return Err(self.mistake(first.column, text));
         }
         // Bytes may stand in the place of a head too, as those of a file that has none.
@@ -247,9 +256,11 @@ impl<'a> Line<'a> {
             ("bytes", Head::Version) => (Head::Version, Head::Records),
             _ => (Head::Records, Head::Records),
         };
-        let due = std::mem::replace(head, next);
+        let due = *head;
+        // A head that comes too late changes nothing, and one that is missing is missed once.
+        *head = if due == Head::Records { due } else { next };
         if wanted != due {
-            let text = format!("`{}` stands where {} belongs", first.text, due.wanted());
+            let text = format!("{} stands where {} belongs", quoted(first.text), due.wanted());
             return Err(self.mistake(first.column, text));
         }
         match first.text {
@@ -307,7 +318,8 @@ impl<'a> Line<'a> {
         let mut owner = self.word("the owner of a log")?;
         loop {
             let place = Place { line: self.number, column: owner.column };
-            let record = Record::Handover { receiver, owner: self.in_range(&owner, "the owner of a log", 0, 255)? };
+            let record =
+                Record::Handover { receiver, owner: self.in_range(&owner, "the owner of a log belongs,", 0, 255)? };
             assembled.add(&record.bytes(), place);
             owner = match self.words.next() {
                 Some(word) => word,
@@ -327,7 +339,7 @@ impl<'a> Line<'a> {
                 }
                 _ => {
                     let place = Place { line: self.number, column: word.column };
-                    let text = format!("`{}` stands where bytes belong, two hexadecimal digits each", word.text);
+                    let text = format!("{} stands where bytes belong, two hexadecimal digits each", quoted(word.text));
                     return Err(Mistake { place, text });
                 }
             }

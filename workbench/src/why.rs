@@ -10,49 +10,56 @@ use std::fmt::Write;
 pub struct Question<'a> {
     pub play: &'a Play<'a>,
     pub name: Name,
-    pub slot: usize,
     pub panel: usize,
 }
 
 impl Question<'_> {
     pub fn answer(&self) -> String {
-        let Question { play, name, panel, .. } = self;
+        let Question { play, name, panel } = self;
         let head = format!("{} at panel {panel}, after event {}", message(play, *name), play.steps.len());
-        let held = controller(&play.table, *panel).pending[self.slot].held != 0;
-        if let Some((step, applied)) = play.applied(*name, *panel) {
-            let others: Vec<Name> = applied.names.iter().copied().filter(|other| other != name).collect();
-            let set = match &others[..] {
-                [] => "alone".into(),
-                others => format!("as one set with {}", list(others)),
-            };
-            let event = format!("event {} ({})", step.number, record_text(step.record));
-            return format!(
-                "{head}: applied\n\napplied at {event}, {set}; the panel then showed {}\n",
-                sums(applied.sums)
-            );
+        let sent = self.sent();
+        if let Some(applied) = self.applied() {
+            return format!("{head}: applied\n\n{sent}{applied}");
         }
-        match held {
-            true => format!("{head}: pending\n\n{}{}{}{}", self.sent(), self.marks(), self.kept_out(), self.unread()),
-            false if self.is_cut_off() => format!("{head}: cut off\n\n{}", self.sent()),
-            false => format!("{head}: unknown\n\n{}{}{}", self.sent(), self.marks(), self.unread()),
+        match (self.is_pending(), self.is_cut_off()) {
+            (true, _) => format!("{head}: pending\n\n{sent}{}{}{}", self.marks(), self.kept_out(), self.more()),
+            (false, true) => format!("{head}: cut off\n\n{sent}"),
+            (false, false) => format!("{head}: unknown\n\n{sent}{}{}", self.marks(), self.more()),
         }
+    }
+
+    fn n(&self) -> usize {
+        self.play.table.n
+    }
+
+    fn has(&self, owner: usize, name: Name) -> bool {
+        log(&self.play.table, owner).contains(&name)
+    }
+
+    fn is_pending(&self) -> bool {
+        pending(&self.play.table, self.panel).contains(&self.name)
     }
 
     /// Whether its entry in its sender's own log went with the sender's stop.
     fn is_cut_off(&self) -> bool {
-        !log(&self.play.table, self.name.sender as usize).contains(&self.name)
+        !self.has(self.name.sender as usize, self.name)
+    }
+
+    /// How many marks the panel's controller has for a message.
+    fn marks_of(&self, name: Name) -> usize {
+        self.play.slot(name).map_or(0, |slot| marks(&self.play.table, self.panel, slot).len())
     }
 
     /// When it was sent, whether it was cut off, and whether the panel still applies anything.
     fn sent(&self) -> String {
-        let Question { play, name, panel, .. } = self;
+        let Question { play, name, panel } = self;
         let mut text = String::new();
         if let Some(step) = play.sent(*name) {
             let _ = writeln!(text, "sent at event {} ({})", step.number, record_text(step.record));
         }
         if let Some(step) = play.stopped(name.sender as usize).filter(|_| self.is_cut_off()) {
             let event = format!("event {} ({})", step.number, record_text(step.record));
-            let _ = writeln!(text, "cut off at {event}, when nobody had read it: no panel applies it any more");
+            let _ = writeln!(text, "cut off at {event}: nobody had read it in the log of {}", name.sender);
         }
         if let Some(step) = play.stopped(*panel) {
             let _ = writeln!(text, "controller {panel} stopped at event {}: its panel applies no more", step.number);
@@ -60,26 +67,37 @@ impl Question<'_> {
         text
     }
 
+    /// When it was applied, with what, and what the panel then showed.
+    fn applied(&self) -> Option<String> {
+        let (step, applied) = self.play.applied(self.name, self.panel)?;
+        let others: Vec<Name> = applied.names.iter().copied().filter(|other| *other != self.name).collect();
+        let set = match &others[..] {
+            [] => "alone".into(),
+            others => format!("as one set with {}", list(others)),
+        };
+        let event = format!("event {} ({})", step.number, record_text(step.record));
+        Some(format!("applied at {event}, {set}; the panel then showed {}\n", sums(applied.sums)))
+    }
+
     /// Which controllers have marked it, and how many are needed.
     fn marks(&self) -> String {
-        let Question { play, name, slot, panel } = self;
-        let marks = marks(&play.table, *panel, *slot);
-        let mark_of = |f: usize| marks.iter().find(|(owner, _)| *owner == f).map(|(_, mark)| *mark);
-        let number = marks.len();
-        let mut text = format!("\nmarks at panel {panel}: {number} of the {} needed\n", play.majority());
-        for f in 1..=play.table.n {
-            let entry = log(&play.table, f).iter().position(|other| other == name).map(|place| place + 1);
-            let read = controller(&play.table, *panel).read[f - 1];
-            let state = match (mark_of(f), entry, play.stopped(f)) {
-                (Some(mark), _, _) => format!("marked, entry {mark} of {}", log_of(f, f)),
-                (None, Some(entry), _) if entry > read => format!("not yet read: entry {entry} of {}", log_of(f, f)),
-                (None, Some(entry), _) => format!("entry {entry} of {}", log_of(f, f)),
-                (None, None, Some(step)) => format!("not forwarded, and stopped at event {}", step.number),
-                (None, None, None) => format!("not forwarded{}", self.to_hear(f)),
+        let Question { play, name, panel } = self;
+        let marks = play.slot(*name).map(|slot| marks(&play.table, *panel, slot)).unwrap_or_default();
+        let mut text = format!("\nmarks at panel {panel}: {} ({} needed)\n", marks.len(), play.majority());
+        let mut possible = 0;
+        for f in 1..=self.n() {
+            let mark = marks.iter().find(|(owner, _)| *owner == f);
+            let entry = log(&play.table, f).iter().position(|other| other == name);
+            let state = match (mark, entry, play.stopped(f)) {
+                (Some((_, mark)), Some(_), _) => format!("marked, entry {mark} of its log"),
+                (Some((_, mark)), None, _) => format!("marked, entry {mark} of its log before that was cut"),
+                (None, Some(place), _) => format!("in its log as entry {}, which {panel} has not read", place + 1),
+                (None, None, Some(step)) => format!("not in its log, and stopped at event {}", step.number),
+                (None, None, None) => format!("not in its log{}", self.to_hear(f)),
             };
+            possible += usize::from(mark.is_some() || self.may_mark(f));
             let _ = writeln!(text, "    controller {f}: {state}");
         }
-        let possible = (1..=play.table.n).filter(|f| mark_of(*f).is_some() || self.may_mark(*f)).count();
         if possible < play.majority() {
             let _ = writeln!(text, "    there can be no more than {possible}: it is not applied here any more");
         }
@@ -88,98 +106,112 @@ impl Question<'_> {
 
     /// Whether the panel may yet learn of a controller's mark: it runs, and the controller's log has the message, or may.
     fn may_mark(&self, f: usize) -> bool {
-        let Question { play, name, panel, .. } = self;
-        let has = |f: usize| log(&play.table, f).contains(name);
-        play.stopped(*panel).is_none() && (has(f) || play.stopped(f).is_none() && (1..=play.table.n).any(has))
+        let runs = |c: usize| self.play.stopped(c).is_none();
+        let anywhere = || (1..=self.n()).any(|owner| self.has(owner, self.name));
+        runs(self.panel) && (self.has(f, self.name) || runs(f) && anywhere())
     }
 
     /// Which handovers let a controller hear of the message.
     fn to_hear(&self, f: usize) -> String {
-        let ways = (1..=self.play.table.n).filter_map(|owner| Some((owner, self.handovers(f, owner, self.name)?)));
-        ways.min_by_key(|(_, times)| *times)
-            .map_or(String::new(), |(owner, times)| format!("; it would be with {}", hand(f, owner, times)))
+        self.shortest(f, self.name).map_or(String::new(), |hand| format!("; {hand} would put it there"))
     }
 
-    /// How many handovers bring a reader to a message in a log, if it stands there unread.
-    fn handovers(&self, reader: usize, owner: usize, name: Name) -> Option<usize> {
-        let place = words::unread(self.play, owner, reader).iter().position(|(_, other)| *other == name)?;
-        Some(place + 1)
+    /// The fewest handovers with which a controller reads a message.
+    fn shortest(&self, reader: usize, name: Name) -> Option<String> {
+        let unread =
+            |owner: usize| words::unread(self.play, owner, reader).iter().position(|(_, other)| *other == name);
+        let ways = (1..=self.n()).filter_map(|owner| Some((owner, unread(owner)? + 1)));
+        ways.min_by_key(|(_, times)| *times).map(|(owner, times)| hand(reader, owner, times))
     }
 
-    /// The other pending messages that it does not go before, as too few controllers put it first.
-    fn blockers(&self) -> Vec<(Name, usize, usize)> {
-        let Question { play, name, panel, .. } = self;
+    /// The other pending messages that a message does not go before, with how many put it first and how many the other.
+    fn not_behind(&self, name: Name) -> Vec<(Name, usize, usize)> {
+        let Question { play, panel, .. } = self;
         let before = |first: Name, second: Name| count_before(&play.table, *panel, first, second).unwrap_or(0);
-        let others = pending(&play.table, *panel).into_iter().filter(|other| other != name);
-        let counts = others.map(|other| (other, before(*name, other), before(other, *name)));
+        let others = pending(&play.table, *panel).into_iter().filter(|other| *other != name);
+        let counts = others.map(|other| (other, before(name, other), before(other, name)));
         counts.filter(|(_, first, _)| *first < play.majority()).collect()
     }
 
     /// Which pending messages keep it out, and by what count.
     fn kept_out(&self) -> String {
-        let Question { play, name, panel, .. } = self;
-        let blockers = self.blockers();
-        let mut text = String::from("\nkept out by pending messages that it does not go before: ");
-        if blockers.is_empty() {
-            text += "none\n";
-            let marked = marks(&play.table, *panel, self.slot).len() >= play.majority();
-            let runs = play.stopped(*panel).is_none();
-            let next = (1..=play.table.n).find(|owner| !words::unread(play, *owner, *panel).is_empty());
-            if let Some(owner) = next.filter(|_| marked && runs) {
-                let _ = writeln!(text, "    sets are applied at handovers: {} applies it", hand(*panel, owner, 1));
-            }
-            return text;
+        let Question { play, name, panel } = self;
+        let needed = play.majority();
+        if pending(&play.table, *panel).iter().all(|other| self.marks_of(*other) >= needed) {
+            let next = (1..=self.n()).find(|owner| !words::unread(play, *owner, *panel).is_empty());
+            let next = next.filter(|_| play.stopped(*panel).is_none());
+            let next = next.map_or(String::new(), |owner| format!(": {} applies it", hand(*panel, owner, 1)));
+            return format!("\nall that is pending here has its marks, and sets are applied at handovers{next}\n");
         }
-        text += &count(blockers.len(), "message\n", "messages\n");
-        for (other, first, second) in blockers {
-            let needed = play.majority();
-            let put = if first == 1 { "puts" } else { "put" };
-            let back = if second == 1 { "puts" } else { "put" };
-            let _ = writeln!(
-                text,
-                "    {}: {first} {put} {name} before it, {needed} needed; {second} {back} it before {name}",
-                message(play, other)
-            );
+        let others = self.not_behind(*name);
+        let what = if self.marks_of(*name) < needed { "does not go before, so far" } else { "kept out by" };
+        let number = match others.len() {
+            0 => "none".into(),
+            number => count(number, "pending message", "pending messages"),
+        };
+        let mut text = format!("\n{what}: {number}\n");
+        for (other, first, second) in others {
+            let [put, back] = [first, second].map(|number| if number == 1 { "puts" } else { "put" });
+            let counts = format!("{first} {put} {name} before it, {needed} needed; {second} {back} it before {name}");
+            let marks = count(self.marks_of(other), "mark", "marks");
+            let _ = writeln!(text, "    {}: {counts}; it has {marks}", message(play, other));
         }
         text
     }
 
-    /// Whether the panel's controller has a controller's mark for a pending message.
-    fn is_marked(&self, name: Name, owner: usize) -> bool {
-        let Question { play, panel, .. } = self;
-        play.slot(name).is_some_and(|slot| marks(&play.table, *panel, slot).iter().any(|(f, _)| *f == owner))
+    /// The message, what it does not go before, and what these do not go before, and so on.
+    fn concerned(&self) -> Vec<Name> {
+        let mut names = vec![self.name];
+        let mut next = 0;
+        while let Some(name) = names.get(next).copied().filter(|_| self.is_pending()) {
+            let others = self.not_behind(name).into_iter().map(|(other, _, _)| other);
+            let new: Vec<Name> = others.filter(|other| !names.contains(other)).collect();
+            names.extend(new);
+            next += 1;
+        }
+        names
     }
 
-    /// What the panel's controller has not read of this message and of those that keep it out.
-    fn unread(&self) -> String {
-        let Question { play, name, panel, .. } = self;
+    /// What is unread here of this message and of those that concern it, and which of them are in too few logs.
+    fn more(&self) -> String {
+        let Question { play, panel, .. } = self;
         if play.stopped(*panel).is_some() {
             return String::new();
         }
-        let held = controller(&play.table, *panel).pending[self.slot].held != 0;
-        let mut wanted = vec![*name];
-        if held {
-            wanted.extend(self.blockers().iter().map(|(other, _, _)| *other));
-        }
-        let mut text = format!("\nunread at panel {panel}, and of use:");
-        let mut found = 0;
-        for owner in 1..=play.table.n {
-            for (place, (entry, other)) in (1..).zip(words::unread(play, owner, *panel)) {
-                if wanted.contains(&other) && !self.is_marked(other, owner) {
-                    found += 1;
-                    let log = log_of(owner, *panel);
-                    let read = controller(&play.table, *panel).read[owner - 1];
-                    let _ = write!(
-                        text,
-                        "\n    {}: {}, entry {entry} of {log} ({} read)",
-                        hand(*panel, owner, place),
-                        message(play, other),
-                        entries(read)
-                    );
+        let concerned = self.concerned();
+        let mut lines = vec![];
+        for owner in 1..=self.n() {
+            let unread = (1..).zip(words::unread(play, owner, *panel));
+            for (times, (entry, other)) in unread.filter(|(_, (_, other))| concerned.contains(other)) {
+                if !self.is_marked(other, owner) {
+                    let read = entries(controller(&play.table, *panel).read[owner - 1]);
+                    let place = format!("entry {entry} of {} ({read} read)", log_of(owner, *panel));
+                    lines.push(format!("{}: {}, {place}", hand(*panel, owner, times), message(play, other)));
                 }
             }
         }
-        text + if found == 0 { " nothing\n" } else { "\n" }
+        for name in concerned {
+            lines.extend(self.too_few_logs(name));
+        }
+        let head = if lines.is_empty() { " nothing" } else { "" };
+        lines.iter().fold(format!("\nwhat would bring more:{head}\n"), |text, line| format!("{text}    {line}\n"))
+    }
+
+    /// Whether the panel's controller has a controller's mark for a message.
+    fn is_marked(&self, name: Name, owner: usize) -> bool {
+        let slot = self.play.slot(name);
+        slot.is_some_and(|slot| marks(&self.play.table, self.panel, slot).iter().any(|(f, _)| *f == owner))
+    }
+
+    /// Handovers that put a message in more logs, if fewer have it than marks are needed.
+    fn too_few_logs(&self, name: Name) -> Vec<String> {
+        let having = (1..=self.n()).filter(|owner| self.has(*owner, name)).count();
+        let needed = self.play.majority();
+        let others =
+            (1..=self.n()).filter(|f| having < needed && !self.has(*f, name) && self.play.stopped(*f).is_none());
+        let logs = count(having, "log has", "logs have");
+        let what = |f: usize| format!("puts {} in log {f}; {logs} it, {needed} needed", message(self.play, name));
+        others.filter_map(|f| Some(format!("{}: {}", self.shortest(f, name)?, what(f)))).collect()
     }
 }
 

@@ -67,7 +67,7 @@ pub fn effect(play: &Play, step: &Step) -> String {
             };
             match marks.len() {
                 0 => format!("{read}: {heard}"),
-                number => format!("{read}: {heard}; {number} of {} marks", play.majority()),
+                number => format!("{read}: {heard}; {}, {} needed", count(number, "mark", "marks"), play.majority()),
             }
         }
         Effect::Stopped { kept, lost } => {
@@ -77,7 +77,7 @@ pub fn effect(play: &Play, step: &Step) -> String {
                 [] => String::new(),
                 _ => format!("; {what} {}", list(names)),
             };
-            format!("{stops}{}{}", cut(&own, "cut off:"), cut(&others, "no longer forwarded here:"))
+            format!("{stops}{}{}", cut(&own, "cut off:"), cut(&others, "entries lost:"))
         }
         Effect::LocalRead(read) => format!("controller {c} reads its own sums: {}", sums(*read)),
     }
@@ -127,6 +127,9 @@ pub fn malformed(bytes: &[u8], version: u8) -> Option<String> {
         return Some(format!("the length byte counts {}, and {there} there", count(*length as usize, "byte", "bytes")));
     }
     let Some(kind) = rest.first() else { return Some("the length is 0, and so there is no kind".into()) };
+    if ![1, 2].contains(&version) && Record::from_bytes(bytes).is_some() {
+        return None;
+    }
     let forms = forms(*kind);
     let of_version = |form: &&Record| version_of(**form).unwrap_or(version) == version;
     let Some(form) = forms.iter().find(of_version).or(forms.first()) else {
@@ -135,8 +138,12 @@ pub fn malformed(bytes: &[u8], version: u8) -> Option<String> {
     let wanted = form.bytes()[0];
     let text = record_text(*form);
     let event = text.split(' ').next().unwrap_or_default();
-    let in_version = version_of(*form).map_or(String::new(), |version| format!(" of version {version}"));
-    (*length != wanted).then(|| format!("a {event}{in_version} has length {wanted}, and this one {length}"))
+    let (in_version, hint) = match version_of(*form) {
+        Some(1) => (" of version 1", ": it names no class"),
+        Some(_) => (" of version 2", ": it names a class"),
+        None => ("", ""),
+    };
+    (*length != wanted).then(|| format!("a {event}{in_version} has length {wanted}, and this one {length}{hint}"))
 }
 
 /// The controllers that a record names.

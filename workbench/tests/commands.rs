@@ -46,7 +46,7 @@ fn assert_golden(words: &[&str], path: &str) {
 
 #[test]
 fn samples_run_as_their_reports_say() {
-    for sample in ["worked", "stop", "label"] {
+    for sample in ["worked", "stop", "label", "waits"] {
         assert_golden(&["run", &format!("samples/{sample}.txt")], &format!("samples/{sample}.report"));
     }
 }
@@ -59,10 +59,12 @@ fn samples_are_drawn_as_their_pictures_are() {
 
 #[test]
 fn a_panel_that_waits_says_why() {
-    let questions: [&[&str]; 6] = [
+    let questions: [&[&str]; 8] = [
         &["why", "samples/worked.txt", "3.1", "3", "--after", "10"],
         &["why", "samples/worked.txt", "3.1", "3"],
         &["why", "samples/label.txt", "4.5", "2"],
+        &["why", "samples/waits.txt", "1.1", "1", "--after", "9"],
+        &["why", "samples/waits.txt", "1.1", "2"],
         &["why", "samples/stop.txt", "5.3", "1"],
         &["why", "samples/stop.txt", "5.3", "5"],
         &["why", "samples/stop.txt", "5.1", "4"],
@@ -93,7 +95,8 @@ fn what_was_disassembled_assembles_to_the_same_bytes() {
     files.push([vec![1, 3], vec![255; 300], vec![4, 4, 1, 255]].concat());
     for bytes in files {
         let text = printed(&["disassemble", "-"], &bytes, 0);
-        assert_eq!(workbench(&["assemble", "-"], text.as_bytes()).stdout, bytes, "{text}");
+        let assembled = workbench(&["assemble", "-"], text.as_bytes());
+        assert_eq!((assembled.stdout, assembled.status.code()), (bytes, Some(0)), "{text}");
     }
 }
 
@@ -108,7 +111,7 @@ fn bytes_that_are_no_record_are_shown_with_their_offset() {
         "sync 1 # record 1, offset 2",
         "bytes 03 09 01 02 # record 2, offset 5: no kind has the number 9",
         "bytes 00 # record 3, offset 9: the length is 0, and so there is no kind",
-        "report 1 +7 class 2 # record 4, offset 10: a report of version 1 has length 4, and this one 5",
+        "report 1 +7 class 2 # record 4, offset 10: a report of version 1 has length 4, and this one 5: it names no class",
         "bytes 04 04 01 # record 5, offset 16: the length byte counts 4 bytes, and 2 are there",
     ];
     assert_eq!(lines, wanted);
@@ -118,42 +121,52 @@ fn bytes_that_are_no_record_are_shown_with_their_offset() {
 fn a_text_with_every_line_is_assembled() {
     let lines = "# all\r\nversion 2\r\n\tcontrollers 5\n\nreport 4 +30 class 2\nreport 4 -2 class S # taken back\nreport 1 360\nsync 3\n\
         hand 1<-4 4 4\nstop 4 keep 4\nread 2\nwrite 1 register 3=1500\nexpect 2 867 30\nbytes 0309 01 02\nbytes\n";
-    let records = "0502 050104001E02 050104FFFE04 0401010168 020203 03030104 03030104 03030104 0404040004 020502 07060103000005DC 03090102";
+    let records = "0205 050104001E02 050104FFFE04 0401010168 020203 03030104 03030104 03030104 0404040004 020502 07060103000005DC 03090102";
     let digits: Vec<u8> = records.replace(' ', "").chars().map(|c| c.to_digit(16).unwrap() as u8).collect();
-    let mut wanted: Vec<u8> = digits.chunks(2).map(|pair| pair[0] * 16 + pair[1]).collect();
-    wanted.swap(0, 1);
+    let wanted: Vec<u8> = digits.chunks(2).map(|pair| pair[0] * 16 + pair[1]).collect();
     assert_eq!(workbench(&["assemble", "-"], lines.as_bytes()).stdout, wanted);
 }
 
+/// Lines behind a head of two, and how the complaint of each begins.
+const MISTAKES: &[(&str, &str)] = &[
+    ("synk 1", "3:1: no line begins with `synk`"),
+    ("sync", "3:5: the sender is missing"),
+    ("sync 256", "3:6: `256` stands where the sender belongs, a number from 0 to 255"),
+    ("sync 1 2", "3:8: `2` is more than belongs here"),
+    ("  report 1 40000", "3:12: `40000` stands where the amount belongs, a number from -32768 to 32767"),
+    ("report 1 +5 klass 2", "3:13: `klass` stands where `class` belongs"),
+    ("report 1 +5 class XXL", "3:19: `XXL` stands where the class belongs: XL, L, M, S, or a number from 0 to 255"),
+    ("hand 1 <-", "3:10: the owner of a log is missing"),
+    ("hand 1 <- 2 x 3", "3:13: `x` stands where the owner of a log belongs"),
+    ("hand 1 - 2", "3:8: `-` stands where `<-` belongs"),
+    ("stop 1 4", "3:8: `4` stands where `keep` belongs"),
+    ("stop 1 keep 65536", "3:13: `65536` stands where how many entries are kept belongs"),
+    ("write 1 register 3 1500", "3:20: `1500` stands where `=` belongs"),
+    ("write 1 register 3 = 4294967296", "3:22: `4294967296` stands where the value belongs"),
+    ("expect 1 30", "3:12: what was withdrawn is missing"),
+    ("bytes 0g", "3:7: `0g` stands where bytes belong"),
+    ("bytes 1 2", "3:7: `1` stands where bytes belong"),
+    ("version 1", "3:1: `version` stands where an event belongs"),
+    ("\u{1b}[31mx 1", "3:1: no line begins with `\\u{1b}[31mx`"),
+    ("# \u{e9}\n\u{e9} 1", "4:1: no line begins with `\u{e9}`"),
+];
+
 #[test]
 fn mistakes_have_a_file_a_line_and_a_column() {
-    let head = "version 1\ncontrollers 3\n";
-    let after_head = [
-        ("synk 1", "3:1: no line begins with `synk`"),
-        ("sync", "3:5: the sender is missing"),
-        ("sync 256", "3:6: `256` stands where the sender belongs, a number from 0 to 255"),
-        ("sync 1 2", "3:8: `2` is more than belongs here"),
-        ("  report 1 40000", "3:12: `40000` stands where the amount belongs, a number from -32768 to 32767"),
-        ("report 1 +5 klass 2", "3:13: `klass` stands where `class` belongs"),
-        ("report 1 +5 class XXL", "3:19: `XXL` stands where the class, XL, L, M, S or"),
-        ("hand 1 <-", "3:10: the owner of a log is missing"),
-        ("hand 1 <- 2 x 3", "3:13: `x` stands where the owner of a log belongs"),
-        ("hand 1 - 2", "3:8: `-` stands where `<-` belongs"),
-        ("stop 1 4", "3:8: `4` stands where `keep` belongs"),
-        ("stop 1 keep 65536", "3:13: `65536` stands where how many entries are kept"),
-        ("write 1 register 3 1500", "3:20: `1500` stands where `=` belongs"),
-        ("write 1 register 3 = 4294967296", "3:22: `4294967296` stands where the value belongs"),
-        ("expect 1 30", "3:12: what was withdrawn is missing"),
-        ("bytes 0g", "3:7: `0g` stands where bytes belong"),
-        ("bytes 1 2", "3:7: `1` stands where bytes belong"),
-        ("version 1", "3:1: `version` stands where an event belongs"),
-        ("# \u{e9}\n\u{e9} 1", "4:1: no line begins with `\u{e9}`"),
-    ];
-    for (line, wanted) in after_head {
-        let found = complaint(&["run", "--text", "-"], format!("{head}{line}\n").as_bytes());
+    for (line, wanted) in MISTAKES {
+        let found =
+            complaint(&["run", "--text", "-"], format!("version 1\ncontrollers 3\n{line}\nsync 1\n").as_bytes());
         assert!(found.starts_with(&format!("standard input:{wanted}")), "{line}: {found}");
         assert_eq!(found.lines().count(), 1, "{line}: {found}");
     }
+    let long = format!("version 1\ncontrollers 3\n{}", "x".repeat(5_000));
+    assert!(complaint(&["assemble", "-"], long.as_bytes()).len() < 250);
+    let both = complaint(&["assemble", "-"], b"version 1\ncontrollers 3\nsync\nread");
+    assert_eq!(both.lines().count(), 2, "{both}");
+}
+
+#[test]
+fn a_text_begins_with_its_head() {
     let heads = [
         ("", "1:1: the text ends before `version 1` or `version 2`"),
         ("version 1", "2:1: the text ends before `controllers` and how many there are"),
@@ -167,8 +180,10 @@ fn mistakes_have_a_file_a_line_and_a_column() {
         complaint(&["assemble", "-"], b"version 1\n# \xC3\xA9 \xFF"),
         "standard input:2:5: a text is written in UTF-8, and this byte is not\n"
     );
-    let both = complaint(&["assemble", "-"], b"version 1\ncontrollers 3\nsync\nread");
-    assert_eq!(both.lines().count(), 2, "{both}");
+    // A mark of the order of bytes is no part of a text, and a text in another encoding is told where.
+    let marked = workbench(&["run", "-"], "\u{feff}version 1\ncontrollers 3\n".as_bytes());
+    assert_eq!(marked.status.code(), Some(0));
+    assert!(complaint(&["run", "-"], b"# Pr\xFCfung\n").starts_with("standard input:1:5: a text is written in UTF-8"));
 }
 
 #[test]
@@ -211,71 +226,84 @@ fn a_refusal_has_its_place_and_the_fact_behind_it() {
     assert_eq!(refusal(&report), wanted);
 }
 
+/// Lines behind a head of version 1 and three controllers, with the number that refuses the last and the fact behind it.
+const FACTS: &[(&str, u8, &str)] = &[
+    ("bytes 04 01 01", 5, "the length byte counts 4 bytes, and 2 are there"),
+    ("bytes 00", 6, "the length is 0, and so there is no kind"),
+    ("bytes 01 07", 6, "no kind has the number 7"),
+    ("report 1 +5 class 1", 7, "a report of version 1 has length 4, and this one 5: it names no class"),
+    ("hand 1 <- 4", 8, "the run has controllers 1 to 3, and none is 4"),
+    ("sync 0", 8, "the run has controllers 1 to 3, and none is 0"),
+    ("report 1 -361", 9, "the amount is -361"),
+    ("stop 2 keep 0\nread 2", 10, "controller 2 stopped at event 1"),
+    ("report 1 +5\nreport 1 +5\nsync 1", 11, "1.1 and 1.2 of its own are pending at controller 1"),
+    ("hand 1 <- 2", 13, "log 2 has no entries"),
+    ("report 1 +5\nhand 2 <- 1 1", 13, "controller 2 has read the one entry of log 1"),
+    ("report 1 +5\nstop 1 keep 2", 14, "log 1 has 1 entry, and 2 are to be kept"),
+    ("report 1 +5\nhand 3 <- 1\nstop 1 keep 0", 14, "controller 3 has read 1 entry of log 1, and 0 are to be kept"),
+    ("report 1 +5\nread 1", 18, "1.1 of its own is pending at controller 1"),
+    ("write 1 register 9 = 5", 19, "the register is 9"),
+    ("write 1 register 1 = 5", 20, "controller 1 has sent nothing"),
+    (
+        "report 1 +5\nhand 2 <- 1\nhand 1 <- 2\nwrite 1 register 1 = 5",
+        20,
+        "the latest message of controller 1 is 1.1 (+5)",
+    ),
+];
+
+/// Whether a run is refused with this number, for this reason.
+fn assert_refused(words: &[&str], input: &[u8], number: u8, fact: &str) {
+    let report = printed(words, input, 1);
+    let found = refusal(&report);
+    assert!(found[0].contains(&format!(" is refused with {number}: ")), "{report}");
+    assert_eq!(found[1], format!("    because  {fact}"));
+}
+
 #[test]
-fn each_refusal_says_its_fact() {
+fn each_refusal_of_a_record_says_its_fact() {
     let head = "version 1\ncontrollers 3\n";
-    let facts = [
-        ("bytes 04 01 01", 5, "the length byte counts 4 bytes, and 2 are there"),
-        ("bytes 00", 6, "the length is 0, and so there is no kind"),
-        ("bytes 01 07", 6, "no kind has the number 7"),
-        ("report 1 +5 class 1", 7, "a report of version 1 has length 4, and this one 5"),
-        ("hand 1 <- 4", 8, "the run has controllers 1 to 3, and none is 4"),
-        ("sync 0", 8, "the run has controllers 1 to 3, and none is 0"),
-        ("report 1 -361", 9, "the amount is -361"),
-        ("stop 2 keep 0\nread 2", 10, "controller 2 stopped at event 1"),
-        ("report 1 +5\nreport 1 +5\nsync 1", 11, "1.1 and 1.2 of its own are pending at controller 1"),
-        ("hand 1 <- 2", 13, "log 2 has no entries"),
-        ("report 1 +5\nhand 2 <- 1 1", 13, "controller 2 has read the one entry of log 1"),
-        ("report 1 +5\nstop 1 keep 2", 14, "log 1 has 1 entry, and 2 are to be kept"),
-        ("report 1 +5\nhand 3 <- 1\nstop 1 keep 0", 14, "controller 3 has read 1 entry of log 1, and 0 are to be kept"),
-        ("report 1 +5\nread 1", 18, "1.1 of its own is pending at controller 1"),
-        ("write 1 register 9 = 5", 19, "the register is 9"),
-        ("write 1 register 1 = 5", 20, "controller 1 has sent nothing"),
-        (
-            "report 1 +5\nhand 2 <- 1\nhand 1 <- 2\nwrite 1 register 1 = 5",
-            20,
-            "the latest message of controller 1 is 1.1 (+5)",
-        ),
-    ];
-    for (lines, number, fact) in facts {
-        let report = printed(&["run", "-"], format!("{head}{lines}\n").as_bytes(), 1);
-        let found = refusal(&report);
-        assert!(found[0].contains(&format!(" is refused with {number}: ")), "{report}");
-        assert_eq!(found[1], format!("    because  {fact}"));
+    for (lines, number, fact) in FACTS {
+        assert_refused(&["run", "-"], format!("{head}{lines}\n").as_bytes(), *number, fact);
     }
+    let full = format!("{head}{}", "report 1 +1\n".repeat(65));
+    assert_refused(&["run", "-"], full.as_bytes(), 12, "the run has 64 messages");
     let in_version_2 = [
-        ("report 1 +5", 7, "a report of version 2 has length 5, and this one 4"),
+        ("report 1 +5", 7, "a report of version 2 has length 5, and this one 4: it names a class"),
         ("report 1 0 class 1", 9, "the amount is 0"),
         ("report 1 1 class 5", 17, "the class is 5"),
     ];
     for (line, number, fact) in in_version_2 {
-        let report = printed(&["run", "-"], format!("version 2\ncontrollers 3\n{line}\n").as_bytes(), 1);
-        assert!(refusal(&report)[0].contains(&format!(" is refused with {number}: ")), "{report}");
-        assert_eq!(refusal(&report)[1], format!("    because  {fact}"));
+        assert_refused(&["run", "-"], format!("version 2\ncontrollers 3\n{line}\n").as_bytes(), number, fact);
     }
-    let full = format!("{head}{}", "report 1 +1\n".repeat(65));
-    assert_eq!(refusal(&printed(&["run", "-"], full.as_bytes(), 1))[1], "    because  the run has 64 messages");
-    for (bytes, number, fact) in [
-        (vec![1], 1, "the file has 1 byte"),
-        (vec![1; 65_536], 1, "the file has 65536 bytes"),
-        (vec![3, 3], 2, "byte 0, the version, is 3"),
-        (vec![1, 8], 3, "byte 1, the number of controllers, is 8"),
-    ] {
-        let report = printed(&["run", "--bytes", "-"], &bytes, 1);
-        assert!(report.starts_with(&format!("standard input is refused with {number}: ")), "{report}");
-        assert_eq!(refusal(&report)[1], format!("    because  {fact}"));
+}
+
+#[test]
+fn each_refusal_of_a_file_says_its_fact() {
+    let files: [(&[u8], u8, &str); 4] = [
+        (&[1], 1, "the file has 1 byte"),
+        (&[1; 65_536], 1, "the file has 65536 bytes"),
+        (&[3, 3], 2, "byte 0, the version, is 3"),
+        (&[1, 8], 3, "byte 1, the number of controllers, is 8"),
+    ];
+    for (bytes, number, fact) in files {
+        for command in ["run", "why"] {
+            let more: &[&str] = if command == "why" { &["1.1", "1"] } else { &[] };
+            assert_refused(&[&[command, "--bytes", "-"], more].concat(), bytes, number, fact);
+        }
     }
+    let report = printed(&["run", "-"], b"version 1\ncontrollers 8\n", 1);
+    assert!(refusal(&report).contains(&"    text     standard input:2:1"), "{report}");
 }
 
 #[test]
 fn why_asks_for_a_message_and_a_panel_that_are_there() {
     let sample = "samples/worked.txt";
     let wanted = [
-        (vec!["why", sample, "2.1", "1"], "2.1 was not sent in 11 events; sent were 1.1 and 3.1\n"),
-        (vec!["why", sample, "3.1", "1", "--after", "4"], "3.1 was not sent in 4 events; sent were 1.1\n"),
+        (vec!["why", sample, "2.1", "1"], "2.1 was not sent in 11 events; sent: 1.1 and 3.1\n"),
+        (vec!["why", sample, "3.1", "1", "--after", "4"], "3.1 was not sent in 4 events; sent: 1.1\n"),
         (vec!["why", sample, "3", "1"], "`3` names no message, as 3.1 does\n"),
         (vec!["why", sample, "3.1", "4"], "panel 4 is refused with 8: Is every controller named from 1 to n?\n"),
-        (vec!["why", sample, "3.1", "1", "--after", "12"], "event 12 is not reached: 11 were accepted\n"),
+        (vec!["why", sample, "3.1", "1", "--after", "12"], "event 12 is not reached: 11 events accepted\n"),
     ];
     for (words, wanted) in wanted {
         assert_eq!(complaint(&words, b""), wanted);
@@ -296,45 +324,41 @@ fn every_command_has_help_and_complains_of_what_it_does_not_know() {
         let missing = complaint(&[&[command, "no/such.file"], more].concat(), b"");
         assert!(missing.starts_with("no/such.file: "), "{missing}");
     }
+    assert_eq!(workbench(&["assemble", "samples/worked.txt", "-o", "-"], b"").stdout, file("../bindings/worked.run"));
     assert!(complaint(&["shout"], b"").starts_with("workbench: there is no command shout"));
     assert!(complaint(&["assemble", "samples/worked.txt", "-o", "no/such.file"], b"").starts_with("no/such.file: "));
 }
 
-/// The longest run files: local reads, handovers between seven controllers, and bytes that are no records.
-fn longest() -> [Vec<u8>; 3] {
-    let mut handovers = vec![1, 7];
-    for message in 0..9 {
-        handovers.extend([4, 1, message % 7 + 1, 0, 1]);
-    }
+/// The longest run files, with how many events are accepted: local reads; 64 messages, every log read by each of seven
+/// controllers, and local reads; and bytes that are no records.
+fn longest() -> [(Vec<u8>, usize); 3] {
     let reads = [vec![2, 7], [2, 5, 3].repeat(21_844)].concat();
-    for round in 0..400 {
-        let (receiver, owner) = (round % 7 + 1, round / 7 % 7 + 1);
-        handovers.extend([2, 5, receiver as u8, 3, 3, receiver as u8, owner as u8]);
+    let mut dense = vec![1, 7];
+    (0..64).for_each(|message| dense.extend([4, 1, message % 7 + 1, 0, 1]));
+    for _ in 0..64 {
+        (0..49).for_each(|pair| dense.extend([3, 3, pair / 7 + 1, pair % 7 + 1]));
     }
+    let left = (65_535 - dense.len()) / 3;
+    dense.extend([2, 5, 1].repeat(left));
     let zeros = [vec![1, 7], vec![0; 65_533]].concat();
-    handovers.resize(65_535, 0);
-    [reads, handovers, zeros]
+    [(reads, 21_844), (dense, 64 + 64 * 49 + left), (zeros, 0)]
 }
 
 #[test]
 fn the_longest_files_take_well_below_a_second() {
-    for bytes in longest() {
-        let mut text = vec![];
-        for words in [
-            &["disassemble", "-"][..],
-            &["run", "--bytes", "-"],
-            &["draw", "--bytes", "-"],
-            &["why", "--bytes", "-", "1.1", "1"],
-        ] {
-            let start = Instant::now();
-            let output = workbench(words, &bytes);
-            assert!(start.elapsed() < Duration::from_secs(1), "{words:?} took {:?}", start.elapsed());
-            if words[0] == "disassemble" {
-                text = output.stdout;
-            }
-        }
+    let timed = |words: &[&str], input: &[u8]| {
         let start = Instant::now();
-        assert_eq!(workbench(&["assemble", "-"], &text).stdout, bytes);
-        assert!(start.elapsed() < Duration::from_secs(1), "assemble took {:?}", start.elapsed());
+        let output = workbench(words, input);
+        assert!(start.elapsed() < Duration::from_secs(1), "{words:?} took {:?}", start.elapsed());
+        text(&output.stderr).is_empty().then_some(output.stdout)
+    };
+    for (bytes, events) in longest() {
+        let disassembled = timed(&["disassemble", "-"], &bytes).expect("a text");
+        assert!(timed(&["assemble", "-"], &disassembled).is_some_and(|again| again == bytes));
+        let report = text(&timed(&["run", "--bytes", "-"], &bytes).expect("a report"));
+        assert!(report.contains(&format!("\n{events} events accepted\n")), "{}", &report[report.len() - 500..]);
+        assert!(timed(&["draw", "--bytes", "-"], &bytes).is_some());
+        // Only one of them has a message.
+        assert_eq!(timed(&["why", "--bytes", "-", "1.1", "1"], &bytes).is_some(), report.contains(" sends 1.1 "));
     }
 }
