@@ -3,7 +3,7 @@
 use crate::case::hexadecimal;
 use crate::random::Random;
 use crate::records::handover;
-use crate::reference::{self, run_file, Name, Payload, Register, Run, State, LISTING, SCRATCH};
+use crate::reference::{self, run_file, Controller, Name, Payload, Register, Run, State, LISTING, SCRATCH};
 
 /// The words with which the text of a record begins.
 const EVENTS: [&str; 6] = ["report", "sync", "hand", "stop", "read", "write"];
@@ -117,55 +117,94 @@ fn first_records(bytes: &[u8], number: usize) -> Vec<&[u8]> {
     (0..number).map_while(|_| next()).collect()
 }
 
-/// The number and the text of each event that was accepted, a line for each.
+/// The number and the text of each event that was accepted, and what it did, a line for each; below the handover that
+/// finishes a sync, what that answers.
 pub fn events(asked: &Asked) -> String {
-    let records = first_records(asked.bytes, asked.run.events);
-    (1..).zip(records).map(|(number, record)| format!("{number} {}\n", record_text(record))).collect()
-}
-
-/// The same, from the lines of a run in words. What an event did stands behind two spaces or more.
-pub fn events_in(text: &str) -> String {
-    let event = |line: &str| {
-        let (number, rest) = line.trim_start().split_once("  ").unwrap_or_default();
-        format!("{number} {}\n", rest.split("  ").next().unwrap_or_default())
-    };
-    text.lines().filter(|line| is_event(line)).map(event).collect()
-}
-
-/// What local reads and finished syncs answer, a line for each with the number of its event.
-pub fn answers(asked: &Asked) -> String {
-    let Some(Run { state: Some(State { version, n, .. }), events, .. }) = Some(&asked.run) else {
-        return String::new();
-    };
-    let (mut state, mut scratch, mut text) = (State::fresh(*version, *n), [0; SCRATCH], String::new());
-    for (number, record) in (1..).zip(first_records(asked.bytes, *events)) {
-        let (answer, _) = state.event(record, &mut scratch);
-        if answer.finished || record_text(record).starts_with("read") {
-            text += &format!("{number} {} added, {} withdrawn\n", answer.sums.added, answer.sums.withdrawn);
+    let Some(State { version, n, .. }) = asked.run.state else { return String::new() };
+    let (mut state, mut text) = (State::fresh(version, n), String::new());
+    for (number, record) in (1..).zip(first_records(asked.bytes, asked.run.events)) {
+        let c = record[2] as usize;
+        let before = state.controllers[c - 1].clone();
+        let (answer, _) = state.event(record, &mut [0; SCRATCH]);
+        let sums = format!("{} added, {} withdrawn", answer.sums.added, answer.sums.withdrawn);
+        let did = match record[1] {
+            3 => handed_over(&before, &state, c, record[3] as usize),
+            4 => stopped(&before, &state, c),
+            5 => format!("controller {c} reads its own sums: {sums}"),
+            _ => {
+                let name = name_text(&state.messages[state.messages.len() - 1].name);
+                format!("controller {c} sends {name} ({})", said_of(&state, &name))
+            }
+        };
+        text += &format!("{number} {}: {did}\n", record_text(record));
+        if answer.finished {
+            text += &format!("answers {sums}\n");
         }
     }
     text
 }
 
-/// The same, from the lines of a run in words.
-pub fn answers_in(text: &str) -> String {
-    let (mut answers, mut event) = (String::new(), "");
+pub fn name_text(name: &Name) -> String {
+    format!("{}.{}", name.sender, name.number)
+}
+
+/// What a handover did, with the reader as it was before and the state behind it.
+fn handed_over(known: &Controller, state: &State, reader: usize, owner: usize) -> String {
+    let (then, place) = (&state.controllers[reader - 1], known.read[owner - 1]);
+    let name = state.controllers[owner - 1].log[place];
+    let before = known.pending.get(&name).map(|marks| (marks[owner - 1], marks.iter().flatten().count()));
+    let (what, marks) = match before {
+        _ if then.log.len() > known.log.len() => {
+            (format!("new to it, forwarded as entry {} of its own log", then.log.len()), 1)
+        }
+        None => ("applied already, passed over".into(), 0),
+        Some((Some(_), marks)) => ("known to it, with its own mark".into(), marks),
+        Some((None, marks)) => (format!("marked by {owner}"), marks + 1),
+    };
+    let log = if owner == reader { "its own log".into() } else { format!("log {owner}") };
+    let marks = match marks {
+        0 => String::new(),
+        1 => format!("; 1 mark, {} needed", majority(state)),
+        more => format!("; {more} marks, {} needed", majority(state)),
+    };
+    format!("controller {reader} reads {}, entry {} of {log}: {what}{marks}", name_text(&name), place + 1)
+}
+
+/// What a stop did, with the controller as it was before.
+fn stopped(before: &Controller, state: &State, c: usize) -> String {
+    let (kept, length) = (state.controllers[c - 1].log.len(), before.log.len());
+    let (own, others): (Vec<&Name>, Vec<&Name>) = before.log[kept..].iter().partition(|name| name.sender == c);
+    let lost = |what: &str, names: Vec<&Name>| {
+        let names: Vec<String> = names.into_iter().map(name_text).collect();
+        match &names[..] {
+            [] => String::new(),
+            [one] => format!("; {what} {one}"),
+            [first @ .., last] => format!("; {what} {} and {last}", first.join(", ")),
+        }
+    };
+    let entries = if length == 1 { "entry" } else { "entries" };
+    let lost = lost("cut off:", own) + &lost("entries lost:", others);
+    format!("controller {c} stops: {kept} of {length} {entries} kept{lost}")
+}
+
+/// The same, from the lines of a run in words. What an event did stands behind two spaces or more.
+pub fn events_in(text: &str) -> String {
+    let mut events = String::new();
     for line in text.lines() {
         if is_event(line) {
-            event = line.split_whitespace().next().unwrap_or_default();
-        }
-        let answer = [" reads its own sums: ", " sync is finished and answers "].map(|words| line.split_once(words));
-        for (_, sums) in answer.into_iter().flatten() {
-            answers += &format!("{event} {sums}\n");
+            let (number, rest) = line.trim_start().split_once("  ").unwrap_or_default();
+            let (record, did) = rest.split_once("  ").unwrap_or_default();
+            events += &format!("{number} {record}: {}\n", did.trim_start());
+        } else if let Some((_, sums)) = line.split_once("; its sync is finished and answers ") {
+            events += &format!("answers {sums}\n");
         }
     }
-    answers
+    events
 }
 
 /// What a message says, as it stands in brackets behind its name.
 pub fn said_of(state: &State, name: &str) -> String {
-    let is = |other: &Name| format!("{}.{}", other.sender, other.number) == name;
-    let message = state.messages.iter().find(|message| is(&message.name));
+    let message = state.messages.iter().find(|message| name_text(&message.name) == name);
     match message.map(|message| message.payload) {
         Some(Payload::Report { amount, class: 0 }) => format!("{amount:+}"),
         Some(Payload::Report { amount, class }) => format!("{amount:+} {}", CLASSES[class - 1]),
@@ -313,7 +352,7 @@ pub fn keeping_out(state: &State, name: &Name, panel: usize) -> String {
     let others = at.pending.keys().filter(|other| *other != name);
     let counts = others.map(|other| (other, before(name, other), before(other, name)));
     let line = |(other, first, second): (&Name, usize, usize)| {
-        format!("{}.{}: {first} of {}, {second}, {}", other.sender, other.number, majority(state), marks(other))
+        format!("{}: {first} of {}, {second}, {}", name_text(other), majority(state), marks(other))
     };
     let lines = counts.filter(|(_, first, _)| *first < majority(state)).map(line).collect();
     listed(if marks(name) < majority(state) { "does not go before, so far" } else { "kept out by" }, lines)

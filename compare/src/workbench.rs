@@ -140,7 +140,6 @@ impl Workbench<'_> {
         let text = done.text();
         same("run", asked.printed.clone(), rebuilt(&text).unwrap_or(text.clone()))?;
         same("run: events", events(asked), events_in(&text))?;
-        same("run: answers", answers(asked), answers_in(&text))?;
         let refused = text.lines().find_map(refusal_in).map(|(what, _)| what.to_string());
         same("run: refusal", self.refused(asked), refused.unwrap_or_default())?;
         let Some(state) = &asked.run.state else { return Ok(()) };
@@ -163,7 +162,7 @@ impl Workbench<'_> {
     /// Why a message is (not) applied at a panel, asked of a random one.
     fn check_why(&self, asked: &Asked, tally: &mut Tally) -> Result<(), Wrong> {
         let Some(Question { state, name, panel, after }) = question(asked) else { return Ok(()) };
-        let (message, number) = (format!("{}.{}", name.sender, name.number), panel.to_string());
+        let (message, number) = (name_text(&name), panel.to_string());
         let events = after.map(|after| after.to_string());
         let mut words = vec![message.as_str(), &number, "--bytes"];
         words.extend(events.iter().flat_map(|events| ["--after", events]));

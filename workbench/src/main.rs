@@ -83,7 +83,8 @@ handovers would bring more. It is asked at the end of the run, or after an event
 const DRAW: &str = "\
 workbench draw FILE [-o SVG] [--text | --bytes]
 
-Writes a picture of the run, to standard output unless -o names a file. A browser shows it as it is.
+Writes a picture of the run, to standard output unless -o names a file. A browser shows it as it is. What was refused, and
+expectations that failed, are marked in it, and named on standard error.
 ";
 
 /// Why a command could not do what it was asked, for standard error.
@@ -191,6 +192,7 @@ fn draw(asked: &Asked) -> Result<bool, Failed> {
     let path = std::path::Path::new(&source.name);
     let title = path.file_name().map_or(source.name.as_str().into(), |name| name.to_string_lossy());
     put(asked.output.as_deref(), draw::svg(&title, &play).as_bytes())?;
+    complain(&report::complaints(&source, &play));
     Ok(report::succeeded(&play))
 }
 
@@ -198,7 +200,7 @@ fn why(asked: &Asked) -> Result<bool, Failed> {
     let (message, panel) = (&asked.words[1], &asked.words[2]);
     let source = Source::load(&asked.words[0], asked.form)?;
     let play = play::play(source.bytes(), &[], asked.after.unwrap_or(usize::MAX));
-    let refused = play.refused.as_ref().map(|refused| report::refusal(&source, &play, refused)).unwrap_or_default();
+    let refused = report::complaints(&source, &play);
     let answer = match asked.after.filter(|after| *after > play.steps.len() && play.table.n > 0) {
         Some(after) => Err(format!("event {after} is not reached: {} accepted\n", events(play.steps.len()))),
         None if play.table.n == 0 => Ok(String::new()),
@@ -235,6 +237,11 @@ fn question(play: &Play, message: &str, panel: &str) -> Result<String, Failed> {
     Ok(why::Question { play, name, panel }.answer())
 }
 
+/// Writes to standard error; whoever reads complaints may be gone.
+fn complain(text: &str) {
+    let _ = std::io::stderr().write_all(text.as_bytes());
+}
+
 /// The words of the command line.
 fn words_given() -> Result<Vec<String>, Failed> {
     let word = |word: std::ffi::OsString| word.into_string().map_err(|word| format!("{word:?} is not UTF-8\n"));
@@ -259,8 +266,7 @@ fn main() -> ExitCode {
         Ok(true) => ExitCode::SUCCESS,
         Ok(false) => ExitCode::from(1),
         Err(failed) => {
-            // Whoever reads complaints may be gone.
-            let _ = std::io::stderr().write_all(failed.as_bytes());
+            complain(&failed);
             ExitCode::from(2)
         }
     }

@@ -68,6 +68,14 @@ fn expectation(source: &Source, checked: &Checked) -> String {
     format!("{}:{}:{}: FAILED: expected {panel} {}, and {shown}", source.name, place.line, place.column, expected.sums)
 }
 
+/// What failed, for a command that shows something else: expectations, and the refusal.
+pub fn complaints(source: &Source, play: &Play) -> String {
+    let failed = play.checked.iter().filter(|checked| !checked.holds());
+    let failed = failed.map(|checked| expectation(source, checked) + "\n").collect::<String>();
+    let refused = play.refused.as_ref().map(|refused| refusal(source, play, refused));
+    failed + &refused.unwrap_or_default()
+}
+
 /// The number, the question, the record, its place and the fact behind it.
 pub fn refusal(source: &Source, play: &Play, refused: &Refused) -> String {
     let mut lines = vec![];

@@ -171,45 +171,39 @@ pub fn fact(play: &Play, refused: &Refused) -> Option<String> {
         return Some(format!("the run has controllers 1 to {n}, and none is {}", strangers.first()?));
     }
     let c = actor(record) as usize;
-    match number {
-        Refusal::STOPPED => Some(format!("controller {c} stopped at event {}", play.stopped(c)?.number)),
-        Refusal::FULL => Some(format!("the run has {}", count(play.table.count, "message", "messages"))),
-        Refusal::OWN_PENDING | Refusal::READ_PENDING => own_pending(play, c),
-        Refusal::NOT_SYNCED => Some(latest(play, c)),
-        _ => fact_of_fields(play, record),
+    match (number, record) {
+        (Refusal::STOPPED, _) => Some(format!("controller {c} stopped at event {}", play.stopped(c)?.number)),
+        (Refusal::FULL, _) => Some(format!("the run has {}", count(play.table.count, "message", "messages"))),
+        (Refusal::OWN_PENDING | Refusal::READ_PENDING, _) => own_pending(play, c),
+        (Refusal::NOT_SYNCED, _) => Some(latest(play, c)),
+        (Refusal::NO_ENTRY, Record::Handover { owner, .. }) => Some(all_read(play, c, owner as usize)),
+        (Refusal::KEPT, Record::Stop { kept, .. }) => Some(not_to_keep(play, c, kept as usize)),
+        (Refusal::AMOUNT, Record::Report { amount, .. } | Record::ClassedReport { amount, .. }) => {
+            Some(format!("the amount is {amount}"))
+        }
+        (Refusal::CLASS, Record::ClassedReport { class, .. }) => Some(format!("the class is {}", class.0)),
+        (Refusal::REGISTER, Record::Write { register, .. }) => Some(format!("the register is {register}")),
+        _ => None,
     }
 }
 
-/// The fact behind a refusal that the fields of a record give.
-fn fact_of_fields(play: &Play, record: Record) -> Option<String> {
-    let table = &play.table;
-    match record {
-        Record::Handover { receiver, owner } => {
-            let (receiver, owner) = (receiver as usize, owner as usize);
-            Some(match controller(table, owner).length {
-                0 => format!("log {owner} has no entries"),
-                1 => format!("controller {receiver} has read the one entry of log {owner}"),
-                length => format!("controller {receiver} has read all {length} entries of log {owner}"),
-            })
+/// How much of a log a reader has read that has nothing left for it.
+fn all_read(play: &Play, reader: usize, owner: usize) -> String {
+    match controller(&play.table, owner).length {
+        0 => format!("log {owner} has no entries"),
+        1 => format!("controller {reader} has read the one entry of log {owner}"),
+        length => format!("controller {reader} has read all {length} entries of log {owner}"),
+    }
+}
+
+/// What forbids to keep so many entries of a log.
+fn not_to_keep(play: &Play, owner: usize, kept: usize) -> String {
+    let (length, read) = (controller(&play.table, owner).length, |r: usize| controller(&play.table, r).read[owner - 1]);
+    match (1..=play.table.n).find(|reader| read(*reader) > kept) {
+        Some(reader) => {
+            format!("controller {reader} has read {} of log {owner}, and {kept} are to be kept", entries(read(reader)))
         }
-        Record::Stop { controller: c, kept } => {
-            let (c, kept) = (c as usize, kept as usize);
-            let length = controller(table, c).length;
-            let (read, reader) = (1..=table.n).map(|r| (controller(table, r).read[c - 1], r)).max_by_key(|x| x.0)?;
-            Some(match kept > length {
-                true => format!("log {c} has {}, and {kept} are to be kept", entries(length)),
-                false => {
-                    format!("controller {reader} has read {} of log {c}, and {kept} are to be kept", entries(read))
-                }
-            })
-        }
-        Record::Report { amount, .. } => Some(format!("the amount is {amount}")),
-        Record::ClassedReport { amount, .. } if amount == 0 || amount.unsigned_abs() > 360 => {
-            Some(format!("the amount is {amount}"))
-        }
-        Record::ClassedReport { class, .. } => Some(format!("the class is {}", class.0)),
-        Record::Write { register, .. } => Some(format!("the register is {register}")),
-        Record::Sync { .. } | Record::LocalRead { .. } => None,
+        None => format!("log {owner} has {}, and {kept} are to be kept", entries(length)),
     }
 }
 

@@ -198,6 +198,9 @@ fn an_expectation_that_fails_is_named_and_fails_the_run() {
     ] {
         assert!(report.contains(wanted), "{report}");
     }
+    let drawn = workbench(&["draw", "-"], lines.as_bytes());
+    assert_eq!(drawn.status.code(), Some(1));
+    assert!(text(&drawn.stderr).starts_with("standard input:4:3: FAILED: "), "{}", text(&drawn.stderr));
     let report = printed(&["run", "-"], b"version 1\ncontrollers 1\nread 2\nexpect 1 0 0\n", 1);
     assert!(report.contains("0 events accepted; of 1 expectation, 0 held, 1 not reached\n"), "{report}");
 }
@@ -350,7 +353,7 @@ fn the_longest_files_take_well_below_a_second() {
         let start = Instant::now();
         let output = workbench(words, input);
         assert!(start.elapsed() < Duration::from_secs(1), "{words:?} took {:?}", start.elapsed());
-        text(&output.stderr).is_empty().then_some(output.stdout)
+        (output.status.code() != Some(2)).then_some(output.stdout)
     };
     for (bytes, events) in longest() {
         let disassembled = timed(&["disassemble", "-"], &bytes).expect("a text");
