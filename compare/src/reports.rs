@@ -336,6 +336,27 @@ pub fn marks(state: &State, name: &Name, panel: usize) -> String {
     format!("marks at panel {panel}: {number} ({} needed)", majority(state))
 }
 
+/// How many marks there can be yet, if these are fewer than are needed: of those whose logs have the message or may have
+/// it, if the panel's controller still reads.
+pub fn lost(state: &State, name: &Name, panel: usize) -> String {
+    let (at, has) = (&state.controllers[panel - 1], |c: &Controller| c.log.contains(name));
+    let anywhere = state.controllers.iter().any(has);
+    let may = |f: usize, c: &Controller| {
+        let marked = at.pending.get(name).is_some_and(|marks| marks[f].is_some());
+        marked || at.running && (has(c) || c.running && anywhere)
+    };
+    let possible = state.controllers.iter().enumerate().filter(|(f, c)| may(*f, c)).count();
+    match possible < majority(state) {
+        true => format!("there can be no more than {possible}: it is not applied here any more"),
+        false => String::new(),
+    }
+}
+
+/// The same from the text.
+pub fn lost_in(text: &str) -> String {
+    text.lines().map(str::trim_start).find(|line| line.starts_with("there can be")).unwrap_or_default().into()
+}
+
 pub fn marks_in(text: &str) -> String {
     text.lines().find(|line| line.starts_with("marks at panel")).unwrap_or("no line of marks").into()
 }

@@ -177,6 +177,9 @@ impl Workbench<'_> {
         offers(&text)
             .iter()
             .try_for_each(|offer| same("why: handovers", offer.clone(), followed(&state, &name, offer)))?;
+        if ["pending", "unknown"].contains(&right) {
+            same("why: lost", about(&lost(&state, &name, panel)), about(&lost_in(&text)))?;
+        }
         match right {
             "applied" => same("why: set", about(&set_with(&asked.printed, &message, panel)), about(&set_in(&text))),
             "pending" => {

@@ -317,6 +317,34 @@ fn why_asks_for_a_message_and_a_panel_that_are_there() {
 }
 
 #[test]
+fn why_says_where_too_few_are_left_to_mark_a_message() {
+    let answer = |lines: &str| {
+        let text = format!("version 1\ncontrollers 3\nreport 1 +5\n{lines}");
+        printed(&["why", "-", "1.1", "1"], text.as_bytes(), 0)
+    };
+    let lost = "there can be no more than 1: it is not applied here any more\n";
+    assert!(answer("stop 2 keep 0\nstop 3 keep 0\n").contains(lost));
+    assert!(answer("hand 2 <- 1\nstop 2 keep 0\nstop 3 keep 0\n").contains(lost));
+    for enough in ["", "stop 3 keep 0\n", "hand 2 <- 1\nstop 2 keep 1\nstop 3 keep 0\n"] {
+        assert!(!answer(enough).contains("no more than"), "{}", answer(enough));
+    }
+    // Only those that run are asked to put it in their logs.
+    assert!(answer("stop 3 keep 0\n").contains("`hand 2 <- 1`: puts 1.1 (+5) in log 2; 1 log has it, 2 needed\n"));
+    assert!(!answer("stop 3 keep 0\n").contains("`hand 3"));
+}
+
+#[test]
+fn a_picture_is_called_by_its_file_whatever_that_is_called() {
+    let path = std::env::temp_dir().join(format!("<&\"> {}.txt", std::process::id()));
+    std::fs::copy("samples/worked.txt", &path).expect("a file");
+    let picture = printed(&["draw", path.to_str().expect("a path")], b"", 0);
+    std::fs::remove_file(&path).expect("the file");
+    let title = format!("&lt;&amp;&quot;&gt; {}.txt", std::process::id());
+    let changed = text(&file("../docs/worked.svg")).replace("worked.txt", &title);
+    assert_eq!(picture, changed);
+}
+
+#[test]
 fn every_command_has_help_and_complains_of_what_it_does_not_know() {
     for command in ["assemble", "disassemble", "run", "why", "draw"] {
         assert!(printed(&[command, "--help"], b"", 0).starts_with(&format!("workbench {command} ")));
