@@ -420,9 +420,9 @@ fn a_record_is_read_back_from_its_bytes_and_from_no_others() {
         Record::ClassedReport { sender: 0, amount: 32_767, class: Class(255) },
         Record::Sync { sender: 7 },
         Record::Handover { receiver: 1, owner: 200 },
-        Record::Stop { controller: 3, kept: 65_535 },
+        Record::Stop { controller: 3, kept: 0x0102 },
         Record::LocalRead { controller: 9 },
-        Record::Write { sender: 2, register: 0, value: 4_294_967_040 },
+        Record::Write { sender: 2, register: 0, value: 0x8102_0304 },
     ];
     for record in records {
         let bytes = record.bytes();
