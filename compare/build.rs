@@ -3,9 +3,6 @@
 
 use std::{env, fs, path::Path};
 
-/// The files of the reference that a fault may edit.
-const EDITED: [&str; 2] = ["reference.rs", "tables.rs"];
-
 struct Fault {
     name: String,
     meaning: String,
@@ -75,7 +72,7 @@ fn planted(file: &str, start: usize, end: usize, mut places: &[Place]) -> String
         let right = planted(file, outer.start, outer.end, &others[..inside]);
         let (fault, wrong) = (outer.fault, &outer.new);
         text += &file[at..outer.start];
-        let either = format!("if crate::faults::planted({fault}) {{ {wrong} }} else {{ {right} }}");
+        let either = format!("if crate::engines::faults::planted({fault}) {{ {wrong} }} else {{ {right} }}");
         // A loop is a statement, which stands in no parentheses; any other text may be a part of an expression.
         text += &if right.ends_with('}') { format!("{{ {either} }}") } else { format!("({either})") };
         (at, places) = (outer.end, &others[inside..]);
@@ -103,6 +100,11 @@ fn all_places(files: &[String], faults: &[Fault]) -> Vec<Vec<Place>> {
     all
 }
 
+/// The module that a line declares, if it declares one.
+fn module_of(line: &str) -> Option<&str> {
+    line.strip_prefix("pub ").unwrap_or(line).strip_prefix("mod ")?.strip_suffix(';')
+}
+
 fn main() {
     let (root, out) = (env::var("CARGO_MANIFEST_DIR").unwrap(), env::var("OUT_DIR").unwrap());
     let read = |path: &Path| {
@@ -113,12 +115,17 @@ fn main() {
     let mut lists: Vec<_> = fs::read_dir(format!("{root}/faults")).unwrap().map(|file| file.unwrap().path()).collect();
     lists.sort();
     let faults: Vec<Fault> = lists.iter().flat_map(|list| faults_of(&read(list))).collect();
-    let files = EDITED.map(|name| read(Path::new(&format!("{root}/src/{name}"))));
-    for ((name, file), places) in EDITED.iter().zip(&files).zip(all_places(&files, &faults)) {
-        // An inner comment may stand only at the head of a file, and the copy is included in a module.
-        let copy = planted(file, 0, file.len(), &places).replace("//!", "//");
-        fs::write(format!("{out}/{name}"), copy).unwrap();
+    let reference = |name: &str| read(Path::new(&format!("{root}/src/reference/{name}.rs")));
+    let top = reference("mod");
+    let modules: Vec<&str> = top.lines().filter_map(module_of).collect();
+    let files: Vec<String> = modules.iter().map(|name| reference(name)).collect();
+    let mut copy = top.clone();
+    for ((name, file), places) in modules.iter().zip(&files).zip(all_places(&files, &faults)) {
+        let text = planted(file, 0, file.len(), &places);
+        copy = copy.replace(&format!("mod {name};"), &format!("mod {name} {{\n{text}}}"));
     }
+    // An inner comment may stand only at the head of a file, and the copy is included in a module.
+    fs::write(format!("{out}/reference.rs"), copy.replace("//!", "//")).unwrap();
     let names: Vec<_> = faults.iter().map(|fault| (&fault.name, &fault.meaning)).collect();
     fs::write(format!("{out}/faults.rs"), format!("&{names:?}")).unwrap();
 }

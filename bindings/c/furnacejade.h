@@ -470,7 +470,7 @@ void furnacejade_count_before(const furnacejade_table *t, size_t c, const furnac
  * each set applied, are written into the listing from the start on; the bytes behind them stay. A local read counts as an
  * event and has no line. Also where a record is refused, the listing keeps the lines before it, the answer has the table that
  * they left, and the first 4,096 scratch bytes are zero if any event was accepted. A file refused by questions 1 to 3 changes
- * neither listing nor scratch. Takes 17 KB of stack.
+ * neither listing nor scratch. Takes 16 KB of stack.
  *
  *     static uint8_t listing[FURNACEJADE_LISTING];
  *     furnacejade_run(file, size, listing, sizeof listing, scratch, sizeof scratch, &run);

@@ -14,39 +14,15 @@
 //!     print                 what the program prints for the file on standard input
 //!     bench                 times, and the stack that each call needs
 
-mod before_edges;
-mod bench;
-mod broken_tables;
-mod case;
-mod check;
-mod compare;
-mod counts;
-mod demand3;
+mod benchmark;
+mod cases;
+mod checks;
 mod edges;
-mod engine;
-mod faults;
-mod fields;
-mod file_cases;
+mod engines;
 mod generate;
-mod list_cases;
-mod minimise;
 mod modes;
-mod never_stale;
-mod odd;
-mod random;
-mod records;
 mod reference;
-mod reports;
-mod runs;
-mod stack;
-mod stale_edges;
-mod subsets;
-mod table_cases;
-mod tables;
 mod workbench;
-mod write_edges;
-
-use std::io::{Read, Write};
 
 const MODES: &str = "modes: compare N SEED | long N | one SEED INDEX | count N SEED
     | faults [random [DIR [NAME]] | demand3] | reference N SEED | program PATH N SEED
@@ -54,12 +30,6 @@ const MODES: &str = "modes: compare N SEED | long N | one SEED INDEX | count N S
 
 fn clock() -> u64 {
     std::time::SystemTime::now().duration_since(std::time::UNIX_EPOCH).unwrap().as_nanos() as u64
-}
-
-fn print() {
-    let mut input = vec![];
-    std::io::stdin().read_to_end(&mut input).expect("standard input");
-    std::io::stdout().write_all(&reference::program(&input)).expect("standard output");
 }
 
 fn main() {
@@ -70,13 +40,13 @@ fn main() {
         "compare" => modes::compare(cases(), seed()),
         "long" => (0..number(1, 10)).for_each(|_| modes::compare(1600, clock())),
         "one" => modes::one(number(1, 1), number(2, 0) as usize),
-        "faults" => modes::faults(words.get(1).map_or("", String::as_str), words.get(2), words.get(3)),
-        "count" => modes::count(cases(), seed()),
+        "faults" => modes::faults::find_all(words.get(1).map_or("", String::as_str), words.get(2), words.get(3)),
+        "count" => modes::count::print(cases(), seed()),
         "reference" => modes::reference(cases(), seed()),
-        "program" => modes::program(&words[1], number(2, 200) as usize, number(3, 1)),
+        "program" => modes::program::compare(&words[1], number(2, 200) as usize, number(3, 1)),
         "workbench" => workbench::all(&words[1], number(2, 200) as usize, number(3, 1), &words[4]),
-        "print" => print(),
-        "bench" => bench::all(),
+        "print" => modes::print(),
+        "bench" => benchmark::all(),
         _ => println!("{MODES}"),
     }
 }

@@ -7,7 +7,7 @@ use native.Mathlib.Decide.{decLt}
 use Rattle.broadcast.specs.State.{System, State, append, fifoDeliver, crash}
 use Rattle.broadcast.specs.Events.{MayCrash}
 use Rattle.broadcast.proofs.Updates.{update-case, update-case₂, read-case}
-use Rattle.broadcast.proofs.Logs.{Logs, Entry, appended, unchanged, position-after, position-kept, order-kept, grow-case, append-logs}
+use Rattle.broadcast.proofs.Positions.{Logs, Entry, appended, unchanged, position-after, position-kept, order-kept, grow-case, append-logs}
 use Rattle.broadcast.proofs.Stable.{Stable, stable-mono}
 
 module _ (k : System) where

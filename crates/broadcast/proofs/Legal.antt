@@ -7,7 +7,7 @@ use borrow.Author.Tests.{ltb-true, ltb-false}
 use Rattle.lists.proofs.Tests.{cond-case}
 use Rattle.broadcast.specs.State.{System, State, append, fifoDeliver, forward, receive}
 use Rattle.broadcast.specs.Events.{MayBroadcast, MayRead}
-use Rattle.broadcast.proofs.Logs.{Entry}
+use Rattle.broadcast.proofs.Positions.{Entry}
 use Rattle.broadcast.proofs.Invariant.{Invariant}
 
 module _ (k : System) where

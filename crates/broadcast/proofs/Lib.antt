@@ -1,5 +1,5 @@
 pub mod Updates
-pub mod Logs
+pub mod Positions
 pub mod Marks
 pub mod Stable
 pub mod Invariant
@@ -7,7 +7,7 @@ pub mod Evidence
 pub mod Legal
 pub mod Sources
 pub mod Settled
-pub mod Runs
+pub mod Reachable
 pub mod Theorem
 pub mod Stored
 pub mod Slots

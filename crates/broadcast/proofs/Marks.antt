@@ -11,7 +11,7 @@ use borrow.Author.Tests.{lt-ltb, le-ltb, eq-eqb, ne-eqb}
 use Rattle.broadcast.specs.State.{System, State, append, fifoDeliver}
 use Rattle.broadcast.specs.Delivery.{mark}
 use Rattle.broadcast.proofs.Updates.{read-case}
-use Rattle.broadcast.proofs.Logs.{After, appended, unchanged, position-after}
+use Rattle.broadcast.proofs.Positions.{After, appended, unchanged, position-after}
 
 module _ (k : System) where
   open System k using (top, sender)

@@ -10,7 +10,7 @@ use Rattle.lists.proofs.Tests.{and-left, and-right, both, or-false, decided, co
 use Rattle.broadcast.specs.State.{System, State, append, fifoDeliver, scdDeliver, crash}
 use Rattle.broadcast.specs.Delivery.{mark, Pending, QuorumLess, Closed, Largest}
 use Rattle.broadcast.proofs.Updates.{update-case, update-other, read-case, delivered-after}
-use Rattle.broadcast.proofs.Logs.{Entry, appended, unchanged, position-after, grow-case}
+use Rattle.broadcast.proofs.Positions.{Entry, appended, unchanged, position-after, grow-case}
 use Rattle.broadcast.proofs.Marks.{append-mark, unread-mark}
 use Rattle.broadcast.proofs.Stable.{quorum-mono}
 use Rattle.broadcast.proofs.Invariant.{Invariant, read-length}

@@ -7,7 +7,7 @@ use native.Mathlib.Decide.{ℕ-discrete}
 use Rattle.broadcast.specs.State.{System, State, append, fifoDeliver, receive}
 use Rattle.broadcast.specs.Events.{MayBroadcast, MayRead}
 use Rattle.broadcast.proofs.Updates.{read-case}
-use Rattle.broadcast.proofs.Logs.{appended, unchanged, position-after, position-kept}
+use Rattle.broadcast.proofs.Positions.{appended, unchanged, position-after, position-kept}
 use Rattle.broadcast.proofs.Invariant.{Invariant, read-length}
 use Rattle.broadcast.proofs.Legal.{forward-case, next-present}
 

@@ -14,7 +14,7 @@ use Rattle.broadcast.proofs.Updates.{update-case}
 use Rattle.broadcast.proofs.Marks.{mark-lacking, append-mark, broadcast-mark, unread-mark, read-mark}
 use Rattle.broadcast.proofs.Invariant.{Invariant, read-length}
 use Rattle.broadcast.proofs.Legal.{forward-case, receive-delivered, next-present}
-use Rattle.broadcast.proofs.Runs.{All, forwarded}
+use Rattle.broadcast.proofs.Reachable.{All, forwarded}
 
 -- K j f is the mark that process i stores in slot j for f, counted from 1, so that `suc top` is absent; slot j holds the message `name j`
 pub record Stored (k : System) (slots : ℕ) (name : ℕ → ℕ) (K : ℕ → ℕ → ℕ) (s : State) (i : ℕ) : Type 0 where
@@ -49,10 +49,6 @@ module _ (k : System) (s : State) (a : All k s) (r o m : ℕ) (w : MayRead k s r
   module _ (slots : ℕ) (name : ℕ → ℕ) (K : ℕ → ℕ → ℕ) where
     undelivered : (i j : ℕ) → S .delivered i (name j) ≡ false → s .delivered i (name j) ≡ false
     undelivered i j h = rw (receive-delivered k s r o m) at h
-
-    -- another process stores what it stored
-    pub others-stored : (i : ℕ) → i ≢ r → Stored k slots name K s i → Stored k slots name K S i
-    others-stored i d q = record { stored = λ j l h f b. q .stored j l (undelivered i j h) f b ∙ ap suc (sym (receive-mark i (name j) f (λ e _ _. d e))) }
 
     -- a message delivered before is passed over
     pub passed-stored : s .delivered r m ≡ true → Stored k slots name K s r → Stored k slots name K S r

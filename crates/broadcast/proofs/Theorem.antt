@@ -1,9 +1,9 @@
--- The properties of set-constrained delivery, of every state that a run reaches: `All` holds of the fresh state and is kept (Runs.antt).
+-- The properties of set-constrained delivery, of every state that a run reaches: `All` holds of the fresh state and is kept (Reachable.antt).
 -- Assumes nothing.
 use Prim.Native.Nat.{ℕ, _≤_, _<_}
 use mathlib.Core.Bool.{Bool, true, false}
 use mathlib.Core.Path.{_≡_, sym, _∙_}
-use mathlib.Core.Logic.{inl, inr, _↔_}
+use mathlib.Core.Logic.{_↔_}
 use native.Mathlib.Omega.{arith}
 use native.Mathlib.Decide.{ℕ-discrete, decLt}
 use lib.Dec.{ltb}
@@ -12,13 +12,13 @@ use Rattle.lists.specs.Below.{count}
 use Rattle.lists.proofs.Tests.{by-contradiction}
 use Rattle.lists.proofs.Below.{count-found, count-le}
 use Rattle.broadcast.specs.State.{System, State, receive}
-use Rattle.broadcast.specs.Delivery.{Subset, mark, Largest}
+use Rattle.broadcast.specs.Delivery.{mark, Largest}
 use Rattle.broadcast.specs.Events.{Run, Comparable, AllRead, Remains}
 use Rattle.broadcast.proofs.Marks.{known, unknown, marked}
 use Rattle.broadcast.proofs.Stable.{stable-comparable}
 use Rattle.broadcast.proofs.Invariant.{Invariant}
 use Rattle.broadcast.proofs.Legal.{receive-delivered}
-use Rattle.broadcast.proofs.Runs.{All, run-kept}
+use Rattle.broadcast.proofs.Reachable.{All, run-kept}
 
 module _ (k : System) where
   open System k using (n, quorum, top, sender)
@@ -56,14 +56,6 @@ module _ (k : System) where
     | no l ↦
         let q : x ≡ m = a .invariant .logs .distinct (sender m) x m (rw e at (delivered-sent s a i x d)) (omega arith) in
         rw (sym q) d
-  ]
-
-  -- a message sent after one moment and delivered at a later one: all that was delivered anywhere at the first is delivered there
-  pub later-contains : (s u : State) → All k s → Run k s u → (i j m : ℕ) → s .position (sender m) m ≡ top → u .delivered j m ≡ true
-      → Subset (s .delivered i) (u .delivered j)
-  later-contains s u a p i j m e d = elim (containment s u a p i j) [
-    | inl w ↦ w
-    | inr w ↦ absurd (omega (arith, delivered-sent s a i m (w .each m d)))
   ]
 
   -- termination: a quorum runs and has read every log to its end; each has delivered exactly what was sent and is still readable

@@ -11,7 +11,7 @@ use Rattle.model.specs.declared.Table.{Table}
 use Rattle.model.specs.Facts.{Among, WellFormed}
 use Rattle.model.proofs.Largest.{majority-more}
 use Rattle.broadcast.specs.State.{System, State}
-use Rattle.broadcast.proofs.Runs.{All}
+use Rattle.broadcast.proofs.Reachable.{All}
 use Rattle.broadcast.proofs.Stored.{Stored}
 use Rattle.broadcast.proofs.Slots.{Slot}
 

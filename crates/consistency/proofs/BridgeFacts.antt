@@ -8,10 +8,9 @@ use Rattle.lists.specs.Below.{count}
 use Rattle.lists.proofs.Tests.{contradiction, refuted, or-cases}
 use Rattle.lists.proofs.Below.{count-ext}
 use Rattle.model.specs.Tables.{seats, yes?, at, message, slotAt, place, held, applied}
-use Rattle.model.specs.WellFormed.{inLog}
+use Rattle.model.specs.Facts.{inLog, Among, GoodController, WellFormed}
 use Rattle.model.specs.declared.Controller.{Controller}
 use Rattle.model.specs.declared.Table.{Table}
-use Rattle.model.specs.Facts.{Among, GoodController, WellFormed}
 use Rattle.model.specs.Delivery.{majority}
 use Rattle.model.proofs.Largest.{majority-half}
 use Rattle.invariant.proofs.Stores.{seated}

@@ -4,7 +4,7 @@ use mathlib.Core.Path.{_≡_, refl, sym, ap, _∙_}
 use mathlib.Core.Logic.{_≢_}
 use Prim.Native.Nat.{ℕ, suc, _+_, _-_, _≤_, _<_}
 use native.Mathlib.Omega.{arith}
-use Rattle.model.specs.Tables.{capacity, at, message, slotAt, withController, withEntry}
+use Rattle.model.specs.Tables.{capacity, at, message, slotAt, withController, withEntry, messageIn}
 use Rattle.model.specs.Events.{subject, after, withSent, next}
 use Rattle.model.specs.Sized.{SizedController}
 use Rattle.model.specs.Questions.{firstNo, eventQuestions}
@@ -19,11 +19,11 @@ use Rattle.invariant.proofs.Logs.{Entered, last, earlier, entered}
 use Rattle.broadcast.specs.State.{State, append}
 use Rattle.broadcast.specs.Events.{Event as Step}
 use Rattle.broadcast.proofs.Updates.{update-same}
-use Rattle.broadcast.proofs.Logs.{Entry, appended, unchanged, position-after, position-kept, grow-case}
+use Rattle.broadcast.proofs.Positions.{Entry, appended, unchanged, position-after, position-kept, grow-case}
 use Rattle.broadcast.proofs.Invariant.{Invariant}
 use Rattle.broadcast.proofs.Settled.{SameView, append-view}
 use Rattle.broadcast.proofs.Slots.{Slot}
-use Rattle.broadcast.proofs.Runs.{event-kept}
+use Rattle.broadcast.proofs.Reachable.{event-kept}
 use Rattle.consistency.proofs.Bridge.{top, system, codeAt, ShowsBy, Shows, Related}
 
 module _ (n slots : ℕ) (name : ℕ → ℕ) (s u : State) (i : ℕ) (c : Controller) where
@@ -92,7 +92,7 @@ module _ {n : ℕ} {t : Table} {s : State} (g : Related n t s) (e : Event) (q : 
       → ((i m : ℕ) → u .position i m < top → Slot (withSent t e .count) (codeAt (withSent t e)) m)
       → ((j : ℕ) → j < withSent t e .count → suc (u .position (message (withSent t e) j .sender - 1) (codeAt (withSent t e) j)) ≡ message (withSent t e) j .number .0)
       → Followed n (next t e) s
-  unfolding next withController message
+  unfolding next withController messageIn
   followed u legal new others slot-of numbered = record {
     after = u;
     legal = legal;

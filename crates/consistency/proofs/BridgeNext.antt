@@ -7,17 +7,17 @@ use native.Mathlib.Omega.{arith}
 use lib.ListN.{getD-replicate}
 use Rattle.model.specs.Tables.{seats, capacity, absent, mark, unheld, noPending, idle, start, fresh}
 use Rattle.model.specs.Events.{next}
-use Rattle.model.specs.Questions.{firstNo, eventQuestions}
+use Rattle.model.specs.Questions.{FreshAllowed, firstNo, eventQuestions}
 use Rattle.model.specs.declared.Pending.{Pending}
 use Rattle.model.specs.declared.Table.{Table}
 use Rattle.model.specs.declared.Event.{Event}
 use Rattle.model.specs.declared.Event.the-variants.{Send, Handover, Stop}
-use Rattle.model.proofs.Allowed.{FreshAllowed, send-allowed, handover-allowed, stop-allowed}
+use Rattle.model.proofs.Allowed.{send-allowed, handover-allowed, stop-allowed}
 use Rattle.invariant.proofs.Sizes.{fresh-sized}
 use Rattle.invariant.proofs.Buffering.{unheld-absent}
 use Rattle.invariant.proofs.Kept.{at-fresh, fresh-well-formed}
 use Rattle.broadcast.specs.State.{State, fresh as freshState}
-use Rattle.broadcast.proofs.Runs.{fresh-all}
+use Rattle.broadcast.proofs.Reachable.{fresh-all}
 use Rattle.consistency.proofs.Bridge.{top, system, codeAt, ShowsBy, Related}
 use Rattle.consistency.proofs.BridgeKept.{Followed}
 use Rattle.consistency.proofs.BridgeSend.{send-followed}

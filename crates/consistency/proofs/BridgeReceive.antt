@@ -13,12 +13,12 @@ use Rattle.lists.proofs.Tests.{contradiction}
 use Rattle.model.specs.Tables.{seats, capacity, yes?, at, message, slotAt, place, entry, held, applied, highest, unheld, forwardNumber, withEntry, withRead, withMark}
 use Rattle.model.specs.Events.{nextSlot, received}
 use Rattle.model.specs.Sized.{SizedController}
-use Rattle.model.specs.WellFormed.{inLog}
+use Rattle.model.specs.Facts.{inLog, GoodController}
 use Rattle.model.specs.declared.ForwardNumber.{ForwardNumber}
 use Rattle.model.specs.declared.Controller.{Controller}
 use Rattle.model.specs.declared.Table.{Table}
-use Rattle.model.specs.Facts.{GoodController}
 use Rattle.model.proofs.Allowed.{HandoverAllowed}
+use Rattle.model.proofs.Handovers.{nextAt, receivedAt}
 use Rattle.invariant.proofs.Stores.{seated, at-sized, read-place, read-place-other, forward-case}
 use Rattle.invariant.proofs.Logs.{log-shorter}
 use Rattle.invariant.proofs.Buffering.{unheld-absent}
@@ -47,7 +47,7 @@ module _ {n : ℕ} {t : Table} {s : State} (g : Related n t s) (r o : ℕ) (a : 
 
   -- the slot read, and the code of its message
   abbrev j : ℕ
-  j = nextSlot t (suc r) (suc o)
+  j = nextAt t (suc r) (suc o)
 
   abbrev m : ℕ
   m = codeAt t j
@@ -206,13 +206,13 @@ module _ {n : ℕ} {t : Table} {s : State} (g : Related n t s) (r o : ℕ) (a : 
       same : (f : ℕ) → f < seats → f ≢ o → getD (unheld .marks) f (forwardNumber 0) .0 ≡ marksOf c j f
       same f l _ = unheld-absent f l ∙ sym (h .absent-marks j f slot-room l d)
 
-  pub received-shows : Shows n t S r (received t (suc r) (suc o))
+  pub received-shows : Shows n t S r (receivedAt t (suc r) (suc o))
   unfolding received
   received-shows =
       forward-case (Shows n t S r) (withRead c (suc o)) (message t j) j (suc o) k
       passed-shows (λ _ e. marked-shows e) (λ b e. entered-shows (lacked b e) e)
 
-  pub received-running : yes? (received t (suc r) (suc o) .running) ≡ true
+  pub received-running : yes? (receivedAt t (suc r) (suc o) .running) ≡ true
   unfolding received
   received-running =
       forward-case (λ (y : Controller). yes? (y .running) ≡ true) (withRead c (suc o)) (message t j) j (suc o) k (λ _. a .running) (λ _ _. a .running) (λ _ _. a .running)

@@ -6,7 +6,7 @@ use Prim.Native.Nat.{ℕ, suc, _+_, _-_, _<_}
 use native.Mathlib.Numerals.{add-one}
 use native.Mathlib.Omega.{arith}
 use Rattle.lists.proofs.Tests.{refuted}
-use Rattle.model.specs.Tables.{seats, capacity, absent, at, message, slotAt, held, applied, unheld, withMessage, withMark}
+use Rattle.model.specs.Tables.{seats, capacity, absent, at, message, slotAt, held, applied, unheld, withMessage, withMark, messagesOf}
 use Rattle.model.specs.Events.{sentMessage, sent, subject, after, withSent, next}
 use Rattle.model.specs.Sized.{SizedController}
 use Rattle.model.specs.Questions.{firstNo, eventQuestions}
@@ -23,7 +23,7 @@ use Rattle.invariant.proofs.Buffering.{unheld-absent}
 use Rattle.invariant.proofs.Sending.{Added, new, old, added}
 use Rattle.broadcast.specs.State.{State, append}
 use Rattle.broadcast.specs.Events.{MayBroadcast, broadcasts}
-use Rattle.broadcast.proofs.Logs.{Entry}
+use Rattle.broadcast.proofs.Positions.{Entry}
 use Rattle.broadcast.proofs.Invariant.{Invariant}
 use Rattle.broadcast.proofs.Legal.{broadcast-entry}
 use Rattle.broadcast.proofs.Stored.{Stored, sent-stored}
@@ -54,7 +54,7 @@ module _ {n : ℕ} {t : Table} {s : State} (g : Related n t s) (c : ℕ) (p : Pa
   m = code (suc c) k
 
   abbrev t₁ : Table
-  t₁ = withMessage t (sentMessage t (suc c) p)
+  t₁ = withMessage t (sentMessage (messagesOf t) (at t (suc c)) (suc c) p)
 
   h : Shows n t s c x
   h = g .controllers c process
@@ -152,14 +152,14 @@ module _ {n : ℕ} {t : Table} {s : State} (g : Related n t s) (c : ℕ) (p : Pa
       absent-marks = absent-marks;
     }
       where
-        each : (j : ℕ) → Added t (sentMessage t (suc c) p) j → s .delivered i (codeAt t₁ j) ≡ applied z j
+        each : (j : ℕ) → Added t (sentMessage (messagesOf t) (at t (suc c)) (suc c) p) j → s .delivered i (codeAt t₁ j) ≡ applied z j
         each j (new e _) = rw (e, code-new) (undelivered i ∙ sym (outside .1))
         each j (old l _) = rw (code-old j l) (h′ .applied-is j l)
 
-  sender-shows : Shows n t₁ u c (sent t (suc c))
+  sender-shows : Shows n t₁ u c (sent (t .count) (at t (suc c)) (suc c))
   unfolding sent
   sender-shows =
-      sent-shows c process (sent t (suc c)) refl refl refl
+      sent-shows c process (sent (t .count) (at t (suc c)) (suc c)) refl refl refl
       (append-readable n s c m (nowhere c) ∙ omega (arith, h .length))
       (append-log n s c m (nowhere c) x size room log-length (codeAt t₁) (t .count) code-new
       (λ q b. rw (code-old (slotAt x q) (good .log-run q b)) (h .log q b)))
@@ -191,7 +191,7 @@ module _ {n : ℕ} {t : Table} {s : State} (g : Related n t s) (c : ℕ) (p : Pa
   unfolding sentMessage
   numbered j l = each (added t _ (g .sized) (a .room) j (omega (arith, one-more)))
     where
-      each : Added t (sentMessage t (suc c) p) j → suc (u .position (message t₁ j .sender - 1) (codeAt t₁ j)) ≡ message t₁ j .number .0
+      each : Added t (sentMessage (messagesOf t) (at t (suc c)) (suc c) p) j → suc (u .position (message t₁ j .sender - 1) (codeAt t₁ j)) ≡ message t₁ j .number .0
       each (new _ e) = let from-zero : suc c - 1 ≡ c = omega arith in rw (e, from-zero) (omega (arith, append-position n s c m (nowhere c), log-length))
       each (old b e) = rw e (append-numbered n s v c m enters _ _ _ (g .formed .numbers j b .1) (g .numbered j b))
 

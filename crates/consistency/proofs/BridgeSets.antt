@@ -11,12 +11,13 @@ use Rattle.lists.specs.Build.{tabulate}
 use Rattle.lists.proofs.Tests.{and-left, and-right, both, bool-eq, contradiction}
 use Rattle.lists.proofs.Below.{count-found, count-pos}
 use Rattle.lists.proofs.Build.{getD-tabulate}
-use Rattle.model.specs.Tables.{seats, capacity, absent, held}
-use Rattle.model.specs.Delivery.{Slots, has, majority, markCount, goesBefore, applicable}
+use Rattle.model.specs.Tables.{seats, capacity, absent, inBuffer, held}
+use Rattle.model.specs.Delivery.{Slots, has, majority, markCount, goesBefore}
+use Rattle.model.specs.Rounds.{applicable}
 use Rattle.model.specs.declared.Controller.{Controller}
 use Rattle.model.specs.declared.Table.{Table}
 use Rattle.model.specs.Facts.{WellFormed}
-use Rattle.model.specs.Largest.{Closed as ClosedSlots, inBuffer, candidate, precedes}
+use Rattle.model.specs.Largest.{Closed as ClosedSlots, candidate, precedes}
 use Rattle.model.proofs.Largest.{applicable-largest, applicable-held}
 use Rattle.broadcast.specs.State.{State}
 use Rattle.broadcast.specs.Delivery.{Largest}
@@ -27,18 +28,18 @@ use Rattle.consistency.proofs.BridgeFacts.{codes-differ}
 -- CODES OF A SET OF SLOTS
 
 -- m is the code of a slot of S
-unfoldable pub inSet : Table → Slots → ℕ → Bool
-inSet t S m = ltb 0 (count (t .count) (λ j. eqb (codeAt t j) m && has S j))
+unfoldable pub codeInSet : Table → Slots → ℕ → Bool
+codeInSet t S m = ltb 0 (count (t .count) (λ j. eqb (codeAt t j) m && has S j))
 
 module _ (t : Table) (S : Slots) where
-  pub in-set-slot : (m : ℕ) → inSet t S m ≡ true → Slot (t .count) (codeAt t) m
-  unfolding inSet
+  pub in-set-slot : (m : ℕ) → codeInSet t S m ≡ true → Slot (t .count) (codeAt t) m
+  unfolding codeInSet
   in-set-slot m e =
       let f = count-found (t .count) (λ j. eqb (codeAt t j) m && has S j) (ltb-true 0 _ e) in
       record { slot = f .which; below = f .below; is = eqb-true (codeAt t (f .which)) m (and-left _ _ (f .passes)) }
 
-  pub in-set-at : WellFormed t → (j : ℕ) → j < t .count → inSet t S (codeAt t j) ≡ has S j
-  unfolding inSet
+  pub in-set-at : WellFormed t → (j : ℕ) → j < t .count → codeInSet t S (codeAt t j) ≡ has S j
+  unfolding codeInSet
   in-set-at w j h = bool-eq _ _ member
       (λ e. lt-ltb 0 _ (count-pos (t .count) (λ i. eqb (codeAt t i) (codeAt t j) && has S i) j h (both (eq-eqb (codeAt t j) (codeAt t j) refl) e)))
     where
@@ -92,7 +93,7 @@ module _ (n : ℕ) (slots : ℕ) (name : ℕ → ℕ) (c : Controller) (counted 
     in-run : (j : ℕ) → j < capacity → has R j ≡ u j
     in-run j h = getD-tabulate capacity u false j h
 
-    listed-closed : ClosedSlots capacity (inBuffer n (c .pending)) (candidate n (c .pending)) (precedes n (c .pending)) R
+    listed-closed : ClosedSlots capacity (inBuffer (c .pending)) (candidate n (c .pending)) (precedes n (c .pending)) R
     unfolding markCount goesBefore
     listed-closed = record {
       chosen = λ x h e. let p = sym (in-run x h) ∙ e in

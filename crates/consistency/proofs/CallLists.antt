@@ -9,23 +9,21 @@ use lib.ListN.{length, take, drop, take-append-drop}
 use lib.Seq.{take-add}
 use Rattle.model.specs.Tables.{start as begins, fresh}
 use Rattle.model.specs.Events.{appliedBy}
-use Rattle.model.specs.Calls.{EventAnswer, event}
+use Rattle.model.specs.Calls.{EventAnswer, event, look}
 use Rattle.model.specs.declared.Name.{Name}
 use Rattle.model.specs.declared.Table.{Table}
 use Rattle.model.specs.declared.Event.{Event}
+use Rattle.model.specs.declared.LookAnswer.{LookAnswer}
 use Rattle.broadcast.specs.State.{fresh as freshState}
-use Rattle.consistency.specs.Demand3.{Call, Entry, answered, left, Said, Step, carried, steps, did, Ledger, start, moved, ledger, sentNames, Head, Heads, version, controllers, opening, given, entries, moment, Contains}
+use Rattle.consistency.specs.Entries.{panelLook, observe, Call, Entry, answered, observed, left, Said, Step, carried, steps, did}
+use Rattle.consistency.specs.Ledger.{Ledger, start, moved, ledger, sentNames}
+use Rattle.consistency.specs.Demand3.{Head, Heads, version, controllers, opening, given, entries, moment, Contains}
+use Rattle.consistency.specs.Courses.{Course, told, Gives, freshOf, tableAt}
 use Rattle.consistency.proofs.Bridge.{top}
-use Rattle.consistency.proofs.Ledger.{names-sent}
-use Rattle.consistency.proofs.Moments.{Course, course-append, course-first, course-rest, stepped, Takes, Gives, told, entries-version, did-append, entries-taken, transcript-course, Moment, first-moment, moment-after, Later, moment-later}
+use Rattle.consistency.proofs.Recorded.{names-sent}
+use Rattle.consistency.proofs.Moments.{course-append, course-first, course-rest, stepped, Takes, entries-version, did-append, entries-taken, Moment, first-moment, moment-after, Later, moment-later}
+use Rattle.consistency.proofs.CallCourses.{transcript-course}
 use Rattle.consistency.proofs.Heads.{Opened, opened}
-
--- the fresh table that a list starts from, and the table at a moment of it
-abbrev pub freshOf : Head → Table
-freshOf h = fresh (version h) (controllers h)
-
-abbrev pub tableAt : Head → List Call → ℕ → Table
-tableAt h calls i = foldl told (freshOf h) (take i (entries h calls))
 
 fresh-version : (h : Head) → freshOf h .version ≡ version h
 unfolding fresh begins
@@ -73,6 +71,10 @@ module _ (h : Head) (heads : Heads h) (calls : List Call) where
   pub event-at : (i : ℕ) (s w : List ℕ) (a : EventAnswer) (after : List Entry) → drop i es ≡ answered s w a ∷ after → a ≡ event (tableAt h calls i) s (length w) .answer
   unfolding Gives
   event-at i s w a = gives-at i (answered s w a)
+
+  pub look-at : (i c : ℕ) (a : LookAnswer) (after : List Entry) → drop i es ≡ observed (panelLook c) a ∷ after → a ≡ look (tableAt h calls i) c
+  unfolding Gives observe
+  look-at i c a = gives-at i (observed (panelLook c) a)
 
   -- ITS MOMENTS
 

@@ -5,10 +5,11 @@ use mathlib.Core.List.{List, [], _∷_, _++_}
 use mathlib.Core.Logic.{_≢_}
 use native.Mathlib.Omega.{arith}
 use borrow.Author.Tests.{eq-eqb, ne-eqb}
-use Rattle.lists.proofs.Every.{Every, every-append, every-weaker}
+use Rattle.lists.specs.Every.{Every}
+use Rattle.lists.proofs.Every.{every-append, every-weaker}
 use Rattle.model.specs.Runs.{decimal}
 use Rattle.model.proofs.Decimals.{by-decimal}
-use Rattle.consistency.specs.Demand3.{first, split, numberFrom, numberIn}
+use Rattle.consistency.specs.Lines.{first, split, numberFrom, numberIn}
 
 -- DECIMAL NUMBERS
 

@@ -20,9 +20,10 @@ use Rattle.model.specs.Runs.{Progress, lineAt, verdict, records, begun, progres
 use Rattle.model.proofs.Allowed.{step-asked}
 use Rattle.model.proofs.Steps.{step-is-accepted, accepted-asked, file-run-ran}
 use Rattle.model.proofs.Runs.{gone, verdict-passed, advance-case}
-use Rattle.consistency.specs.Demand3.{Line, Entry, listed, split, noLine, lineFor, recordEntries, fileEntries}
+use Rattle.consistency.specs.Entries.{Line, Entry, listed}
+use Rattle.consistency.specs.Lines.{split, noLine, lineFor, recordEntries, fileEntries}
+use Rattle.consistency.specs.Courses.{Course, told, lineAfter, Gives}
 use Rattle.consistency.proofs.Reader.{event-read, end-read}
-use Rattle.consistency.proofs.Moments.{Course, lineAfter, Gives, told}
 
 -- READING
 

@@ -6,9 +6,11 @@ use Prim.Native.Nat.{ℕ}
 use Rattle.lists.proofs.Tests.{or-left}
 use Rattle.model.specs.declared.Name.{Name}
 use Rattle.model.specs.declared.Event.the-variants.{Send, Handover, Stop}
-use Rattle.consistency.specs.Demand3.{has, Step, carried, Sent, Ledger, applied, moved, sentNames, Contains}
+use Rattle.consistency.specs.Entries.{has, Step, carried}
+use Rattle.consistency.specs.Ledger.{Sent, Ledger, applied, moved, sentNames}
+use Rattle.consistency.specs.Demand3.{Contains}
 use Rattle.consistency.proofs.Names.{has-append, flatten-last}
-use Rattle.consistency.proofs.LedgerChanges.{put-case}
+use Rattle.consistency.proofs.RecordedChanges.{put-case}
 
 abbrev pub names : List Sent → List Name
 names xs = map (λ x. x .name) xs

@@ -6,16 +6,15 @@ use mathlib.Core.List.{List, [], _∷_, _++_, cons-ne-nil}
 use mathlib.Core.Logic.{_≢_}
 use Prim.Native.Nat.{ℕ, _<_}
 use native.Mathlib.Omega.{arith}
-use lib.ListN.{length}
 use lib.Dec.{eqb, ltb}
 use borrow.Author.Tests.{eqb-true, eq-eqb}
 use Rattle.lists.proofs.Tests.{both, contradiction, or-left, or-right}
 use Rattle.lists.proofs.Below.{count-ext}
-use Rattle.model.specs.Tables.{message, noSums, withController, Among}
+use Rattle.model.specs.Tables.{message, noSums, withController, Among, messageIn, messagesOf}
 use Rattle.model.specs.Delivery.{Slots, has as member}
-use Rattle.model.specs.Events.{handoverSet, subject, withSent, next, appliedBy, controllerOf, resulting, panelOf, finishes}
-use Rattle.model.specs.Records.{decode}
-use Rattle.model.specs.Calls.{EventAnswer, answering, accepted, event}
+use Rattle.model.specs.Events.{subject, withSent, next, appliedBy, controllerOf, resulting, panelOf, finishes}
+use Rattle.model.specs.Records.{behind, decode}
+use Rattle.model.specs.Calls.{EventAnswer, answering, accepted}
 use Rattle.model.specs.declared.Name.{Name}
 use Rattle.model.specs.declared.Panel.{Panel}
 use Rattle.model.specs.declared.Table.{Table}
@@ -25,20 +24,24 @@ use Rattle.model.specs.declared.Command.{Command}
 use Rattle.model.specs.declared.Command.the-variants.{Act, Read}
 use Rattle.model.specs.Facts.{WellFormed}
 use Rattle.model.proofs.Allowed.{handover-allowed}
-use Rattle.consistency.specs.Demand3.{has, Line, Entry, answered, looked, counted, listed, Said, carried, stepsOf, steps, Sent, Ledger, applied, showing, finishing, Finishes}
+use Rattle.model.proofs.Handovers.{setAt}
+use Rattle.consistency.specs.Entries.{has, handover, Line, Entry, answered, observed, served, handed, listed, Said, carried, stepsOf, steps}
+use Rattle.consistency.specs.Ledger.{Sent, Ledger, applied, showing, finishing}
+use Rattle.consistency.specs.Demand3.{Finishes}
+use Rattle.consistency.specs.Courses.{Course, told, Gives}
 use Rattle.consistency.proofs.Names.{any-tabulate}
 use Rattle.consistency.proofs.SlotNames.{nameAt, has-names}
-use Rattle.consistency.proofs.Ledger.{sentAt, Recorded}
-use Rattle.consistency.proofs.LedgerNext.{Legal}
+use Rattle.consistency.proofs.Recorded.{sentAt, Recorded}
+use Rattle.consistency.proofs.RecordedNext.{Legal}
 use Rattle.consistency.proofs.Sums.{panel-applied}
-use Rattle.consistency.proofs.Reader.{written-sums}
-use Rattle.consistency.proofs.Moments.{Course, stepped, Takes, Gives, told, call-accepted, entry-taken}
+use Rattle.consistency.proofs.Reader.{saying-sums}
+use Rattle.consistency.proofs.Moments.{stepped, Takes, call-accepted, entry-taken}
 
 -- A SET THAT HOLDS A SYNC OF c
 
 -- the ledger and the table say the same of a set, by its names and by its slots
 finishing-slots : {n : ℕ} {t : Table} {l : Ledger} → Recorded n t l → (S : Slots) (ms : List Name)
-    → ((j : ℕ) → j < t .count → has (nameAt t j) ms ≡ member S j) → (c : ℕ) → finishes t S c ≡ finishing (l .sent) ms c
+    → ((j : ℕ) → j < t .count → has (nameAt t j) ms ≡ member S j) → (c : ℕ) → finishes (messagesOf t) S c ≡ finishing (l .sent) ms c
 unfolding finishes finishing
 finishing-slots {t = t} k S ms f c =
     ap (ltb 0) (count-ext (t .count) _ _ (λ j h. rw (f j h) (last (member S j) (eqb (message t j .payload .kind) 2) (eqb (message t j .sender) c))))
@@ -87,42 +90,47 @@ module _ {n : ℕ} {t : Table} (formed : WellFormed t) (r o : ℕ) (q : Said) (m
   sums-after : panelOf (next t (Handover r o)) r .sums ≡ showing (l .sent) (applied l r) .sums
   sums-after = ap (λ (p : Panel). p .sums) (panel-applied k r receiver)
 
-  finished : finishes t (handoverSet t r o) r ≡ finishing (l .sent) ms r
-  unfolding next withSent withController message finishes appliedBy
-  finished = finishing-slots k (handoverSet t r o) ms (λ j h. rw (legal .set) (has-names t formed (handoverSet t r o) j h)) r
+  finished : finishes (messagesOf t) (setAt t r o) r ≡ finishing (l .sent) ms r
+  unfolding next withSent withController messageIn finishes appliedBy
+  finished = finishing-slots k (setAt t r o) ms (λ j h. rw (legal .set) (has-names t formed (setAt t r o) j h)) r
 
-  call-answers : (s w : List ℕ) (a : EventAnswer) → a ≡ event t s (length w) .answer → (a .number ≡ 0) × (decode (t .version) s ≡ Act (Handover r o))
+  handover-answers : (rest : List ℕ) (a : EventAnswer) → a ≡ answering t (Act (Handover r o)) rest
       → (a .finished ≡ finishing (l .sent) ms r) × (a .sums ≡ cond (finishing (l .sent) ms r) (showing (l .sent) (applied l r) .sums) noSums)
-  unfolding accepted answering appliedBy subject
-  call-answers s w a e c = rw (call-accepted t s w a e (c .0) .1, c .1) (finished, ap₂ (λ f z. cond f z noSums) finished sums-after)
+  unfolding answering appliedBy subject
+  handover-answers rest a e = rw e (finished, ap₂ (λ f z. cond f z noSums) finished sums-after)
 
   line-says : (s : List ℕ) (x : Line) → Gives t (listed s x) → decode (t .version) s ≡ Act (Handover r o) → ms ≢ []
       → x .sums ≡ showing (l .sent) (applied l r) .sums
   unfolding Gives accepted answering resulting controllerOf subject appliedBy
-  line-says s x g d some = rw (g .1, d, ← legal .set) (written-sums _ ms some ∙ sums-after)
+  line-says s x g d some = rw (g .1, d, ← legal .set) (saying-sums _ ms some ∙ sums-after)
 
 -- AN ENTRY that carries out a handover, at table t
 
 module _ {n : ℕ} {t : Table} (formed : WellFormed t) (r o : ℕ) (q : Said) (ms : List Name) {l : Ledger} where
-  handed : (e : Entry) → Gives t e → steps (t .version) e ≡ carried q (Handover r o) ms ∷ [] → Recorded n (told t e) l
+  handover-taken : (e : Entry) → Gives t e → steps (t .version) e ≡ carried q (Handover r o) ms ∷ [] → Recorded n (told t e) l
       → Legal t q (Handover r o) ms × Recorded n (next t (Handover r o)) l
   unfolding Course stepped Takes
-  handed e g is k = let c = rw is at (entry-taken t e g) in (c .0, rw (c .1) k)
+  handover-taken e g is k = let c = rw is at (entry-taken t e g) in (c .0, rw (c .1) k)
 
   -- its line in a file gives the sums, where it has one
   pub line-sums : (s : List ℕ) (x : Line) → Gives t (listed s x) → steps (t .version) (listed s x) ≡ carried q (Handover r o) ms ∷ []
       → Recorded n (told t (listed s x)) l → ms ≢ [] → x .sums ≡ showing (l .sent) (applied l r) .sums
   unfolding steps
   line-sums s x g is k =
-      let h = handed (listed s x) g is k in
+      let h = handover-taken (listed s x) g is k in
       line-says formed r o q ms (h .0) (h .1) s x g (carries (decode (t .version) s) _ q (Handover r o) _ ms is)
 
   pub entry-finishes : (e : Entry) → Gives t e → steps (t .version) e ≡ carried q (Handover r o) ms ∷ [] → Recorded n (told t e) l
       → Finishes e (finishing (l .sent) ms r) (showing (l .sent) (applied l r) .sums)
-  unfolding Finishes Gives steps
+  unfolding Finishes Gives steps accepted
   entry-finishes (answered s w a) g is k =
-      let h = handed (answered s w a) g is k in
-      call-answers formed r o q ms (h .0) (h .1) s w a g (call-carries (a .number) (t .version) s _ q (Handover r o) _ ms is)
-  entry-finishes (looked c a) g is k = absurd (cons-ne-nil _ [] (sym is))
-  entry-finishes (counted c a b x) g is k = absurd (cons-ne-nil _ [] (sym is))
+      let h = handover-taken (answered s w a) g is k in
+      let c = call-carries (a .number) (t .version) s _ q (Handover r o) _ ms is in
+      handover-answers formed r o q ms (h .0) (h .1) (behind s) a (call-accepted t s w a g (c .0) .1 ∙ ap (λ x. answering t x (behind s)) (c .1))
+  entry-finishes (observed x a) g is k = absurd (cons-ne-nil _ [] (sym is))
+  entry-finishes (served s a) g is k = absurd (cons-ne-nil _ [] (sym is))
+  entry-finishes (handed p a) g is k =
+      let h = handover-taken (handed p a) g is k in
+      let e : handover p ≡ Handover r o = cc in
+      handover-answers formed r o q ms (h .0) (h .1) [] a (rw e at (g .1))
   entry-finishes (listed s x) g is k = λ f. line-sums s x g is k (λ none. contradiction f (rw none (finishing-none (l .sent) r)))

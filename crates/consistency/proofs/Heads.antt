@@ -1,9 +1,10 @@
 -- What stands at the head of a list: legal steps from a fresh table to the one that the next call gets. Assumes nothing.
 use Rattle.model.specs.Tables.{fresh}
 use Rattle.model.specs.Calls.{freshTable}
-use Rattle.model.proofs.Allowed.{FreshAllowed, fresh-allowed, file-allowed}
+use Rattle.model.specs.Questions.{FreshAllowed}
+use Rattle.model.proofs.Allowed.{fresh-allowed, file-allowed}
 use Rattle.consistency.specs.Demand3.{Head, request, file, Heads, version, controllers, opening, given}
-use Rattle.consistency.proofs.Moments.{Course, Gives, told}
+use Rattle.consistency.specs.Courses.{Course, told, Gives}
 use Rattle.consistency.proofs.FileRuns.{file-course}
 
 pub record Opened (h : Head) : Type 0 where

@@ -2,7 +2,7 @@
 use mathlib.Core.Path.{_≡_, refl, sym, ap, ap₂, _∙_}
 use mathlib.Core.Logic.{_⊎_, inl, inr, _↔_}
 use mathlib.Core.Bool.{true, false, false≢true}
-use mathlib.Core.List.{List, [], flatten}
+use mathlib.Core.List.{List, flatten}
 use Prim.Native.Nat.{ℕ, zero, suc, _-_, _*_, _≤_, _<_}
 use native.Mathlib.Omega.{arith}
 use native.Mathlib.Decide.{decLt}
@@ -12,11 +12,11 @@ use Rattle.lists.specs.Below.{count}
 use Rattle.lists.proofs.Tests.{and-left, and-right, or-cases, refuted, bool-eq}
 use Rattle.lists.proofs.Below.{count-ext}
 use Rattle.lists.proofs.Clipped.{any-none}
-use Rattle.model.specs.Tables.{scratchSize, yes?, at, message, place, held, applied as appliedAt, Among}
+use Rattle.model.specs.Tables.{scratchSize, yes?, at, message, place, held, applied as appliedAt, Among, messagesOf}
 use Rattle.model.specs.Events.{panelOf}
 use Rattle.model.specs.Records.{byte, sizeOf, decode}
-use Rattle.model.specs.WellFormed.{inLog}
-use Rattle.model.specs.Questions.{firstNo, lentTable, kindQuestions, recordQuestions, ownPending, commandQuestions, scratchRoom, stepQuestions}
+use Rattle.model.specs.Facts.{inLog, WellFormed}
+use Rattle.model.specs.Questions.{firstNo, lentTable, kindQuestions, recordQuestions, ownPending, readQuestions, commandQuestions, scratchRoom, stepQuestions}
 use Rattle.model.specs.Calls.{EventAnswer, answering, accepted, settled, event, look}
 use Rattle.model.specs.declared.Name.{Name}
 use Rattle.model.specs.declared.Register.{Register}
@@ -24,21 +24,22 @@ use Rattle.model.specs.declared.Panel.{Panel}
 use Rattle.model.specs.declared.Table.{Table}
 use Rattle.model.specs.declared.Command.the-variants.{Read}
 use Rattle.model.specs.declared.LookAnswer.{LookAnswer}
-use Rattle.model.specs.Facts.{WellFormed}
 use Rattle.model.proofs.Tested.{named-of, tested}
 use Rattle.model.proofs.Allowed.{look-asked, look-passed, ReadAllowed, read-allowed}
 use Rattle.invariant.proofs.Stores.{seated}
 use Rattle.broadcast.specs.State.{State}
 use Rattle.broadcast.specs.Delivery.{Subset}
 use Rattle.broadcast.proofs.Theorem.{containment, ending}
-use Rattle.consistency.specs.Demand3.{name, has, ownOf, Ledger, applied, newest, registerAt, sentNames, remaining, showing, Contains, Exactly, NoLater, Within, Runs, ReadOut, readRecord, IsRead}
+use Rattle.consistency.specs.Entries.{name, has, ownOf}
+use Rattle.consistency.specs.Ledger.{Ledger, applied, newest, registerAt, sentNames, remaining, showing}
+use Rattle.consistency.specs.Demand3.{Contains, Exactly, NoLater, Runs, ReadOut, readRecord, IsRead, Within}
 use Rattle.consistency.proofs.Bridge.{system, codeAt, code-injective, Related}
 use Rattle.consistency.proofs.BridgeFacts.{few, shown, applied-delivered, delivered-slot, remains-logged, own-logged, all-read, quorum-runs}
 use Rattle.consistency.proofs.PassedOver.{earlier-applied}
 use Rattle.consistency.proofs.Names.{has-own}
 use Rattle.consistency.proofs.SlotNames.{nameAt, length-log}
-use Rattle.consistency.proofs.Ledger.{slot-case, Recorded, sent-slot}
-use Rattle.consistency.proofs.Registers.{fewer-no-later, same-stamp-same-register, register-later}
+use Rattle.consistency.proofs.Recorded.{slot-case, Recorded, sent-slot}
+use Rattle.consistency.proofs.LedgerRegisters.{fewer-no-later, same-stamp-same-register, register-later}
 use Rattle.consistency.proofs.Sums.{fewer-no-greater, panel-applied, weights-later, has-remaining, remaining-slot, panel-remaining}
 use Rattle.consistency.proofs.Moments.{call-accepted, Moment, Later}
 
@@ -233,7 +234,7 @@ module _ {n : ℕ} {s₀ : State} {t : Table} {l : Ledger} (m : Moment n s₀ t 
   ending-shows = rw (look-is m r h) (refl, panel-remaining p r h moment-ending)
 
   -- its own messages remain, and so it has applied them
-  none-own : ownPending t r ≡ false
+  none-own : ownPending (messagesOf t) (at t r .pending) r ≡ false
   unfolding ownPending
   none-own = sym (any-none (t .count) _ (λ j b. refuted _ (λ q.
       let own = eqb-true (message t j .sender) r (and-right (held (at t r) j) _ q) in
@@ -242,7 +243,7 @@ module _ {n : ℕ} {s₀ : State} {t : Table} {l : Ledger} (m : Moment n s₀ t 
 
   pub ending-gives : (w : List ℕ) → scratchSize ≤ length w
       → let a = event t (readRecord r) (length w) .answer in (a .number ≡ 0) × (a .sums ≡ showing (l .sent) (remaining l) .sums)
-  unfolding event settled accepted answering firstNo lentTable stepQuestions recordQuestions kindQuestions sizeOf decode commandQuestions scratchRoom
+  unfolding event settled accepted answering firstNo lentTable stepQuestions recordQuestions kindQuestions sizeOf decode readQuestions commandQuestions scratchRoom
   ending-gives w k =
       rw (tested t (g .formed), named-of t r (omega (arith, g .size)), runs-in-table, none-own, le-leb scratchSize (length w) k)
       (refl, ap (λ (b : Panel). b .sums) (panel-remaining p r h moment-ending))

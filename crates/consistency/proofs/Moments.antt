@@ -1,51 +1,49 @@
 -- The entries of a list stand for legal steps one after another, and after every step the table, the ledger and a state of the abstract
 -- system say the same. Assumes nothing.
-use mathlib.Core.Path.{_≡_, refl, _∙_}
+use mathlib.Core.Path.{_≡_, refl, ap, _∙_}
 use mathlib.Core.List.{List, [], _∷_, _++_, append-assoc, flatMap, foldl}
 use Prim.Native.Nat.{ℕ}
 use lib.ListN.{length}
 use borrow.Author.Tests.{ne-eqb}
 use Rattle.model.specs.Tables.{fresh, withController, withMessage}
-use Rattle.model.specs.Events.{withSent, next, controllerOf, resulting, panelOf}
+use Rattle.model.specs.Events.{withSent, next, resulting}
 use Rattle.model.specs.Records.{behind, decode}
 use Rattle.model.specs.WellFormed.{wellFormed}
-use Rattle.model.specs.Questions.{firstNo, commandQuestions, lentTable, stepQuestions}
-use Rattle.model.specs.Calls.{EventAnswer, Outcome, answering, accepted, refused, event, look, countBefore}
+use Rattle.model.specs.Questions.{FreshAllowed, firstNo, eventQuestions, commandQuestions, lentTable, stepQuestions}
+use Rattle.model.specs.Calls.{EventAnswer, Outcome, answering, accepted, refused, event}
 use Rattle.model.specs.declared.Table.{Table}
 use Rattle.model.specs.declared.Event.{Event}
 use Rattle.model.specs.declared.Event.the-variants.{Send, Handover, Stop}
 use Rattle.model.specs.declared.Command.{Command}
 use Rattle.model.specs.declared.Command.the-variants.{Act, Read}
-use Rattle.model.proofs.Allowed.{FreshAllowed, no-no, step-asked}
+use Rattle.model.proofs.Allowed.{no-no, step-asked}
 use Rattle.model.proofs.Steps.{answering-number, settled-case}
 use Rattle.broadcast.specs.State.{State, fresh as freshState}
 use Rattle.broadcast.specs.Events.{Run, start as stays, then}
-use Rattle.consistency.specs.Demand3.{Call, singleEvent, panelLook, goesBeforeCount, Line, Entry, answered, looked, counted, listed, entry, left, transcript, said, Step, carried, stepsOf, steps, did, Ledger, start, moved}
+use Rattle.consistency.specs.Entries.{Pair, handover, Entry, answered, observed, served, handed, listed, said, nothingSaid, Step, carried, stepsOf, steps, did}
+use Rattle.consistency.specs.Ledger.{Ledger, start, moved}
+use Rattle.consistency.specs.Courses.{Course, told, Gives}
 use Rattle.consistency.proofs.Bridge.{top, system, Related}
 use Rattle.consistency.proofs.BridgeNext.{fresh-related, next-related}
-use Rattle.consistency.proofs.Reader.{written, written-set}
-use Rattle.consistency.proofs.Ledger.{Recorded, start-recorded}
+use Rattle.consistency.proofs.Reader.{saying-set}
+use Rattle.consistency.proofs.Recorded.{Recorded, start-recorded}
 use Rattle.consistency.proofs.Grown.{Grown, grown}
-use Rattle.consistency.proofs.LedgerNext.{Legal, record-legal, next-recorded}
+use Rattle.consistency.proofs.RecordedNext.{Legal, record-legal, next-recorded}
 
--- COURSES: P holds at each element of a list, with the state that those before it leave, and the last leaves u
+-- COURSES
 
 module _ {S A : Type 0} (on : S → A → S) (P : S → A → Type 0) where
-  unfoldable pub Course : S → List A → S → Type 0
-  Course s [] u = s ≡ u
-  Course s (x ∷ xs) u = P s x × Course (on s x) xs u
-
-  pub course-append : (s : S) (xs : List A) (t : S) (ys : List A) (u : S) → Course s xs t → Course t ys u → Course s (xs ++ ys) u
+  pub course-append : (s : S) (xs : List A) (t : S) (ys : List A) (u : S) → Course on P s xs t → Course on P t ys u → Course on P s (xs ++ ys) u
   unfolding Course
   course-append s [] t ys u p q = rw p q
   course-append s (x ∷ xs) t ys u p q = (p .0, course-append (on s x) xs t ys u (p .1) q)
 
-  pub course-first : (s : S) (xs ys : List A) (u : S) → Course s (xs ++ ys) u → Course s xs (foldl on s xs)
+  pub course-first : (s : S) (xs ys : List A) (u : S) → Course on P s (xs ++ ys) u → Course on P s xs (foldl on s xs)
   unfolding Course
   course-first s [] ys u p = refl
   course-first s (x ∷ xs) ys u p = (p .0, course-first (on s x) xs ys u (p .1))
 
-  pub course-rest : (s : S) (xs ys : List A) (u : S) → Course s (xs ++ ys) u → Course (foldl on s xs) ys u
+  pub course-rest : (s : S) (xs ys : List A) (u : S) → Course on P s (xs ++ ys) u → Course on P (foldl on s xs) ys u
   unfolding Course
   course-rest s [] ys u p = p
   course-rest s (x ∷ xs) ys u p = course-rest (on s x) xs ys u (p .1)
@@ -60,25 +58,7 @@ Takes t (carried s e ms) = Legal t s e ms
 
 -- ENTRIES
 
--- what the line of an event of controller c says, from what the event answers and leaves
-abbrev pub lineAfter : ℕ → Outcome → Line
-lineAfter c o = written (panelOf (o .table) c .sums) (o .answer .names)
-
--- what the definitions of the calls answer; of a file, a record that no question refuses, and what its line says
-unfoldable pub Gives : Table → Entry → Type 0
-Gives t (answered s w a) = a ≡ event t s (length w) .answer
-Gives t (looked c a) = a ≡ look t c
-Gives t (counted c a b x) = x ≡ countBefore t c a b
-Gives t (listed s x) = (firstNo (commandQuestions t (decode (t .version) s)) ≡ 0) × (x ≡ lineAfter (controllerOf (decode (t .version) s)) (accepted t s))
-
--- the table that an entry leaves
-unfoldable pub told : Table → Entry → Table
-told t (answered s w a) = event t s (length w) .table
-told t (looked c a) = t
-told t (counted c a b x) = t
-told t (listed s x) = accepted t s .table
-
--- so an accepted event call: no question refuses its record, and it gives the record's answer
+-- an accepted event call: no question refuses its record, and it gives the record's answer
 pub call-accepted : (t : Table) (s w : List ℕ) (a : EventAnswer) → a ≡ event t s (length w) .answer → a .number ≡ 0
     → (firstNo (commandQuestions t (decode (t .version) s)) ≡ 0) × (a ≡ accepted t s .answer)
 unfolding event refused lentTable
@@ -107,12 +87,19 @@ event-taken t s w =
     (λ e. rw (answering-number t (decode (t .version) s) (behind s)) (accepted-taken t s (step-asked t s (length w) (no-no 3 (wellFormed t) _ e .1) .1)))
     (λ d. rw (ne-eqb k 0 d) refl)
 
+-- a handover that a served call made is a legal step
+handover-legal : (t : Table) (p : Pair) (a : EventAnswer) → firstNo (eventQuestions t (handover p)) ≡ 0 → a ≡ answering t (Act (handover p)) []
+    → Legal t nothingSaid (handover p) (a .names)
+unfolding answering
+handover-legal t p a q e = record { asked = q; set = ap (λ (x : EventAnswer). x .names) e; says = λ c y r. cc }
+
 pub entry-taken : (t : Table) (e : Entry) → Gives t e → Course stepped Takes t (steps (t .version) e) (told t e)
-unfolding Gives told steps Course
+unfolding Gives told steps Course stepped Takes
 entry-taken t (answered s w a) q = rw q (event-taken t s w)
-entry-taken t (looked c a) q = refl
-entry-taken t (counted c a b x) q = refl
-entry-taken t (listed s x) q = rw (q .1, written-set) (accepted-taken t s (q .0))
+entry-taken t (observed o a) q = refl
+entry-taken t (served s a) q = refl
+entry-taken t (handed p a) q = (handover-legal t p a (q .0) (q .1), refl)
+entry-taken t (listed s x) q = rw (q .1, saying-set) (accepted-taken t s (q .0))
 
 -- THE VERSION, which no entry changes
 
@@ -133,8 +120,9 @@ accepted-version t s = go (decode (t .version) s)
 told-version : (t : Table) (e : Entry) → told t e .version ≡ t .version
 unfolding told event refused
 told-version t (answered s w a) = settled-case (λ (o : Outcome). o .table .version ≡ t .version) t s _ (λ _. accepted-version t s) (λ _. refl)
-told-version t (looked c a) = refl
-told-version t (counted c a b x) = refl
+told-version t (observed o a) = refl
+told-version t (served s a) = refl
+told-version t (handed p a) = next-version t (handover p)
 told-version t (listed s x) = accepted-version t s
 
 pub entries-version : (t : Table) (es : List Entry) → foldl told t es .version ≡ t .version
@@ -155,13 +143,6 @@ entries-taken t q [] u p = p
 entries-taken {v} t q (e ∷ es) u p =
     course-append stepped Takes t (steps v e) (told t e) (did v es) u (rw (← q) (entry-taken t e (p .0)))
     (entries-taken (told t e) (told-version t e ∙ q) es u (p .1))
-
-pub transcript-course : (t : Table) (cs : List Call) → Course told Gives t (transcript t cs) (foldl left t cs)
-unfolding Course Gives told transcript entry left
-transcript-course t [] = refl
-transcript-course t (singleEvent s w ∷ cs) = (refl, transcript-course (event t s (length w) .table) cs)
-transcript-course t (panelLook c ∷ cs) = (refl, transcript-course t cs)
-transcript-course t (goesBeforeCount c a b ∷ cs) = (refl, transcript-course t cs)
 
 -- MOMENTS
 

@@ -17,15 +17,17 @@ use Rattle.model.specs.declared.Payload.{Payload}
 use Rattle.model.specs.declared.Panel.{Panel}
 use Rattle.model.specs.declared.Event.the-variants.{Send, Handover}
 use Rattle.model.specs.declared.LookAnswer.{LookAnswer}
-use Rattle.consistency.specs.Demand3.{name, has, Call, Entry, looked, Said, carried, steps, put, Sent, Ledger, applied, moved, writes, written, newest, dateFor, sentNames, showing, finishing, Head, Heads, version, controllers, entries, moment, Finishes, Begun, Applies, Finished, Within, OrLater, Bears}
+use Rattle.consistency.specs.Entries.{name, has, panelLook, Call, Entry, observed, Said, carried, steps}
+use Rattle.consistency.specs.Ledger.{Sent, Ledger, applied, writes, written, newest, dateFor, put, moved, sentNames, showing, finishing}
+use Rattle.consistency.specs.Demand3.{Head, Heads, version, controllers, entries, moment, Finishes, Begun, Applies, Finished, Within, OrLater, Bears}
+use Rattle.consistency.specs.Courses.{tableAt}
 use Rattle.consistency.proofs.Names.{same-self, has-append, flatten-last, apart-of}
-use Rattle.consistency.proofs.Ledger.{Recorded, applied-known, distinct-sent}
+use Rattle.consistency.proofs.Recorded.{Recorded, applied-known, distinct-sent}
 use Rattle.consistency.proofs.Grown.{names, names-grown}
-use Rattle.consistency.proofs.Registers.{write-or-later, write-one}
-use Rattle.consistency.proofs.Moments.{Gives}
+use Rattle.consistency.proofs.LedgerRegisters.{write-or-later, write-one}
 use Rattle.consistency.proofs.MomentFacts.{comparable, within, look-shows}
 use Rattle.consistency.proofs.HandoverFacts.{finishing-own, entry-finishes}
-use Rattle.consistency.proofs.CallLists.{tableAt, version-at, gives-at, moment-at, moment-behind, moment-next, later-at}
+use Rattle.consistency.proofs.CallLists.{version-at, gives-at, look-at, moment-at, moment-behind, moment-next, later-at}
 
 module _ (h : Head) (heads : Heads h) (calls : List Call) where
   abbrev n : ℕ
@@ -126,7 +128,7 @@ module _ (h : Head) (heads : Heads h) (calls : List Call) where
 
     -- if it is a write, whoever has applied it has that register as it says, or a later one
     pub bears : (k c r : ℕ) → writes r s ≡ true → has (s .name) (applied (upTo k) c) ≡ true → Bears h calls k c r (written s)
-    unfolding Gives showing
+    unfolding showing
     bears k c r w e = record { held = held; shown = λ a after q z. rw (shows a after q z) held }
       where
         there : Placed k
@@ -135,10 +137,10 @@ module _ (h : Head) (heads : Heads h) (calls : List Call) where
         held : OrLater (written s) (newest r (upTo k .sent) (applied (upTo k) c))
         held = write-or-later (recorded k) (there .before) s (there .after) (there .is) (applied (upTo k) c) e r w
 
-        shows : (a : LookAnswer) (after : List Entry) → drop k (entries h calls) ≡ looked c a ∷ after → a .number ≡ 0
+        shows : (a : LookAnswer) (after : List Entry) → drop k (entries h calls) ≡ observed (panelLook c) a ∷ after → a .number ≡ 0
             → getD (a .panel .registers) (r - 1) noRegister ≡ newest r (upTo k .sent) (applied (upTo k) c)
         shows a after q z =
             let d = write-one (recorded k) (there .before) s (there .after) (there .is) r w in
-            ap (λ (y : Panel). getD (y .registers) (r - 1) noRegister) (look-shows (moment-at h heads calls k) c a (gives-at h heads calls k (looked c a) after q) z)
+            ap (λ (y : Panel). getD (y .registers) (r - 1) noRegister) (look-shows (moment-at h heads calls k) c a (look-at h heads calls k c a after q) z)
             ∙ getD-tabulate registerCount _ noRegister (r - 1) (omega (arith, d .0, d .1))
             ∙ ap (λ x. newest x (upTo k .sent) (applied (upTo k) c)) (omega (arith, d .0))

@@ -6,10 +6,10 @@ use native.Mathlib.Omega.{arith}
 use lib.Dec.{leb}
 use borrow.Author.Tests.{leb-true}
 use Rattle.model.specs.Tables.{at, message, applied, highest}
-use Rattle.model.specs.Events.{nextSlot}
 use Rattle.model.specs.declared.Table.{Table}
 use Rattle.model.specs.Facts.{Among}
 use Rattle.model.proofs.Allowed.{HandoverAllowed}
+use Rattle.model.proofs.Handovers.{nextAt}
 use Rattle.invariant.proofs.Receiving.{next-slot-run}
 use Rattle.invariant.proofs.Highest.{highest-applied}
 use Rattle.broadcast.specs.State.{State}
@@ -30,11 +30,11 @@ module _ {n : ℕ} {t : Table} {s : State} (g : Related n t s) where
 
   -- The receiver has applied a message of that sender with a number as high, and so every earlier one.
   pub passed-applied : (r o : ℕ) → HandoverAllowed t r o
-      → leb (message t (nextSlot t r o) .number .0) (highest (at t r) (message t (nextSlot t r o) .sender)) ≡ true
-      → applied (at t r) (nextSlot t r o) ≡ true
+      → leb (message t (nextAt t r o) .number .0) (highest (at t r) (message t (nextAt t r o) .sender)) ≡ true
+      → applied (at t r) (nextAt t r o) ≡ true
   passed-applied r o a e =
       let w = g .formed in
-      let j = nextSlot t r o in
+      let j = nextAt t r o in
       let h = next-slot-run t w r o a in
       let l = leb-true (message t j .number .0) (highest (at t r) (message t j .sender)) e in
       let y = highest-applied t r (at t r) (w .controllers r (a .receiver)) (message t j .sender) (w .senders j h) (omega (arith, l, w .numbers j h .0)) in

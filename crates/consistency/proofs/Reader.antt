@@ -8,11 +8,13 @@ use native.Mathlib.Omega.{arith}
 use lib.Dec.{eqb}
 use borrow.Author.Tests.{eqb-true}
 use Rattle.lists.proofs.Tests.{cond-case}
-use Rattle.lists.proofs.Every.{Every, every-append}
+use Rattle.lists.specs.Every.{Every}
+use Rattle.lists.proofs.Every.{every-append}
 use Rattle.model.specs.Runs.{decimal, nameFields, sumFields, line, lineOf}
 use Rattle.model.specs.declared.Name.{Name}
 use Rattle.model.specs.declared.Sums.{Sums}
-use Rattle.consistency.specs.Demand3.{Line, split, numberFrom, nameIn, lineIn, noLine, lineFor}
+use Rattle.consistency.specs.Lines.{split, numberFrom, nameIn, lineIn, noLine, lineFor}
+use Rattle.consistency.specs.Courses.{lineSaying}
 use Rattle.consistency.proofs.Decimal.{Lacks, lacks-joined, decimal-lacks, decimal-number, split-at-first, split-whole}
 
 -- ONE LINE
@@ -93,20 +95,15 @@ line-split e c z ms s = rw line-body (split-at-first 10 (body e c z ms) s (body-
 
 -- WHAT IS READ
 
--- what the line of a set and the sums after it says; there is none of an empty set
-unfoldable pub written : Sums → List Name → Line
-written z [] = noLine
-written z (m ∷ ms) = record { set = m ∷ ms; sums = z }
+pub saying-set : (z : Sums) (ms : List Name) → lineSaying z ms .set ≡ ms
+unfolding lineSaying
+saying-set z [] = refl
+saying-set z (m ∷ ms) = refl
 
-pub written-set : (z : Sums) (ms : List Name) → written z ms .set ≡ ms
-unfolding written
-written-set z [] = refl
-written-set z (m ∷ ms) = refl
-
-pub written-sums : (z : Sums) (ms : List Name) → ms ≢ [] → written z ms .sums ≡ z
-unfolding written
-written-sums z [] some = absurd (some refl)
-written-sums z (m ∷ ms) some = refl
+pub saying-sums : (z : Sums) (ms : List Name) → ms ≢ [] → lineSaying z ms .sums ≡ z
+unfolding lineSaying
+saying-sums z [] some = absurd (some refl)
+saying-sums z (m ∷ ms) some = refl
 
 -- a line is read where it is the one of event n, and otherwise a later one
 line-read : (n e c : ℕ) (z : Sums) (ms : List Name) (s : List ℕ)
@@ -118,8 +115,8 @@ line-read n e c z ms s =
 
 -- so also of an event without a line, where no later line is its own
 pub event-read : (n e c : ℕ) (z : Sums) (ms : List Name) (s : List ℕ) → (e ≡ n → lineFor n (split 10 s) ≡ noLine)
-    → lineFor n (split 10 (lineOf e c z ms ++ s)) ≡ cond (eqb e n) (written z ms) (lineFor n (split 10 s))
-unfolding lineOf written
+    → lineFor n (split 10 (lineOf e c z ms ++ s)) ≡ cond (eqb e n) (lineSaying z ms) (lineFor n (split 10 s))
+unfolding lineOf lineSaying
 event-read n e c z [] s none = cond-case (λ x. lineFor n (split 10 s) ≡ x) (eqb e n) noLine _ (λ q. none (eqb-true e n q)) (λ _. refl)
 event-read n e c z (m ∷ ms) s none = line-read n e c z (m ∷ ms) s
 

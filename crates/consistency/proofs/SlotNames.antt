@@ -16,18 +16,17 @@ use Rattle.lists.proofs.Tests.{and-left, and-right, both, refuted, bool-eq, con
 use Rattle.lists.proofs.Below.{Found, count-found, count-pos, count-ext}
 use Rattle.lists.proofs.Build.{length-tabulate, getD-tabulate, tabulate-ext}
 use Rattle.lists.proofs.Grow.{tabulate-last, tabulate-take, some-last}
-use Rattle.model.specs.Tables.{capacity, message, slotAt, noName, withMessage, withEntry, withStop}
+use Rattle.model.specs.Tables.{capacity, message, slotAt, noName, withMessage, withEntry, withStop, messagesOf}
 use Rattle.model.specs.Delivery.{Slots, has as member}
 use Rattle.model.specs.Events.{nameOf, insert, namesBelow, namesOf}
 use Rattle.model.specs.Sized.{SizedController}
-use Rattle.model.specs.WellFormed.{inLog}
+use Rattle.model.specs.Facts.{inLog, GoodController, WellFormed}
 use Rattle.model.specs.declared.Name.{Name}
 use Rattle.model.specs.declared.Message.{Message}
 use Rattle.model.specs.declared.Controller.{Controller}
 use Rattle.model.specs.declared.Table.{Table}
-use Rattle.model.specs.Facts.{GoodController, WellFormed}
 use Rattle.invariant.proofs.Stores.{message-old}
-use Rattle.consistency.specs.Demand3.{same, has, Distinct}
+use Rattle.consistency.specs.Entries.{same, has, Distinct}
 use Rattle.consistency.proofs.Names.{same-true, same-self, same-sym, has-insert, distinct-insert, has-tabulate, distinct-tabulate}
 
 abbrev pub nameAt : Table → ℕ → Name
@@ -40,17 +39,17 @@ module _ (t : Table) (S : Slots) where
   abbrev pub namedIn : Name → ℕ → Bool
   namedIn m j = member S j && same m (nameAt t j)
 
-  has-below : (m : Name) (k : ℕ) → has m (namesBelow k t S) ≡ ltb 0 (count k (namedIn m))
+  has-below : (m : Name) (k : ℕ) → has m (namesBelow k (t .messages) S) ≡ ltb 0 (count k (namedIn m))
   unfolding has namesBelow count
   has-below m zero = refl
   has-below m (suc k) = go (member S k) (has-below m k) ∙ sym (some-last k (namedIn m))
     where
-      go : (b : Bool) → has m (namesBelow k t S) ≡ ltb 0 (count k (namedIn m))
-          → has m (cond b (insert (nameAt t k) (namesBelow k t S)) (namesBelow k t S)) ≡ ((b && same m (nameAt t k)) || ltb 0 (count k (namedIn m)))
-      go true r = has-insert m (nameAt t k) (namesBelow k t S) ∙ ap (λ b. same m (nameAt t k) || b) r
+      go : (b : Bool) → has m (namesBelow k (t .messages) S) ≡ ltb 0 (count k (namedIn m))
+          → has m (cond b (insert (nameAt t k) (namesBelow k (t .messages) S)) (namesBelow k (t .messages) S)) ≡ ((b && same m (nameAt t k)) || ltb 0 (count k (namedIn m)))
+      go true r = has-insert m (nameAt t k) (namesBelow k (t .messages) S) ∙ ap (λ b. same m (nameAt t k) || b) r
       go false r = r
 
-  pub names-at : (m : Name) → has m (namesOf t S) ≡ true → Found (t .count) (namedIn m)
+  pub names-at : (m : Name) → has m (namesOf (messagesOf t) S) ≡ true → Found (t .count) (namedIn m)
   unfolding namesOf
   names-at m e = count-found (t .count) (namedIn m) (ltb-true 0 _ (sym (has-below m (t .count)) ∙ e))
 
@@ -71,7 +70,7 @@ module _ (t : Table) (w : WellFormed t) where
 
   module _ (S : Slots) where
     -- an answer names exactly the slots of its set
-    pub has-names : (j : ℕ) → j < t .count → has (nameAt t j) (namesOf t S) ≡ member S j
+    pub has-names : (j : ℕ) → j < t .count → has (nameAt t j) (namesOf (messagesOf t) S) ≡ member S j
     unfolding namesOf
     has-names j h = bool-eq _ _ (λ e. back (names-at t S (nameAt t j) e))
         (λ e. has-below t S (nameAt t j) (t .count) ∙ lt-ltb 0 _ (count-pos (t .count) (namedIn t S (nameAt t j)) j h (both e (same-self (nameAt t j)))))
@@ -81,20 +80,20 @@ module _ (t : Table) (w : WellFormed t) where
             let e = slot-of j (o .which) h (o .below) (and-right (member S (o .which)) _ (o .passes)) in
             rw e (and-left _ _ (o .passes))
 
-    distinct-below : (k : ℕ) → k ≤ t .count → Distinct (namesBelow k t S)
+    distinct-below : (k : ℕ) → k ≤ t .count → Distinct (namesBelow k (t .messages) S)
     unfolding Distinct namesBelow
     distinct-below zero h = tt
     distinct-below (suc k) h =
         let d = distinct-below k (omega arith) in
-        cond-case Distinct (member S k) (insert (nameAt t k) (namesBelow k t S)) (namesBelow k t S)
-        (λ _. distinct-insert (nameAt t k) (namesBelow k t S) (refuted (has (nameAt t k) (namesBelow k t S)) old) d) (λ _. d)
+        cond-case Distinct (member S k) (insert (nameAt t k) (namesBelow k (t .messages) S)) (namesBelow k (t .messages) S)
+        (λ _. distinct-insert (nameAt t k) (namesBelow k (t .messages) S) (refuted (has (nameAt t k) (namesBelow k (t .messages) S)) old) d) (λ _. d)
       where
-        old : has (nameAt t k) (namesBelow k t S) ≡ true → ⊥
+        old : has (nameAt t k) (namesBelow k (t .messages) S) ≡ true → ⊥
         old e =
             let o = count-found k (namedIn t S (nameAt t k)) (ltb-true 0 _ (sym (has-below t S (nameAt t k) k) ∙ e)) in
             omega (arith, o .below, slot-of k (o .which) (omega arith) (omega (arith, o .below)) (and-right (member S (o .which)) _ (o .passes)))
 
-    pub distinct-names : Distinct (namesOf t S)
+    pub distinct-names : Distinct (namesOf (messagesOf t) S)
     unfolding namesOf
     distinct-names = distinct-below (t .count) (omega arith)
 

@@ -15,10 +15,11 @@ use Rattle.lists.proofs.Tests.{and-left, refuted, contradiction, or-false, or-l
 use Rattle.lists.proofs.Below.{sum-ext, sum-plus, sum-within}
 use Rattle.lists.proofs.Grow.{tabulate-suc, map-tabulate}
 use Rattle.lists.proofs.Clipped.{sum-none}
-use Rattle.model.specs.Tables.{classCount, registerCount, at, message}
+use Rattle.model.specs.Tables.{classCount, registerCount, at, message, messagesOf}
 use Rattle.model.specs.Registers.{registers}
 use Rattle.model.specs.Events.{weigh, sums, ofClass as classOf, classSums, shown, panelOf}
-use Rattle.model.specs.WellFormed.{fairAmount, inLog}
+use Rattle.model.specs.Fair.{fairAmount}
+use Rattle.model.specs.Facts.{inLog, Among}
 use Rattle.model.specs.declared.Name.{Name}
 use Rattle.model.specs.declared.Message.{Message}
 use Rattle.model.specs.declared.Payload.{Payload}
@@ -26,14 +27,15 @@ use Rattle.model.specs.declared.Sums.{Sums}
 use Rattle.model.specs.declared.Register.{Register}
 use Rattle.model.specs.declared.Panel.{Panel}
 use Rattle.model.specs.declared.Table.{Table}
-use Rattle.model.specs.Facts.{Among}
 use Rattle.invariant.proofs.Bounds.{fair-parts}
-use Rattle.consistency.specs.Demand3.{same, has, Distinct, Sent, Ledger, applied, sentNames, remaining, weightOf, weights, above, below, ofClass, showing, Contains, Exactly}
+use Rattle.consistency.specs.Entries.{same, has, Distinct}
+use Rattle.consistency.specs.Ledger.{Sent, Ledger, applied, sentNames, remaining, weightOf, weights, above, below, ofClass, showing}
+use Rattle.consistency.specs.Demand3.{Contains, Exactly}
 use Rattle.consistency.proofs.Names.{same-true, same-self, same-sym, has-tabulate-at, has-less, distinct-less}
 use Rattle.consistency.proofs.SlotNames.{nameAt, slots-differ}
-use Rattle.consistency.proofs.Ledger.{balance, sentOf, sentAt, senderAt, Slot, Recorded, slot-sent, sent-slot, applied-known, distinct-sent}
+use Rattle.consistency.proofs.Recorded.{balance, sentOf, sentAt, senderAt, Slot, Recorded, slot-sent, sent-slot, applied-known, distinct-sent}
 use Rattle.consistency.proofs.Grown.{names, Grown}
-use Rattle.consistency.proofs.Registers.{register-held, same-members-same-register}
+use Rattle.consistency.proofs.LedgerRegisters.{register-held, same-members-same-register}
 
 -- WEIGHTS
 
@@ -149,7 +151,7 @@ module _ {n : ℕ} {t : Table} {l : Ledger} (k : Recorded n t l) where
       ∙ weights-sum w (sentAt t) (t .count) (λ i j h b. slots-differ t (k .formed) i j h (omega arith) (omega arith)) ms d
 
   -- what was applied weighs what the table says
-  pub weights-weigh : (w : Weight) (c : ℕ) → Among n c → weights (w .of) (l .sent) (applied l c) ≡ weigh (w .stored) t (at t c)
+  pub weights-weigh : (w : Weight) (c : ℕ) → Among n c → weights (w .of) (l .sent) (applied l c) ≡ weigh (w .stored) (messagesOf t) (at t c .applied)
   unfolding weigh
   weights-weigh w c h =
       weights-members (w .of) (applied l c) (k .once c)
@@ -192,15 +194,15 @@ module _ {n : ℕ} {t : Table} {l : Ledger} (k : Recorded n t l) where
   -- WHAT REMAINS
 
   pub distinct-remaining : Distinct (remaining l)
-  distinct-remaining = distinct-less (sentNames l) (l .cut) (distinct-sent k)
+  distinct-remaining = distinct-less (sentNames l) _ (distinct-sent k)
 
   pub has-remaining : (j : ℕ) → j < t .count → has (nameAt t j) (remaining l) ≡ inLog (at t (senderAt t j)) j
   has-remaining j h =
-      has-less (nameAt t j) (sentNames l) (l .cut)
+      has-less (nameAt t j) (sentNames l) _
       ∙ rw (slot-sent k (nameAt t j) (record { which = j; below = h; named = refl }), k .cut j h) (Bool·not-not (inLog (at t (senderAt t j)) j))
 
   pub remaining-slot : (m : Name) → has m (remaining l) ≡ true → Slot t m
-  remaining-slot m e = sent-slot k m (and-left (has m (sentNames l)) _ (sym (has-less m (sentNames l) (l .cut)) ∙ e))
+  remaining-slot m e = sent-slot k m (and-left (has m (sentNames l)) _ (sym (has-less m (sentNames l) _) ∙ e))
 
   -- where what was applied is what remains, it shows the panel of that
   pub panel-remaining : (c : ℕ) → Among n c → Exactly (applied l c) (remaining l) → panelOf t c ≡ showing (l .sent) (remaining l)

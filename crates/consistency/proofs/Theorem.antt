@@ -1,12 +1,12 @@
 -- Demand 3: the claim holds of every list, whichever head it has and whatever the calls. Assumes nothing.
-use mathlib.Core.Path.{_≡_, refl, sym, ap, _∙_}
+use mathlib.Core.Path.{_≡_, sym, ap, _∙_}
 use mathlib.Core.Logic.{_≢_, inl, inr, ⊎-swap}
 use mathlib.Core.Bool.{true}
-use mathlib.Core.List.{List, [], _∷_, _++_, foldl, append-assoc, cons-ne-nil}
+use mathlib.Core.List.{List, [], _∷_, _++_, foldl, append-nil, append-assoc, cons-ne-nil}
 use Prim.Native.Nat.{ℕ, suc}
 use native.Mathlib.Omega.{arith}
 use lib.ListN.{length, take, drop}
-use Rattle.model.specs.Tables.{at, Among}
+use Rattle.model.specs.Tables.{at, Among, messagesOf}
 use Rattle.model.specs.Events.{weigh}
 use Rattle.model.specs.WellFormed.{wellFormed}
 use Rattle.model.specs.Questions.{firstNo, stepQuestions}
@@ -16,34 +16,38 @@ use Rattle.model.specs.declared.Table.{Table}
 use Rattle.model.proofs.Tested.{tested}
 use Rattle.model.proofs.Steps.{step-number, event-number-step}
 use Rattle.invariant.proofs.Refusals.{step-number-range}
-use Rattle.consistency.specs.Demand3.{Call, singleEvent, panelLook, Entry, answered, looked, listed, entry, left, transcript, Sent, applied, remaining, weights, Head, Heads, controllers, opening, given, entries, moment, Runs, ReadOut, readRecord, Consistent}
-use Rattle.consistency.proofs.Registers.{stamps-differ}
+use Rattle.consistency.specs.Entries.{observe, panelLook, Call, singleEvent, observing, Entry, answered, listed, entriesOf, left, transcript}
+use Rattle.consistency.specs.Ledger.{Sent, applied, remaining, weights}
+use Rattle.consistency.specs.Demand3.{Head, Heads, controllers, opening, given, entries, moment, Runs, ReadOut, readRecord, Consistent}
+use Rattle.consistency.specs.Courses.{tableAt}
+use Rattle.consistency.proofs.Recorded.{distinct-sent}
+use Rattle.consistency.proofs.LedgerRegisters.{stamps-differ}
 use Rattle.consistency.proofs.Sums.{of-payload, weights-weigh, same-members-same-weights, distinct-remaining}
-use Rattle.consistency.proofs.Moments.{Gives}
 use Rattle.consistency.proofs.MomentFacts.{Comparable, comparable, InOrder, OneValue, snapshots, values, in-order, look-shows, read-gives, read-rests, moment-ending, ending-shows, ending-gives}
 use Rattle.consistency.proofs.HandoverFacts.{line-sums}
-use Rattle.consistency.proofs.CallLists.{tableAt, version-at, gives-at, event-at, moment-at, moment-end, moment-behind, any-two, sent}
+use Rattle.consistency.proofs.CallLists.{version-at, gives-at, event-at, look-at, moment-at, moment-end, moment-behind, any-two, sent}
 use Rattle.consistency.proofs.NeverStale.{applied-then, syncs, never-stale, included, answered-so, bears}
 
 -- one call more
-extended : (t : Table) (cs : List Call) (x : Call) → transcript t (cs ++ (x ∷ [])) ≡ transcript t cs ++ (entry (foldl left t cs) x ∷ [])
+extended : (t : Table) (cs : List Call) (x : Call) → transcript t (cs ++ (x ∷ [])) ≡ transcript t cs ++ entriesOf (foldl left t cs) x
 unfolding transcript
-extended t [] x = refl
-extended t (c ∷ cs) x = ap (λ es. entry t c ∷ es) (extended (left t c) cs x)
+extended t [] x = append-nil (entriesOf t x)
+extended t (c ∷ cs) x = ap (λ es. entriesOf t c ++ es) (extended (left t c) cs x) ∙ sym (append-assoc (entriesOf t c) (transcript (left t c) cs) _)
 
-list-extended : (h : Head) (calls : List Call) (x : Call) → entries h (calls ++ (x ∷ [])) ≡ entries h calls ++ (entry (foldl left (given h) calls) x ∷ [])
+list-extended : (h : Head) (calls : List Call) (x : Call) → entries h (calls ++ (x ∷ [])) ≡ entries h calls ++ entriesOf (foldl left (given h) calls) x
 unfolding entries
 list-extended h calls x = ap (λ es. opening h ++ es) (extended (given h) calls x) ∙ sym (append-assoc (opening h) (transcript (given h) calls) _)
 
 -- DEMAND 3
 
 pub demand-3 : (h : Head) → Heads h → (calls : List Call) → Consistent h calls
-unfolding entry
+unfolding entriesOf observe
 demand-3 h heads calls = record {
   contains = any-two h heads calls Comparable (λ t u l k. comparable) (λ l k f c d. ⊎-swap (f d c));
   sent = sent h heads calls;
+  names = λ i. distinct-sent (moment-at h heads calls i .recorded);
   once = λ i c. moment-at h heads calls i .recorded .once c;
-  looks = λ i c a after q. look-shows (moment-at h heads calls i) c a (unfold Gives in (gives-at h heads calls i (looked c a) after q));
+  looks = λ i c a after q. look-shows (moment-at h heads calls i) c a (look-at h heads calls i c a after q);
   reads = λ i s w a after q. read-gives (moment-at h heads calls i) s w a (event-at h heads calls i s w a after q);
   reads-own = λ i s w a after q. read-rests (moment-at h heads calls i) s w a (event-at h heads calls i s w a after q);
   syncs = syncs h heads calls;
@@ -63,7 +67,7 @@ demand-3 h heads calls = record {
   ending-look = λ i r e on.
       let now = take i calls in
       let s = ending-shows (moment-end h heads now) e r on in
-      record { answer = look (foldl left (given h) now) r; last = list-extended h now (panelLook r); accepted = s .0; shown = s .1 };
+      record { answer = look (foldl left (given h) now) r; last = list-extended h now (observing (panelLook r)); accepted = s .0; shown = s .1 };
   ending-read = λ i r w e on k.
       let now = take i calls in
       let s = ending-gives (moment-end h heads now) e r on w k in
@@ -93,7 +97,7 @@ never-4 h heads calls i s w a after q z =
 -- FOR ANY WEIGHT of a message, a number that its payload gives: each sum of the demand is one of them, for a payload keeps both parts of
 -- the amount. What was applied weighs what the table computes, and at the ending it weighs what remains.
 pub any-weight : (h : Head) → Heads h → (calls : List Call) (v : Payload → ℕ) (i c : ℕ) → Among (controllers h) c
-    → weights (λ (x : Sent). v (x .payload)) (moment h calls i .sent) (applied (moment h calls i) c) ≡ weigh v (tableAt h calls i) (at (tableAt h calls i) c)
+    → weights (λ (x : Sent). v (x .payload)) (moment h calls i .sent) (applied (moment h calls i) c) ≡ weigh v (messagesOf (tableAt h calls i)) (at (tableAt h calls i) c .applied)
 any-weight h heads calls v i c k = weights-weigh (moment-at h heads calls i .recorded) (of-payload v) c k
 
 pub any-weight-ending : (h : Head) → Heads h → (calls : List Call) (v : Payload → ℕ) (i r : ℕ)

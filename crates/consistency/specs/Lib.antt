@@ -1,1 +1,5 @@
+pub mod Entries
+pub mod Ledger
+pub mod Lines
 pub mod Demand3
+pub mod Courses

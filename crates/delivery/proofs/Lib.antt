@@ -1,4 +1,4 @@
-pub mod Listing
-pub mod Matrix
-pub mod Removal
-pub mod Answer
+pub mod HeldSlots
+pub mod ScratchMatrix
+pub mod LargestByRemoval
+pub mod ApplyAnswer

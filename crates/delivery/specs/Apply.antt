@@ -7,16 +7,17 @@ use lib.ListN.{length, getD, replicate}
 use lib.Dec.{eqb, leb, ltb}
 use Rattle.lists.specs.Below.{count}
 use Rattle.lists.specs.Build.{tabulate}
-use Rattle.model.specs.Tables.{capacity, scratchSize, yes?, entry}
-use Rattle.model.specs.Delivery.{Slots, has, applicable}
-use Rattle.model.specs.Largest.{inBuffer, candidate, precedes}
+use Rattle.model.specs.Tables.{capacity, inBuffer, scratchSize, yes?, entry}
+use Rattle.model.specs.Delivery.{Slots, has}
+use Rattle.model.specs.Rounds.{applicable}
+use Rattle.model.specs.Largest.{candidate, precedes}
 use Rattle.model.specs.Calls.{cleared}
 use Rattle.model.specs.declared.Pending.{Pending}
 use Rattle.delivery.specs.declared.Chosen.{Chosen}
 
--- the set, with so many bytes of scratch: no slot where they are fewer than 4,096
+-- the set, with this many bytes of scratch: no slot where they are fewer than the matrix needs
 unfoldable pub applyAnswer : ℕ → ℕ → List Pending → Slots
-applyAnswer room n P = cond (leb scratchSize room) (applicable n P) (replicate 64 false)
+applyAnswer room n P = cond (leb scratchSize room) (applicable n P) (replicate capacity false)
 
 -- the scratch area afterwards
 unfoldable pub applyScratch : List ℕ → List ℕ
@@ -32,7 +33,7 @@ pub record Applied (n : ℕ) (P : List Pending) (s : List ℕ) (answer : Slots) 
 unfoldable pub among : ℕ → List ℕ → ℕ → Bool
 among k L t = ltb 0 (count k (λ j. eqb (getD L j 0) t))
 
--- so many first slots of a list are those below s that are in the buffer
+-- the first `size` slots of a list are those below s that are in the buffer
 pub record Listed (P : List Pending) (s size : ℕ) (L : List ℕ) : Type 0 where
   pub few : size ≤ s
   pub below : (k : ℕ) → k < size → getD L k 0 < s
@@ -40,29 +41,29 @@ pub record Listed (P : List Pending) (s size : ℕ) (L : List ℕ) : Type 0 wher
 
 -- line 15: in the buffer, with the marks of a majority
 unfoldable pub candidates : ℕ → List Pending → Slots
-candidates n P = tabulate capacity (λ s. inBuffer n P s && candidate n P s)
+candidates n P = tabulate capacity (λ s. inBuffer P s && candidate n P s)
 
 -- the candidates, and how many of the listed slots they are
 pub record Candidates (n : ℕ) (P : List Pending) (size : ℕ) (L : List ℕ) (c : Chosen) : Type 0 where
   pub members : c .members ≡ candidates n P
-  pub counted : c .count ≡ count size (λ k. has (c .members) (getD L k 0))
+  pub count-is : c .count ≡ count size (λ k. has (c .members) (getD L k 0))
 
 -- whether slot s goes before slot t, as the scratch area has it
 abbrev pub flag : List ℕ → ℕ → ℕ → Bool
-flag m s t = yes? (getD m (s * 64 + t) 0)
+flag m s t = yes? (getD m (s * capacity + t) 0)
 
 -- row i is filled in the columns of the first k listed slots, and no other row has changed
 pub record RowFilled (n : ℕ) (P : List Pending) (L : List ℕ) (i k : ℕ) (s m : List ℕ) : Type 0 where
   pub size : length m ≡ length s
-  pub ahead : (x : ℕ) → x < i * 64 → getD m x 0 ≡ getD s x 0
-  pub behind : (x : ℕ) → i * 64 + 64 ≤ x → getD m x 0 ≡ getD s x 0
+  pub ahead : (x : ℕ) → x < i * capacity → getD m x 0 ≡ getD s x 0
+  pub behind : (x : ℕ) → i * capacity + capacity ≤ x → getD m x 0 ≡ getD s x 0
   pub flags : (t : ℕ) → t < capacity → among k L t ≡ true → flag m i t ≡ precedes n P i t
 
--- the rows of the members among the first k listed slots are filled, and no byte behind the matrix has changed
+-- the rows of the members among the first k listed slots are filled, and no byte after the matrix has changed
 pub record RowsFilled (n : ℕ) (P : List Pending) (L : List ℕ) (S : Slots) (k : ℕ) (s m : List ℕ) : Type 0 where
   pub size : length m ≡ length s
   pub behind : (x : ℕ) → scratchSize ≤ x → getD m x 0 ≡ getD s x 0
-  pub flags : (i t : ℕ) → i < capacity → t < capacity → among k L i ≡ true → has S i ≡ true → inBuffer n P t ≡ true
+  pub flags : (i t : ℕ) → i < capacity → t < capacity → among k L i ≡ true → has S i ≡ true → inBuffer P t ≡ true
       → flag m i t ≡ precedes n P i t
 
 -- what the removals rely on: the list's slots and the matrix are there, and each candidate is listed
@@ -72,7 +73,7 @@ pub record Removable (size : ℕ) (L : List ℕ) (C : Slots) (m : List ℕ) : Ty
   pub room : scratchSize ≤ length m
   pub listed : (s : ℕ) → s < capacity → has C s ≡ true → among size L s ≡ true
 
--- the set is found, and no byte behind the matrix has changed
+-- the set is found, and no byte after the matrix has changed
 pub record Settled (n : ℕ) (P : List Pending) (s : List ℕ) (answer : Slots) (m : List ℕ) : Type 0 where
   pub set : answer ≡ applicable n P
   pub size : length m ≡ length s

@@ -6,7 +6,8 @@ ghost use lib.ListN.{length, getD};
 ghost use lib.Dec.{leb};
 ghost use Rattle.lists.specs.Below.{tally};
 ghost use Rattle.model.specs.Tables.{capacity, scratchSize, yes?};
-ghost use Rattle.model.specs.Delivery.{has, majority, markCount, goesBefore, largest};
+ghost use Rattle.model.specs.Delivery.{has, majority, markCount, goesBefore};
+ghost use Rattle.model.specs.Rounds.{largest};
 ghost use Rattle.model.specs.Calls.{cleared};
 ghost use Rattle.delivery.specs.Apply.{Applied, among, Listed, Candidates, flag, RowFilled, RowsFilled, Removable, Settled};
 use model::ForwardNumber;
@@ -53,21 +54,21 @@ pub fn goes_before(n: usize, p: Pending, q: Pending) -> usize
 
 // One more where the test passes.
 fn tallied(yes: bool, count: usize) -> usize
-    requires { ⌜ count < 64 ⌝ }
+    requires { ⌜ count < capacity ⌝ }
     ensures { λ r. ⌜ r ≡ tally yes count ⌝ }
 {
     if yes { count + 1 } else { count }
 }
 
-// The slots in the buffer, in order. Few are, so that all that follows goes through this list and not through all 64.
+// The slots in the buffer, in order. Few are, so that all that follows goes through this list and not through all slots.
 struct Held {
     size: usize,
-    slots: [u8; 64],
+    slots: [u8; Table::MESSAGES],
 }
 
-// Each slot is written behind those that are counted, and stays where it is counted: a slot costs no branch.
-fn held_slots(pending: [Pending; 64]) -> Held
-    ensures { λ r. ⌜ Listed pending 64 (r .size) (r .slots) ⌝ }
+// Each slot is written after those that are counted, and stays there if it is counted: a slot costs no branch.
+fn held_slots(pending: [Pending; Table::MESSAGES]) -> Held
+    ensures { λ r. ⌜ Listed pending capacity (r .size) (r .slots) ⌝ }
 {
     let mut slots = [0u8; Table::MESSAGES];
     let mut size: usize = 0;
@@ -81,11 +82,16 @@ fn held_slots(pending: [Pending; 64]) -> Held
 // The candidates of line 15, and how many they are.
 struct Chosen {
     count: usize,
-    members: [bool; 64],
+    members: [bool; Table::MESSAGES],
 }
 
-fn candidates(n: usize, pending: [Pending; 64], size: usize, slots: [u8; 64]) -> Chosen
-    requires { ⌜ Listed pending 64 size slots ⌝ }
+fn candidates(
+    n: usize,
+    pending: [Pending; Table::MESSAGES],
+    size: usize,
+    slots: [u8; Table::MESSAGES],
+) -> Chosen
+    requires { ⌜ Listed pending capacity size slots ⌝ }
     ensures { λ r. ⌜ Candidates n pending size slots r ⌝ }
 {
     let m = majority(n);
@@ -112,13 +118,13 @@ fn flag(n: usize, m: usize, p: Pending, q: Pending) -> u8
 fn fill_row(
     n: usize,
     m: usize,
-    pending: [Pending; 64],
+    pending: [Pending; Table::MESSAGES],
     size: usize,
-    slots: [u8; 64],
+    slots: [u8; Table::MESSAGES],
     i: usize,
     scratch: &mut [u8],
 )
-    requires { ⌜ (scratchSize ≤ length (now scratch)) × Listed pending 64 size slots × (i < 64) × (m ≡ majority n) ⌝ }
+    requires { ⌜ (scratchSize ≤ length (now scratch)) × Listed pending capacity size slots × (i < capacity) × (m ≡ majority n) ⌝ }
     ensures { λ r. ⌜ RowFilled n pending slots i size (now (scratch .entry)) (now (scratch .exit)) ⌝ }
 {
     let row = i * Table::MESSAGES;
@@ -132,13 +138,13 @@ fn fill_row(
 // The rows of the candidates: of no other slot is it asked what it goes before.
 fn fill(
     n: usize,
-    pending: [Pending; 64],
+    pending: [Pending; Table::MESSAGES],
     size: usize,
-    slots: [u8; 64],
-    members: [bool; 64],
+    slots: [u8; Table::MESSAGES],
+    members: [bool; Table::MESSAGES],
     scratch: &mut [u8],
 )
-    requires { ⌜ (scratchSize ≤ length (now scratch)) × Listed pending 64 size slots ⌝ }
+    requires { ⌜ (scratchSize ≤ length (now scratch)) × Listed pending capacity size slots ⌝ }
     ensures { λ r. ⌜ RowsFilled n pending slots members size (now (scratch .entry)) (now (scratch .exit)) ⌝ }
 {
     let m = majority(n);
@@ -172,7 +178,12 @@ fn bars(flags: &[u8], at: usize, member: bool) -> bool
 }
 
 // Line 16: the candidates without those that, one after the other, do not go before some non-member in the buffer.
-fn settle(size: usize, slots: [u8; 64], candidates: [bool; 64], flags: &[u8]) -> [bool; 64]
+fn settle(
+    size: usize,
+    slots: [u8; Table::MESSAGES],
+    candidates: [bool; Table::MESSAGES],
+    flags: &[u8],
+) -> [bool; Table::MESSAGES]
     requires { ⌜ Removable size slots candidates (now flags) ⌝ }
     ensures { λ r. ⌜ r ≡ largest capacity (among size slots) (has candidates) (flag (now (flags .entry))) ⌝ }
 {
@@ -197,7 +208,11 @@ fn settle(size: usize, slots: [u8; 64], candidates: [bool; 64], flags: &[u8]) ->
 
 // The set that a controller of n applies with this buffer. Where there is no candidate, or nothing else in the buffer, it is
 // the candidates. Otherwise the first 4,096 bytes of scratch become the matrix of line 16's relation.
-fn applicable(n: usize, pending: [Pending; 64], scratch: &mut [u8]) -> [bool; 64]
+fn applicable(
+    n: usize,
+    pending: [Pending; Table::MESSAGES],
+    scratch: &mut [u8],
+) -> [bool; Table::MESSAGES]
     requires { ⌜ scratchSize ≤ length (now scratch) ⌝ }
     ensures { λ r. ⌜ Settled n pending (now (scratch .entry)) r (now (scratch .exit)) ⌝ }
 {
@@ -216,7 +231,11 @@ fn applicable(n: usize, pending: [Pending; 64], scratch: &mut [u8]) -> [bool; 64
 
 // The set, and the first 4,096 bytes of scratch are zero afterwards; where there are fewer, no slot is answered and nothing
 // is written.
-pub fn apply(n: usize, pending: [Pending; 64], scratch: &mut [u8]) -> [bool; 64]
+pub fn apply(
+    n: usize,
+    pending: [Pending; Table::MESSAGES],
+    scratch: &mut [u8],
+) -> [bool; Table::MESSAGES]
     ensures { λ r. ⌜ Applied n pending (now (scratch .entry)) r (now (scratch .exit)) ⌝ }
 {
     if scratch.len() < Table::SCRATCH {

@@ -2,7 +2,7 @@
 // contract is an equation for its result and for all that it may write.
 ghost use mathlib.Core.Path.{_≡_};
 ghost use Rattle.model.specs.Calls.{look, countBefore, freshTable};
-ghost use Rattle.events.specs.Stepped.{Runs};
+ghost use Rattle.files.specs.FileRun.{Runs};
 ghost use Rattle.engine.specs.Called.{Counted};
 
 // One event, of the record with which the bytes begin. No reference can be handed back to C: the result is how many bytes are
@@ -60,5 +60,5 @@ pub extern "C" fn furnacejade_run(
 )
     ensures { λ _. ⌜ Runs (now (bytes .entry)) (now (listing .entry)) (now (scratch .entry)) (now (answer .exit)) (now (listing .exit)) (now (scratch .exit)) ⌝ }
 {
-    *answer = events::files::run(bytes, listing, scratch);
+    *answer = files::run(bytes, listing, scratch);
 }

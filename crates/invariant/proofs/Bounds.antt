@@ -9,14 +9,15 @@ use lib.Dec.{eqb, ltb}
 use borrow.Author.Tests.{leb-true, eqb-true, ne-eqb}
 use Rattle.lists.proofs.Tests.{and-left, and-right, or-cases}
 use Rattle.lists.proofs.Below.{sum-bound, sum-plus}
-use Rattle.model.specs.Tables.{message, applied}
+use Rattle.model.specs.Tables.{message, applied, messagesOf}
 use Rattle.model.specs.Events.{weigh, sums, classSums}
-use Rattle.model.specs.WellFormed.{fairMagnitude, fairAmount}
+use Rattle.model.specs.Fair.{fairMagnitude, fairAmount}
 use Rattle.model.specs.declared.Payload.{Payload}
 use Rattle.model.specs.declared.Sums.{Sums}
 use Rattle.model.specs.declared.Controller.{Controller}
 use Rattle.model.specs.declared.Table.{Table}
 use Rattle.model.specs.Facts.{WellFormed}
+use Rattle.invariant.specs.Claims.{Bounded}
 
 -- AN AMOUNT
 
@@ -64,12 +65,6 @@ weighs-nothing p e n =
 
 -- TWO SUMS
 
--- as sums are
-pub record Bounded (z : Sums) : Type 0 where
-  pub added : z .added ≤ 23040
-  pub withdrawn : z .withdrawn ≤ 23040
-  pub together : z .added + z .withdrawn ≤ 23040
-
 pub bounded : (z : Sums) → z .added + z .withdrawn ≤ 23040 → Bounded z
 bounded z h = record { added = omega arith; withdrawn = omega arith; together = h }
 
@@ -79,7 +74,7 @@ where-counted false v w h = omega arith
 
 module _ (t : Table) (f : WellFormed t) (x : Controller) where
   -- of any two weights that come to at most 360 for each message
-  weigh-bound : (v w : Payload → ℕ) → ((p : Payload) → fairAmount p ≡ true → v p + w p ≤ 360) → weigh v t x + weigh w t x ≤ 23040
+  weigh-bound : (v w : Payload → ℕ) → ((p : Payload) → fairAmount p ≡ true → v p + w p ≤ 360) → weigh v (messagesOf t) (x .applied) + weigh w (messagesOf t) (x .applied) ≤ 23040
   unfolding weigh
   weigh-bound v w h =
       omega (
@@ -89,10 +84,10 @@ module _ (t : Table) (f : WellFormed t) (x : Controller) where
         sum-bound (t .count) _ 360 (λ s l. where-counted (applied x s) _ _ (h (message t s .payload) (f .amounts s l))),
       )
 
-  pub sums-bounded : Bounded (sums t x)
+  pub sums-bounded : Bounded (sums (messagesOf t) (x .applied))
   unfolding sums
   sums-bounded = bounded _ (weigh-bound _ _ (λ p e. fair-parts p e .small))
 
-  pub class-bounded : (k : ℕ) → Bounded (classSums t x k)
+  pub class-bounded : (k : ℕ) → Bounded (classSums (messagesOf t) (x .applied) k)
   unfolding classSums
   class-bounded k = bounded _ (weigh-bound _ _ (λ p e. where-counted (eqb (p .class) k) _ _ (fair-parts p e .small)))

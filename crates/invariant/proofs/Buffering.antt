@@ -11,11 +11,10 @@ use lib.ListN.{length, getD, getD-replicate}
 use Rattle.lists.proofs.Tests.{contradiction}
 use Rattle.model.specs.Tables.{seats, capacity, absent, yes?, at, slotAt, entry, held, mark, applied, unheld, forwardNumber, withEntry, withMark}
 use Rattle.model.specs.Sized.{SizedController}
-use Rattle.model.specs.WellFormed.{inLog, greatestApplied}
+use Rattle.model.specs.Facts.{inLog, greatestApplied, GoodMark, GoodController}
 use Rattle.model.specs.declared.ForwardNumber.{ForwardNumber}
 use Rattle.model.specs.declared.Controller.{Controller}
 use Rattle.model.specs.declared.Table.{Table}
-use Rattle.model.specs.Facts.{GoodMark, GoodController}
 use Rattle.invariant.proofs.Stores.{marked-held, marked-marks, marked-entry-other, marked-held-other}
 use Rattle.invariant.proofs.Logs.{Entered, last, earlier, entered, entered-in-log, entered-in-log-other, not-in-log, log-shorter}
 

@@ -12,9 +12,9 @@ use Rattle.lists.specs.Build.{tabulateFrom, tabulate}
 use Rattle.lists.proofs.Tests.{and-right, cond-case}
 use Rattle.lists.proofs.Below.{sum-ext, sum-plus}
 use Rattle.lists.proofs.Clipped.{sum-none}
-use Rattle.model.specs.Tables.{lastClass, classCount, noSums, message, applied}
+use Rattle.model.specs.Tables.{lastClass, classCount, noSums, message, applied, messagesOf}
 use Rattle.model.specs.Events.{weigh, bothOf, plus, sums, ofClass, classSums, shown}
-use Rattle.model.specs.WellFormed.{fairClass}
+use Rattle.model.specs.Fair.{fairClass}
 use Rattle.model.specs.declared.Sums.{Sums}
 use Rattle.model.specs.declared.Payload.{Payload}
 use Rattle.model.specs.declared.Controller.{Controller}
@@ -61,12 +61,12 @@ by-parts f i zero = refl
 by-parts f i (suc m) = ap (plus (f i)) (by-parts f (suc i) m)
 
 module _ (t : Table) (w : WellFormed t) (x : Controller) where
-  weights-add-up : (v : Payload → ℕ) → over (λ k. weigh (ofClass k v) t x) ≡ weigh v t x
+  weights-add-up : (v : Payload → ℕ) → over (λ k. weigh (ofClass k v) (messagesOf t) (x .applied)) ≡ weigh v (messagesOf t) (x .applied)
   unfolding weigh tabulate
   weights-add-up v =
       sums-swapped (λ k s. cond (applied x s) (ofClass k v (message t s .payload)) 0) 0 classCount (t .count)
       ∙ sum-ext (t .count) _ _ (λ s h. each-class v (message t s .payload) (class-bound (t .version) _ (w .classes s h)) (applied x s))
 
-  pub classes-add-up : foldr plus noSums (shown t x .classes) ≡ shown t x .sums
+  pub classes-add-up : foldr plus noSums (shown (messagesOf t) (x .applied) .classes) ≡ shown (messagesOf t) (x .applied) .sums
   unfolding shown sums classSums tabulate
-  classes-add-up = by-parts (classSums t x) 0 classCount ∙ ap (λ (f : (Payload → ℕ) → ℕ). bothOf f) (fun-ext weights-add-up)
+  classes-add-up = by-parts (classSums (messagesOf t) (x .applied)) 0 classCount ∙ ap (λ (f : (Payload → ℕ) → ℕ). bothOf f) (fun-ext weights-add-up)

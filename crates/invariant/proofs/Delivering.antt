@@ -9,28 +9,27 @@ use borrow.Author.Tests.{not-true}
 use Rattle.lists.proofs.Tests.{and-left, and-right, refuted, contradiction}
 use Rattle.lists.proofs.Below.{greatest-max}
 use Rattle.lists.proofs.Build.{getD-tabulate}
-use Rattle.model.specs.Tables.{seats, capacity, yes?, message, entry, held, mark, applied, highest, unheld, none, noPending}
+use Rattle.model.specs.Tables.{seats, capacity, yes?, message, entry, held, mark, applied, highest, unheld, none, noPending, messagesOf}
 use Rattle.model.specs.Delivery.{Slots, has}
 use Rattle.model.specs.Events.{numberOf, highestIn, deliver}
-use Rattle.model.specs.WellFormed.{inLog, greatestApplied}
+use Rattle.model.specs.Facts.{inLog, greatestApplied, Among, GoodMark, GoodController}
 use Rattle.model.specs.declared.MessageNumber.{MessageNumber}
 use Rattle.model.specs.declared.Controller.{Controller}
 use Rattle.model.specs.declared.Table.{Table}
-use Rattle.model.specs.Facts.{Among, GoodMark, GoodController}
 
 module _ (t : Table) (c : Controller) (S : Slots) where
-  pub delivered-entry : (s : ℕ) → s < capacity → entry (deliver t c S .pending) s ≡ cond (has S s) unheld (entry (c .pending) s)
+  pub delivered-entry : (s : ℕ) → s < capacity → entry (deliver (messagesOf t) c S .pending) s ≡ cond (has S s) unheld (entry (c .pending) s)
   unfolding deliver
   delivered-entry s h = getD-tabulate capacity _ noPending s h
 
-  pub delivered-held : (s : ℕ) → s < capacity → held (deliver t c S) s ≡ (not (has S s) && held c s)
+  pub delivered-held : (s : ℕ) → s < capacity → held (deliver (messagesOf t) c S) s ≡ (not (has S s) && held c s)
   delivered-held s h = rw (delivered-entry s h) (go (has S s))
     where
       go : (b : Bool) → yes? (cond b unheld (entry (c .pending) s) .held) ≡ (not b && held c s)
       go true = refl
       go false = refl
 
-  pub delivered-applied : (s : ℕ) → s < capacity → applied (deliver t c S) s ≡ (has S s || applied c s)
+  pub delivered-applied : (s : ℕ) → s < capacity → applied (deliver (messagesOf t) c S) s ≡ (has S s || applied c s)
   unfolding deliver
   delivered-applied s h = rw (getD-tabulate capacity (λ s. cond (has S s) 1 (getD (c .applied) s 0)) 0 s h) (go (has S s))
     where
@@ -39,14 +38,14 @@ module _ (t : Table) (c : Controller) (S : Slots) where
       go false = refl
 
   -- what was buffered or applied still is
-  pub delivered-known : (s : ℕ) → s < capacity → (held c s || applied c s) ≡ true → (held (deliver t c S) s || applied (deliver t c S) s) ≡ true
+  pub delivered-known : (s : ℕ) → s < capacity → (held c s || applied c s) ≡ true → (held (deliver (messagesOf t) c S) s || applied (deliver (messagesOf t) c S) s) ≡ true
   delivered-known s h e = rw (delivered-held s h, delivered-applied s h) (go (has S s) (held c s) e)
     where
       go : (b k : Bool) → (k || applied c s) ≡ true → (not b && k || (b || applied c s)) ≡ true
       go true k e = refl
       go false k e = e
 
-  pub delivered-highest : (x : ℕ) → Among seats x → highest (deliver t c S) x ≡ max (highest c x) (highestIn t S x)
+  pub delivered-highest : (x : ℕ) → Among seats x → highest (deliver (messagesOf t) c S) x ≡ max (highest c x) (highestIn (messagesOf t) S x)
   unfolding deliver
   delivered-highest x h =
       let q : suc (x - 1) ≡ x = omega arith in
@@ -55,12 +54,12 @@ module _ (t : Table) (c : Controller) (S : Slots) where
 module _ (t : Table) (i : ℕ) (c : Controller) (g : GoodController t i c) (few : t .n ≤ seats) (counted : t .count ≤ capacity)
     (S : Slots) (buffered : (s : ℕ) → s < capacity → has S s ≡ true → held c s ≡ true) where
   -- what is still in the buffer
-  kept : (s : ℕ) → s < capacity → held (deliver t c S) s ≡ true → (has S s ≡ false) × (held c s ≡ true)
+  kept : (s : ℕ) → s < capacity → held (deliver (messagesOf t) c S) s ≡ true → (has S s ≡ false) × (held c s ≡ true)
   kept s h e =
       let p = sym (delivered-held t c S s h) ∙ e in
       (not-true (has S s) (and-left _ _ p), and-right (not (has S s)) _ p)
 
-  delivered-greatest : (x : ℕ) → greatestApplied t (deliver t c S) x ≡ max (greatestApplied t c x) (highestIn t S x)
+  delivered-greatest : (x : ℕ) → greatestApplied (messagesOf t) (deliver (messagesOf t) c S .applied) x ≡ max (greatestApplied (messagesOf t) (c .applied) x) (highestIn (messagesOf t) S x)
   unfolding greatestApplied highestIn
   delivered-greatest x =
       greatest-max (t .count) _ _ _
@@ -72,7 +71,7 @@ module _ (t : Table) (i : ℕ) (c : Controller) (g : GoodController t i c) (few 
       go false true k = omega arith
       go false false k = refl
 
-  pub delivered-good : GoodController t i (deliver t c S)
+  pub delivered-good : GoodController t i (deliver (messagesOf t) c S)
   unfolding deliver inLog
   delivered-good = record {
     log-room = g .log-room;
@@ -84,17 +83,17 @@ module _ (t : Table) (i : ℕ) (c : Controller) (g : GoodController t i c) (few 
         let k = kept s (omega arith) e in
         g .apart s h (k .1) (rw (k .0) at (sym (delivered-applied t c S s (omega arith)) ∙ a));
     outside = λ s h l. outside s h (g .outside s h l);
-    highest-is = λ x h. delivered-highest t c S x (omega arith) ∙ ap (λ y. max y (highestIn t S x)) (g .highest-is x h) ∙ sym (delivered-greatest x);
+    highest-is = λ x h. delivered-highest t c S x (omega arith) ∙ ap (λ y. max y (highestIn (messagesOf t) S x)) (g .highest-is x h) ∙ sym (delivered-greatest x);
     exact = λ e s h.
         rw (delivered-held t c S s (omega arith), delivered-applied t c S s (omega arith))
         (g .exact e s h ∙ exact (has S s) (held c s) (applied c s) (buffered s (omega arith)));
     long = g .long;
   }
     where
-      marks : (s f : ℕ) → s < t .count → (has S s ≡ false) × (held c s ≡ true) → f < t .n → GoodMark (mark (entry (deliver t c S .pending) s) f)
+      marks : (s f : ℕ) → s < t .count → (has S s ≡ false) × (held c s ≡ true) → f < t .n → GoodMark (mark (entry (deliver (messagesOf t) c S .pending) s) f)
       marks s f h k hf = rw (delivered-entry t c S s (omega arith), k .0) (g .marks s f h (k .1) hf)
 
-      outside : (s : ℕ) → s < capacity → (held c s ≡ false) × (applied c s ≡ false) → (held (deliver t c S) s ≡ false) × (applied (deliver t c S) s ≡ false)
+      outside : (s : ℕ) → s < capacity → (held c s ≡ false) × (applied c s ≡ false) → (held (deliver (messagesOf t) c S) s ≡ false) × (applied (deliver (messagesOf t) c S) s ≡ false)
       outside s h o =
           let p = refuted (has S s) (λ m. contradiction (buffered s h m) (o .0)) in
           (rw (delivered-held t c S s h, p) (o .0), rw (delivered-applied t c S s h, p) (o .1))

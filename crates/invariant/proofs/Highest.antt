@@ -9,10 +9,9 @@ use borrow.Author.Tests.{eqb-true}
 use Rattle.lists.specs.Below.{greatest}
 use Rattle.model.specs.Tables.{message, applied, highest}
 use Rattle.model.specs.Events.{numberOf}
-use Rattle.model.specs.WellFormed.{greatestApplied}
+use Rattle.model.specs.Facts.{greatestApplied, Among, GoodController}
 use Rattle.model.specs.declared.Controller.{Controller}
 use Rattle.model.specs.declared.Table.{Table}
-use Rattle.model.specs.Facts.{Among, GoodController}
 
 -- an argument below n at which f is greatest
 record Attained (n : ℕ) (f : ℕ → ℕ) (k : ℕ) : Type 0 where

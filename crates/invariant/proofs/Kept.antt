@@ -8,12 +8,13 @@ use native.Mathlib.Nat.{not-suc-le-zero}
 use native.Mathlib.Omega.{arith}
 use lib.ListN.{getD-replicate}
 use Rattle.lists.specs.Below.{greatest}
-use Rattle.model.specs.Tables.{seats, capacity, absent, yes?, at, none, noController, noPending, unheld, idle, start, fresh}
+use Rattle.model.specs.Tables.{seats, capacity, absent, yes?, at, none, noController, noPending, unheld, idle, start, fresh, controllerIn}
 use Rattle.model.specs.Events.{subject, after, withSent, next, resulting}
 use Rattle.model.specs.Records.{decode}
 use Rattle.model.specs.Sized.{Sized}
-use Rattle.model.specs.WellFormed.{greatestApplied, wellFormed}
-use Rattle.model.specs.Questions.{firstNo, eventQuestions, commandQuestions}
+use Rattle.model.specs.Facts.{greatestApplied, Among, GoodController, WellFormed}
+use Rattle.model.specs.WellFormed.{wellFormed}
+use Rattle.model.specs.Questions.{FreshAllowed, firstNo, eventQuestions, commandQuestions}
 use Rattle.model.specs.Calls.{Outcome, accepted, refused, step, event}
 use Rattle.model.specs.declared.MessageNumber.{MessageNumber}
 use Rattle.model.specs.declared.Pending.{Pending}
@@ -22,9 +23,8 @@ use Rattle.model.specs.declared.Event.{Event}
 use Rattle.model.specs.declared.Event.the-variants.{Send, Handover, Stop}
 use Rattle.model.specs.declared.Command.{Command}
 use Rattle.model.specs.declared.Command.the-variants.{Act, Read}
-use Rattle.model.specs.Facts.{Among, GoodController, WellFormed}
 use Rattle.model.proofs.Tested.{facts, tested}
-use Rattle.model.proofs.Allowed.{FreshAllowed, step-asked, send-allowed, handover-allowed, stop-allowed}
+use Rattle.model.proofs.Allowed.{step-asked, send-allowed, handover-allowed, stop-allowed}
 use Rattle.model.proofs.Steps.{step-case, event-number-step}
 use Rattle.invariant.proofs.Sizes.{next-sized}
 use Rattle.invariant.proofs.Sending.{send-well-formed}
@@ -34,7 +34,7 @@ use Rattle.invariant.proofs.Stopping.{stop-well-formed}
 -- THE FRESH TABLE
 
 pub at-fresh : (v n c : ℕ) → Among seats c → at (fresh v n) c ≡ idle 1 absent
-unfolding at fresh start
+unfolding controllerIn fresh start
 at-fresh v n c h = getD-replicate seats (c - 1) (idle 1 absent) noController (omega arith)
 
 idle-good : (v n i : ℕ) → n ≤ seats → GoodController (fresh v n) i (idle 1 absent)

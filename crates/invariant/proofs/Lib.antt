@@ -15,4 +15,4 @@ pub mod Refusals
 pub mod Listing
 pub mod Classes
 pub mod Shown
-pub mod Registers
+pub mod NextRegisters

@@ -13,8 +13,8 @@ use borrow.Author.Tests.{eqb-true, eq-eqb, ne-eqb, ltb-true, leb-true, le-leb}
 use Rattle.lists.specs.Below.{all, sum}
 use Rattle.lists.proofs.Tests.{cond-case, and-left, and-right}
 use Rattle.lists.proofs.Below.{all-at, sum-ext, sum-bound}
-use Rattle.lists.proofs.Every.{Every}
-use Rattle.model.specs.Tables.{at, message, applied}
+use Rattle.lists.specs.Every.{Every}
+use Rattle.model.specs.Tables.{at, message, applied, messagesOf}
 use Rattle.model.specs.Delivery.{Slots, has}
 use Rattle.model.specs.Events.{subject, next, appliedBy, controllerOf, resulting, weigh, shown, panelOf, earlier, insert, namesBelow, namesOf, nameOf}
 use Rattle.model.specs.Records.{byte, size, behind, kind, sizeOf, decode}
@@ -37,8 +37,9 @@ use Rattle.model.proofs.Lengths.{length-insert, SmallName, names-bound, length-
 use Rattle.invariant.proofs.Sizes.{next-n, fresh-sized}
 use Rattle.invariant.proofs.Kept.{next-well-formed, resulting-kept, fresh-well-formed}
 use Rattle.invariant.proofs.Refusals.{step-number-range}
-use Rattle.invariant.proofs.Counter.{weighSet, weigh-next}
-use Rattle.invariant.proofs.Bounds.{Bounded, sums-bounded}
+use Rattle.invariant.specs.Claims.{weighSet, Bounded}
+use Rattle.invariant.proofs.Counter.{weigh-next}
+use Rattle.invariant.proofs.Bounds.{sums-bounded}
 
 -- LINES
 
@@ -75,16 +76,16 @@ every-insert P x [] h k = (h, tt)
 every-insert P x (y ∷ ys) h k =
     cond-case (Every P) (earlier x y) (x ∷ y ∷ ys) (y ∷ insert x ys) (λ _. (h, k)) (λ _. (k .0, every-insert P x ys h (k .1)))
 
-every-below : (P : Name → Type 0) (k : ℕ) (t : Table) (S : Slots) → ((s : ℕ) → s < k → P (nameOf (message t s))) → Every P (namesBelow k t S)
+every-below : (P : Name → Type 0) (k : ℕ) (t : Table) (S : Slots) → ((s : ℕ) → s < k → P (nameOf (message t s))) → Every P (namesBelow k (t .messages) S)
 unfolding namesBelow Every
 every-below P zero t S h = tt
 every-below P (suc k) t S h =
     let r = every-below P k t S (λ s l. h s (omega arith)) in
-    cond-case (Every P) (has S k) _ _ (λ _. every-insert P (nameOf (message t k)) (namesBelow k t S) (h k (omega arith)) r) (λ _. r)
+    cond-case (Every P) (has S k) _ _ (λ _. every-insert P (nameOf (message t k)) (namesBelow k (t .messages) S) (h k (omega arith)) r) (λ _. r)
 
 -- of an event that no question refuses
 small-line : (t : Table) (e : Event) → Sized t → WellFormed t → firstNo (eventQuestions t e) ≡ 0 → (k : ℕ) → k < 100000
-    → SmallLine k (subject e) (panelOf (next t e) (subject e) .sums) (namesOf t (appliedBy t e))
+    → SmallLine k (subject e) (panelOf (next t e) (subject e) .sums) (namesOf (messagesOf t) (appliedBy t e))
 unfolding panelOf shown namesOf
 small-line t e z w q k h =
     record {
@@ -99,14 +100,14 @@ small-line t e z w q k h =
 
 -- how often messages were applied, by all controllers together
 deliveries : Table → ℕ
-deliveries t = sum (t .n) (λ i. weigh (λ p. 1) t (at t (suc i)))
+deliveries t = sum (t .n) (λ i. weigh (λ p. 1) (messagesOf t) (at t (suc i) .applied))
 
 deliveries-bound : (t : Table) → WellFormed t → deliveries t ≤ 448
 unfolding deliveries weigh
 deliveries-bound t w =
     omega (
       arith,
-      sum-bound (t .n) (λ i. weigh (λ p. 1) t (at t (suc i))) 64
+      sum-bound (t .n) (λ i. weigh (λ p. 1) (messagesOf t) (at t (suc i) .applied)) 64
           (λ i h. omega (
             arith,
             w .counted,
@@ -116,14 +117,14 @@ deliveries-bound t w =
       w .few,
     )
 
-names-length : (k : ℕ) (t : Table) (S : Slots) → length (namesBelow k t S) ≡ sum k (λ s. cond (has S s) 1 0)
+names-length : (k : ℕ) (t : Table) (S : Slots) → length (namesBelow k (t .messages) S) ≡ sum k (λ s. cond (has S s) 1 0)
 unfolding namesBelow sum
 names-length zero t S = refl
 names-length (suc k) t S = go (has S k) (names-length k t S)
   where
-    go : (b : Bool) → length (namesBelow k t S) ≡ sum k (λ s. cond (has S s) 1 0)
-        → length (cond b (insert (nameOf (message t k)) (namesBelow k t S)) (namesBelow k t S)) ≡ sum k (λ s. cond (has S s) 1 0) + cond b 1 0
-    go true e = omega (arith, length-insert (nameOf (message t k)) (namesBelow k t S))
+    go : (b : Bool) → length (namesBelow k (t .messages) S) ≡ sum k (λ s. cond (has S s) 1 0)
+        → length (cond b (insert (nameOf (message t k)) (namesBelow k (t .messages) S)) (namesBelow k (t .messages) S)) ≡ sum k (λ s. cond (has S s) 1 0) + cond b 1 0
+    go true e = omega (arith, length-insert (nameOf (message t k)) (namesBelow k (t .messages) S))
     go false e = omega (arith, e)
 
 -- the term of controller r raised by d
@@ -141,10 +142,10 @@ sum-raised (suc n) f g r d h e =
 
 -- an event applies what it names
 deliveries-next : (t : Table) (e : Event) → Sized t → WellFormed t → firstNo (eventQuestions t e) ≡ 0
-    → deliveries (next t e) ≡ deliveries t + length (namesOf t (appliedBy t e))
+    → deliveries (next t e) ≡ deliveries t + length (namesOf (messagesOf t) (appliedBy t e))
 unfolding deliveries namesOf weighSet
 deliveries-next t e z w q =
-    ap (λ n. sum n (λ i. weigh (λ p. 1) (next t e) (at (next t e) (suc i)))) (next-n t e)
+    ap (λ n. sum n (λ i. weigh (λ p. 1) (messagesOf (next t e)) (at (next t e) (suc i) .applied))) (next-n t e)
     ∙ sum-raised (t .n) _ _ (subject e) _ (subject-allowed t e q) (λ i l. weigh-next t e z w q (λ p. 1) (suc i) (record { low = omega arith; high = l }))
     ∙ ap (λ k. deliveries t + k) (sym (names-length (t .count) t (appliedBy t e)))
 
@@ -155,7 +156,7 @@ line-delivers : (t : Table) (a : Command) (r : List ℕ) → Sized t → WellFor
     → length (lineOf k (controllerOf a) (panelOf (resulting t a) (controllerOf a) .sums) (answering t a r .names)) + 25 * deliveries t ≤ 25 * deliveries (resulting t a)
 unfolding resulting answering controllerOf commandQuestions lineOf
 line-delivers t (Act e) r z w q k h =
-    let ms = namesOf t (appliedBy t e) in
+    let ms = namesOf (messagesOf t) (appliedBy t e) in
     omega (
       arith,
       deliveries-next t e z w q,

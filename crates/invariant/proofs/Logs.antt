@@ -13,10 +13,9 @@ use Rattle.lists.proofs.Tests.{refuted, bool-eq, contradiction}
 use Rattle.lists.proofs.Below.{count-pos, count-found, distinct-room, distinct-room-less}
 use Rattle.model.specs.Tables.{capacity, slotAt, withEntry}
 use Rattle.model.specs.Sized.{SizedController}
-use Rattle.model.specs.WellFormed.{inLog}
+use Rattle.model.specs.Facts.{inLog, GoodController}
 use Rattle.model.specs.declared.Controller.{Controller}
 use Rattle.model.specs.declared.Table.{Table}
-use Rattle.model.specs.Facts.{GoodController}
 
 -- where a log names a slot
 pub record Entry (c : Controller) (s : ℕ) : Type 0 where

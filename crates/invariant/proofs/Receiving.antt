@@ -9,17 +9,17 @@ use lib.Dec.{leb}
 use borrow.Author.Tests.{leb-false, eq-eqb}
 use Rattle.lists.proofs.Tests.{refuted}
 use Rattle.lists.proofs.Below.{greatest-ge}
-use Rattle.model.specs.Tables.{capacity, yes?, at, message, place, entry, held, applied, highest, unheld, withEntry, withRead, withController}
+use Rattle.model.specs.Tables.{capacity, yes?, at, message, place, entry, held, applied, highest, unheld, withEntry, withRead, withController, messagesOf}
 use Rattle.model.specs.Delivery.{has}
 use Rattle.model.specs.Events.{numberOf, forward, nextSlot, received, handoverSet, deliver}
 use Rattle.model.specs.Sized.{Sized, SizedController}
-use Rattle.model.specs.WellFormed.{inLog, greatestApplied}
+use Rattle.model.specs.Facts.{inLog, greatestApplied, Among, GoodController, WellFormed}
 use Rattle.model.specs.declared.Message.{Message}
 use Rattle.model.specs.declared.Controller.{Controller}
 use Rattle.model.specs.declared.Table.{Table}
-use Rattle.model.specs.Facts.{Among, GoodController, WellFormed}
 use Rattle.model.proofs.Allowed.{HandoverAllowed}
 use Rattle.model.proofs.Largest.{applicable-held}
+use Rattle.model.proofs.Handovers.{nextAt, receivedAt, setAt}
 use Rattle.invariant.proofs.Stores.{seated, at-sized, read-place, read-place-other, marked-known, forward-case}
 use Rattle.invariant.proofs.Sizes.{read-sized, entered-sized}
 use Rattle.invariant.proofs.Buffering.{unheld-marks, marked-good, entered-good}
@@ -42,7 +42,7 @@ above-unapplied t w i c g s h above = refuted (applied c s) (λ p.
     omega (arith, applied-number t i c g s h (w .senders s h) p, leb-false (message t s .number .0) (highest c (message t s .sender)) above))
 
 -- the entry that a handover reads is of a message of the run
-pub next-slot-run : (t : Table) (w : WellFormed t) (r o : ℕ) → HandoverAllowed t r o → nextSlot t r o < t .count
+pub next-slot-run : (t : Table) (w : WellFormed t) (r o : ℕ) → HandoverAllowed t r o → nextAt t r o < t .count
 unfolding nextSlot
 next-slot-run t w r o a = w .controllers o (a .owner) .log-run (place (at t r) o) (a .unread)
 
@@ -68,10 +68,10 @@ forward-known c m s o k z h r e =
     (λ _ _. marked-known (withEntry c s) s (unheld .marks) o k (entered-sized c s z) h r e)
 
 -- a receiver's log only grows
-pub received-longer : (t : Table) (r o : ℕ) → at t r .length ≤ received t r o .length
+pub received-longer : (t : Table) (r o : ℕ) → at t r .length ≤ receivedAt t r o .length
 unfolding received
 received-longer t r o =
-    forward-case (λ (x : Controller). at t r .length ≤ x .length) (withRead (at t r) o) (message t (nextSlot t r o)) (nextSlot t r o) o (place (at t r) o + 1)
+    forward-case (λ (x : Controller). at t r .length ≤ x .length) (withRead (at t r) o) (message t (nextAt t r o)) (nextAt t r o) o (place (at t r) o + 1)
     (λ _. omega arith) (λ _ _. omega arith) (λ _ _. omega arith)
 
 module _ (t : Table) (w : WellFormed t) (z : Sized t) (r o : ℕ) (a : HandoverAllowed t r o) where
@@ -99,32 +99,32 @@ module _ (t : Table) (w : WellFormed t) (z : Sized t) (r o : ℕ) (a : HandoverA
       places q h (yes e) = rw (e, read-place (at t r) o receiver-sized (seated (w .few) (a .owner))) (omega (arith, a .unread))
       places q h (no e) = rw (read-place-other (at t r) o q (seated (w .few) (a .owner)) (seated (w .few) h) e) (w .controllers r (a .receiver) .places q h)
 
-  pub received-good : GoodController t r (received t r o)
+  pub received-good : GoodController t r (receivedAt t r o)
   unfolding received
   received-good =
       forward-good t w r (withRead (at t r) o) read-good (read-sized (at t r) o receiver-sized) (a .running)
-      (nextSlot t r o) (next-slot-run t w r o a) o (place (at t r) o + 1) (omega arith) (omega (arith, a .unread, w .controllers o (a .owner) .log-room))
+      (nextAt t r o) (next-slot-run t w r o a) o (place (at t r) o + 1) (omega arith) (omega (arith, a .unread, w .controllers o (a .owner) .log-room))
 
   -- the set applied was buffered
-  pub applied-held : (s : ℕ) → s < capacity → has (handoverSet t r o) s ≡ true → held (received t r o) s ≡ true
+  pub applied-held : (s : ℕ) → s < capacity → has (setAt t r o) s ≡ true → held (receivedAt t r o) s ≡ true
   unfolding handoverSet
-  applied-held s h e = applicable-held (t .n) (received t r o .pending) s h e
+  applied-held s h e = applicable-held (t .n) (receivedAt t r o .pending) s h e
 
-  pub receiver-good : GoodController t r (deliver t (received t r o) (handoverSet t r o))
-  receiver-good = delivered-good t r (received t r o) received-good (w .few) (w .counted) (handoverSet t r o) applied-held
+  pub receiver-good : GoodController t r (deliver (messagesOf t) (receivedAt t r o) (setAt t r o))
+  receiver-good = delivered-good t r (receivedAt t r o) received-good (w .few) (w .counted) (setAt t r o) applied-held
 
   receiver-known : (s : ℕ) → s < t .count → (held (at t r) s || applied (at t r) s) ≡ true
-      → (held (deliver t (received t r o) (handoverSet t r o)) s || applied (deliver t (received t r o) (handoverSet t r o)) s) ≡ true
+      → (held (deliver (messagesOf t) (receivedAt t r o) (setAt t r o)) s || applied (deliver (messagesOf t) (receivedAt t r o) (setAt t r o)) s) ≡ true
   unfolding received
   receiver-known s h e =
-      delivered-known t (received t r o) (handoverSet t r o) s (omega (arith, w .counted))
-      (forward-known (withRead (at t r) o) (message t (nextSlot t r o)) (nextSlot t r o) o (place (at t r) o + 1) (read-sized (at t r) o receiver-sized)
+      delivered-known t (receivedAt t r o) (setAt t r o) s (omega (arith, w .counted))
+      (forward-known (withRead (at t r) o) (message t (nextAt t r o)) (nextAt t r o) o (place (at t r) o + 1) (read-sized (at t r) o receiver-sized)
       (omega (arith, w .counted, next-slot-run t w r o a)) s e)
 
-  pub handover-well-formed : WellFormed (withController t r (deliver t (received t r o) (handoverSet t r o)))
+  pub handover-well-formed : WellFormed (withController t r (deliver (messagesOf t) (receivedAt t r o) (setAt t r o)))
   unfolding deliver
   handover-well-formed =
-      replaced t r (deliver t (received t r o) (handoverSet t r o)) z (but-one t r w) (a .receiver) receiver-good
+      replaced t r (deliver (messagesOf t) (receivedAt t r o) (setAt t r o)) z (but-one t r w) (a .receiver) receiver-good
       (omega (arith, receiver-good .places r (a .receiver), received-longer t r o))
       (λ q h _. omega (arith, w .controllers q h .places r (a .receiver), received-longer t r o))
       (λ s h k e _. receiver-known s h (rw e at (w .kept s h k) (a .running)))

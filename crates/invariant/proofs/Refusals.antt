@@ -1,19 +1,17 @@
 -- The numbers that a step can give: 0, 5 to 15 or 17 to 20. Assumes nothing.
 use mathlib.Core.Path.{_≡_, refl}
-use mathlib.Core.Logic.{_≢_, _⊎_, inl, inr}
+use mathlib.Core.Logic.{_⊎_, inl, inr}
 use mathlib.Core.List.{List, [], _∷_, _++_}
-use Prim.Native.Nat.{ℕ, _≤_}
+use Prim.Native.Nat.{ℕ}
 use native.Mathlib.Omega.{arith}
 use Rattle.lists.proofs.Tests.{cond-case}
 use Rattle.model.specs.Records.{decode}
-use Rattle.model.specs.Questions.{Question, firstNo, kindQuestions, recordQuestions, eventQuestions, commandQuestions, scratchRoom, stepQuestions}
+use Rattle.model.specs.Questions.{Question, firstNo, kindQuestions, recordQuestions, payloadQuestions, senderQuestions, sendQuestions, handoverQuestions, stopQuestions, readQuestions, eventQuestions, commandQuestions, scratchRoom, stepQuestions}
 use Rattle.model.specs.declared.Table.{Table}
 use Rattle.model.specs.declared.Event.the-variants.{Send, Handover, Stop}
 use Rattle.model.specs.declared.Command.{Command}
 use Rattle.model.specs.declared.Command.the-variants.{Act, Read}
-
-abbrev pub StepNumber : ℕ → Type 0
-StepNumber k = (5 ≤ k) × (k ≤ 20) × (k ≢ 16)
+use Rattle.invariant.specs.Claims.{StepNumber}
 
 -- every question has such a number
 abbrev Numbers : List Question → Type 0
@@ -26,7 +24,7 @@ first-number [] w = inl refl
 first-number (q ∷ qs) w = cond-case (λ k. (k ≡ 0) ⊎ StepNumber k) (q .yes) (firstNo qs) (q .number) (λ _. first-number qs (w .1)) (λ _. inr (w .0))
 
 step-numbers : (t : Table) (v : ℕ) (s : List ℕ) (room : ℕ) (a : Command) → Numbers (recordQuestions v s ++ (commandQuestions t a ++ (scratchRoom room ∷ [])))
-unfolding recordQuestions kindQuestions eventQuestions commandQuestions scratchRoom
+unfolding recordQuestions kindQuestions payloadQuestions senderQuestions sendQuestions handoverQuestions stopQuestions readQuestions eventQuestions commandQuestions scratchRoom
 step-numbers t v s room (Act (Send c p)) = omega arith
 step-numbers t v s room (Act (Handover r o)) = omega arith
 step-numbers t v s room (Act (Stop c k)) = omega arith

@@ -5,12 +5,12 @@ use mathlib.Core.Bool.{true, _||_}
 use mathlib.Core.Logic.{_≢_}
 use Prim.Native.Nat.{ℕ, _≤_, _<_}
 use native.Mathlib.Decide.{ℕ-discrete}
-use Rattle.model.specs.Tables.{seats, capacity, yes?, at, message, place, held, applied, withController}
+use Rattle.model.specs.Tables.{seats, capacity, yes?, at, message, place, held, applied, withController, messageIn}
 use Rattle.model.specs.Sized.{Sized}
-use Rattle.model.specs.WellFormed.{known, fairAmount, fairClass, fairRegister, fairDate, greatestApplied}
+use Rattle.model.specs.Fair.{known, fairAmount, fairClass, fairRegister, fairDate}
+use Rattle.model.specs.Facts.{greatestApplied, Among, GoodController, WellFormed}
 use Rattle.model.specs.declared.Controller.{Controller}
 use Rattle.model.specs.declared.Table.{Table}
-use Rattle.model.specs.Facts.{Among, GoodController, WellFormed}
 use Rattle.invariant.proofs.Stores.{seated, at-same, at-other}
 
 -- while it runs, x has slot s pending or applied
@@ -30,7 +30,7 @@ pub record WellFormedBut (t : Table) (c : ℕ) : Type 0 where
   pub amounts : (s : ℕ) → s < t .count → fairAmount (message t s .payload) ≡ true
   pub classes : (s : ℕ) → s < t .count → fairClass (t .version) (message t s .payload) ≡ true
   pub registers : (s : ℕ) → s < t .count → fairRegister (message t s .payload) ≡ true
-  pub dates : (s : ℕ) → s < t .count → fairDate t (message t s) ≡ true
+  pub dates : (s : ℕ) → s < t .count → fairDate (t .count) (message t s) ≡ true
   pub stamps : (i j : ℕ) → i < t .count → j < t .count → message t i .payload .kind ≡ 6 → message t j .payload .kind ≡ 6
       → message t i .sender ≡ message t j .sender → message t i .payload .reg ≡ message t j .payload .reg
       → message t i .date ≡ message t j .date → i ≡ j
@@ -59,7 +59,7 @@ but-one t c w = record {
 with-places : (t : Table) (c : ℕ) (x : Controller) (d : ℕ) (y : Controller) → GoodController t d y
     → ((o : ℕ) → Among (t .n) o → place y o ≤ at (withController t c x) o .length)
     → GoodController (withController t c x) d y
-unfolding withController message greatestApplied
+unfolding withController messageIn greatestApplied
 with-places t c x d y g p = record {
   log-room = g .log-room;
   log-run = g .log-run;
@@ -77,7 +77,7 @@ pub replaced : (t : Table) (c : ℕ) (x : Controller) → Sized t → WellFormed
     → place x c ≤ x .length → ((r : ℕ) → Among (t .n) r → r ≢ c → place (at t r) c ≤ x .length)
     → ((s : ℕ) → s < t .count → message t s .payload .kind ≡ 6 → message t s .sender ≡ c → Knows x s)
     → WellFormed (withController t c x)
-unfolding withController message fairDate
+unfolding withController messageIn fairDate
 replaced t c x z w hc g own others written = record {
   version = w .version;
   some = w .some;

@@ -9,16 +9,16 @@ use lib.Dec.{eqb, leb, ltb}
 use borrow.Author.Tests.{leb-true, eq-eqb, lt-ltb, le-leb}
 use Rattle.lists.proofs.Tests.{and-left, and-right, both, or-cases, or-left, contradiction}
 use Rattle.lists.proofs.Below.{greatest-ext, greatest-last}
-use Rattle.model.specs.Tables.{capacity, yes?, at, message, held, applied, unheld, withController, withMessage, withEntry}
+use Rattle.model.specs.Tables.{capacity, yes?, at, message, held, applied, unheld, withController, withMessage, withEntry, controllerIn, messagesOf}
 use Rattle.model.specs.Registers.{writes, registerOf, dateOf}
 use Rattle.model.specs.Events.{numberOf, sentMessage, sent}
 use Rattle.model.specs.Sized.{Sized, SizedController}
-use Rattle.model.specs.WellFormed.{inLog, fairAmount, fairClass, fairRegister, fairDate, greatestApplied}
+use Rattle.model.specs.Facts.{inLog, greatestApplied, Among, GoodController, WellFormed}
+use Rattle.model.specs.Fair.{fairAmount, fairClass, fairRegister, fairDate}
 use Rattle.model.specs.declared.Message.{Message}
 use Rattle.model.specs.declared.Payload.{Payload}
 use Rattle.model.specs.declared.Controller.{Controller}
 use Rattle.model.specs.declared.Table.{Table}
-use Rattle.model.specs.Facts.{Among, GoodController, WellFormed}
 use Rattle.model.proofs.Allowed.{SendAllowed}
 use Rattle.model.proofs.Registers.{newest-held, newest-most, held-date, message-date}
 use Rattle.invariant.proofs.Stores.{seated, at-sized, message-new, message-old, marked-held, marked-known}
@@ -62,7 +62,7 @@ module _ (t : Table) (m : Message) where
         go (yes p) = contradiction (rw p at e) (outside .0)
         go (no p) = omega (arith, p)
 
-    added-greatest : (x : ℕ) → greatestApplied (withMessage t m) c x ≡ greatestApplied t c x
+    added-greatest : (x : ℕ) → greatestApplied (messagesOf (withMessage t m)) (c .applied) x ≡ greatestApplied (messagesOf t) (c .applied) x
     unfolding greatestApplied withMessage
     added-greatest x =
         greatest-last (t .count) _ (rw (outside .1))
@@ -70,7 +70,7 @@ module _ (t : Table) (m : Message) where
 
     -- a controller that did not send it stays good
     pub added-good : i ≢ m .sender → GoodController (withMessage t m) i c
-    unfolding withMessage at
+    unfolding withMessage controllerIn
     added-good d = record {
       log-room = g .log-room;
       log-run = λ k h. omega (arith, g .log-run k h);
@@ -93,7 +93,7 @@ module _ (t : Table) (m : Message) where
         long r s (old p e) q = rw e (g .long r s p (sym (ap (λ (x : Message). x .sender) e) ∙ q))
 
 -- a date that is fair stays so with more messages
-later-fair : (t u : Table) (m : Message) → t .count ≤ u .count → fairDate t m ≡ true → fairDate u m ≡ true
+later-fair : (t u : Table) (m : Message) → t .count ≤ u .count → fairDate (t .count) m ≡ true → fairDate (u .count) m ≡ true
 unfolding fairDate
 later-fair t u m l = go (eqb (m .payload .kind) 6)
   where
@@ -121,7 +121,7 @@ renamed t i j c g long = record {
 module _ (t : Table) (w : WellFormed t) (z : Sized t) (c : ℕ) (p : Payload) (a : SendAllowed t c p) where
   -- the run with the message that c sends
   abbrev longer : Table
-  longer = withMessage t (sentMessage t c p)
+  longer = withMessage t (sentMessage (messagesOf t) (at t c) c p)
 
   -- No controller is called 0, so nothing is asked of the numbers that it sent.
   unnamed-good : GoodController longer 0 (at t c)
@@ -143,19 +143,19 @@ module _ (t : Table) (w : WellFormed t) (z : Sized t) (c : ℕ) (p : Payload) (a
 
   -- the date of the register that p writes, as c knows it
   abbrev known : ℕ
-  known = registerOf t (at t c) (p .reg) .stamp .date
+  known = registerOf (messagesOf t) (at t c .applied) (p .reg) .stamp .date
 
-  new-date : fairDate longer (sentMessage t c p) ≡ true
+  new-date : fairDate (longer .count) (sentMessage (messagesOf t) (at t c) c p) ≡ true
   unfolding fairDate withMessage sentMessage dateOf registerOf
   new-date = go (eqb (p .kind) 6)
     where
       go : (b : Bool) → cond b (ltb 0 (cond b (known + 1) 0) && leb (cond b (known + 1) 0) (t .count + 1)) (eqb (cond b (known + 1) 0) 0) ≡ true
-      go true = both (lt-ltb 0 (known + 1) (omega arith)) (le-leb (known + 1) (t .count + 1) (omega (arith, held-date (t .count) (newest-held t (applied (at t c)) (p .reg) (t .count)) (message-date t w))))
+      go true = both (lt-ltb 0 (known + 1) (omega arith)) (le-leb (known + 1) (t .count + 1) (omega (arith, held-date (t .count) (newest-held (t .messages) (applied (at t c)) (p .reg) (t .count)) (message-date t w))))
       go false = refl
 
   -- c has applied each write that it sent, so that the next has a later date
   sent-dated : p .kind ≡ 6 → (s : ℕ) → s < t .count → message t s .payload .kind ≡ 6 → message t s .sender ≡ c → message t s .payload .reg ≡ p .reg
-      → message t s .date ≡ dateOf t (at t c) p → ⊥
+      → message t s .date ≡ dateOf (messagesOf t) (at t c .applied) p → ⊥
   unfolding dateOf registerOf writes
   sent-dated k s h l e q d = go (or-cases (held (at t c) s) _ (rw e at (w .kept s h l) (a .running)))
     where
@@ -164,31 +164,31 @@ module _ (t : Table) (w : WellFormed t) (z : Sized t) (c : ℕ) (p : Payload) (a
       go (inr i) =
           omega (
             arith,
-            newest-most t (applied (at t c)) (p .reg) (t .count) s h i (both (eq-eqb (message t s .payload .kind) 6 l) (eq-eqb (message t s .payload .reg) (p .reg) q)) .dates,
+            newest-most (t .messages) (applied (at t c)) (p .reg) (t .count) s h i (both (eq-eqb (message t s .payload .kind) 6 l) (eq-eqb (message t s .payload .reg) (p .reg) q)) .dates,
             rw k at d,
           )
 
   but-sender : WellFormedBut longer c
-  unfolding withMessage at sentMessage
+  unfolding withMessage controllerIn sentMessage
   but-sender = record {
     version = w .version;
     some = w .some;
     few = w .few;
     counted = omega (arith, a .room);
-    names = λ i j hi hj. names i j (added t (sentMessage t c p) z (a .room) i hi) (added t (sentMessage t c p) z (a .room) j hj);
-    senders = added-each t (sentMessage t c p) (λ m. Among (t .n) (m .sender)) z (a .room) (a .sender) (w .senders);
-    numbers = added-each t (sentMessage t c p) (λ m. (0 < m .number .0) × (m .number .0 ≤ 64)) z (a .room) (omega arith, omega (arith, a .room, log-room)) (w .numbers);
-    amounts = added-each t (sentMessage t c p) (λ m. fairAmount (m .payload) ≡ true) z (a .room) (a .amount) (w .amounts);
-    classes = added-each t (sentMessage t c p) (λ m. fairClass (t .version) (m .payload) ≡ true) z (a .room) (a .class) (w .classes);
-    registers = added-each t (sentMessage t c p) (λ m. fairRegister (m .payload) ≡ true) z (a .room) (a .register) (w .registers);
-    dates = added-each t (sentMessage t c p) (λ m. fairDate longer m ≡ true) z (a .room) new-date
+    names = λ i j hi hj. names i j (added t (sentMessage (messagesOf t) (at t c) c p) z (a .room) i hi) (added t (sentMessage (messagesOf t) (at t c) c p) z (a .room) j hj);
+    senders = added-each t (sentMessage (messagesOf t) (at t c) c p) (λ m. Among (t .n) (m .sender)) z (a .room) (a .sender) (w .senders);
+    numbers = added-each t (sentMessage (messagesOf t) (at t c) c p) (λ m. (0 < m .number .0) × (m .number .0 ≤ 64)) z (a .room) (omega arith, omega (arith, a .room, log-room)) (w .numbers);
+    amounts = added-each t (sentMessage (messagesOf t) (at t c) c p) (λ m. fairAmount (m .payload) ≡ true) z (a .room) (a .amount) (w .amounts);
+    classes = added-each t (sentMessage (messagesOf t) (at t c) c p) (λ m. fairClass (t .version) (m .payload) ≡ true) z (a .room) (a .class) (w .classes);
+    registers = added-each t (sentMessage (messagesOf t) (at t c) c p) (λ m. fairRegister (m .payload) ≡ true) z (a .room) (a .register) (w .registers);
+    dates = added-each t (sentMessage (messagesOf t) (at t c) c p) (λ m. fairDate (longer .count) m ≡ true) z (a .room) new-date
         (λ s h. later-fair t longer (message t s) (omega arith) (w .dates s h));
-    stamps = λ i j hi hj. stamps i j (added t (sentMessage t c p) z (a .room) i hi) (added t (sentMessage t c p) z (a .room) j hj);
-    kept = λ s h. kept s (added t (sentMessage t c p) z (a .room) s h);
-    controllers = λ d h n. added-good t (sentMessage t c p) z (a .room) d (at t d) (w .controllers d h) n;
+    stamps = λ i j hi hj. stamps i j (added t (sentMessage (messagesOf t) (at t c) c p) z (a .room) i hi) (added t (sentMessage (messagesOf t) (at t c) c p) z (a .room) j hj);
+    kept = λ s h. kept s (added t (sentMessage (messagesOf t) (at t c) c p) z (a .room) s h);
+    controllers = λ d h n. added-good t (sentMessage (messagesOf t) (at t c) c p) z (a .room) d (at t d) (w .controllers d h) n;
   }
     where
-      names : (i j : ℕ) → Added t (sentMessage t c p) i → Added t (sentMessage t c p) j
+      names : (i j : ℕ) → Added t (sentMessage (messagesOf t) (at t c) c p) i → Added t (sentMessage (messagesOf t) (at t c) c p) j
           → message longer i .sender ≡ message longer j .sender
           → message longer i .number .0 ≡ message longer j .number .0 → i ≡ j
       names i j (new hi ei) (new hj ej) e k = hi ∙ sym hj
@@ -196,7 +196,7 @@ module _ (t : Table) (w : WellFormed t) (z : Sized t) (c : ℕ) (p : Payload) (a
       names i j (old hi ei) (new hj ej) e k = absurd (sent-new i hi (rw (ei, ej) at e) (rw (ei, ej) at k))
       names i j (old hi ei) (old hj ej) e k = w .names i j hi hj (rw (ei, ej) at e) (rw (ei, ej) at k)
 
-      stamps : (i j : ℕ) → Added t (sentMessage t c p) i → Added t (sentMessage t c p) j
+      stamps : (i j : ℕ) → Added t (sentMessage (messagesOf t) (at t c) c p) i → Added t (sentMessage (messagesOf t) (at t c) c p) j
           → message longer i .payload .kind ≡ 6 → message longer j .payload .kind ≡ 6 → message longer i .sender ≡ message longer j .sender
           → message longer i .payload .reg ≡ message longer j .payload .reg → message longer i .date ≡ message longer j .date → i ≡ j
       stamps i j (new hi ei) (new hj ej) k l e q d = hi ∙ sym hj
@@ -206,40 +206,40 @@ module _ (t : Table) (w : WellFormed t) (z : Sized t) (c : ℕ) (p : Payload) (a
           absurd (sent-dated (rw ej at l) i hi (rw ei at k) (rw (ei, ej) at e) (rw (ei, ej) at q) (rw (ei, ej) at d))
       stamps i j (old hi ei) (old hj ej) k l e q d = w .stamps i j hi hj (rw ei at k) (rw ej at l) (rw (ei, ej) at e) (rw (ei, ej) at q) (rw (ei, ej) at d)
 
-      kept : (s : ℕ) → Added t (sentMessage t c p) s → message longer s .payload .kind ≡ 6 → message longer s .sender ≢ c → Knows (at longer (message longer s .sender)) s
+      kept : (s : ℕ) → Added t (sentMessage (messagesOf t) (at t c) c p) s → message longer s .payload .kind ≡ 6 → message longer s .sender ≢ c → Knows (at longer (message longer s .sender)) s
       kept s (new h e) k d = absurd (d (ap (λ (m : Message). m .sender) e))
       kept s (old h e) k d = rw e (w .kept s h (rw e at k))
 
   -- what c sent, it has buffered or applied
   sender-known : (s : ℕ) → s < t .count + 1 → message longer s .payload .kind ≡ 6
-      → message longer s .sender ≡ c → (held (sent t c) s || applied (sent t c) s) ≡ true
+      → message longer s .sender ≡ c → (held (sent (t .count) (at t c) c) s || applied (sent (t .count) (at t c) c) s) ≡ true
   unfolding sent
-  sender-known s h = go (added t (sentMessage t c p) z (a .room) s h)
+  sender-known s h = go (added t (sentMessage (messagesOf t) (at t c) c p) z (a .room) s h)
     where
       sized : SizedController (withEntry (at t c) (t .count))
       sized = entered-sized (at t c) (t .count) (at-sized t c z (seated (w .few) (a .sender)))
 
-      go : Added t (sentMessage t c p) s → message longer s .payload .kind ≡ 6
-          → message longer s .sender ≡ c → (held (sent t c) s || applied (sent t c) s) ≡ true
-      go (new i e) k d = or-left {a = held (sent t c) s} _ (rw i (marked-held (withEntry (at t c) (t .count)) (t .count) (unheld .marks) c (at t c .length + 1) sized (a .room)))
+      go : Added t (sentMessage (messagesOf t) (at t c) c p) s → message longer s .payload .kind ≡ 6
+          → message longer s .sender ≡ c → (held (sent (t .count) (at t c) c) s || applied (sent (t .count) (at t c) c) s) ≡ true
+      go (new i e) k d = or-left {a = held (sent (t .count) (at t c) c) s} _ (rw i (marked-held (withEntry (at t c) (t .count)) (t .count) (unheld .marks) c (at t c .length + 1) sized (a .room)))
       go (old i e) k d =
           marked-known (withEntry (at t c) (t .count)) (t .count) (unheld .marks) c (at t c .length + 1) sized (a .room) s
           (rw (rw e at d) at (w .kept s i (rw e at k)) (a .running))
 
-  sender-good : GoodController longer c (sent t c)
+  sender-good : GoodController longer c (sent (t .count) (at t c) c)
   unfolding withMessage sentMessage sent
   sender-good =
-      renamed longer 0 c (sent t c)
+      renamed longer 0 c (sent (t .count) (at t c) c)
       (entered-good longer 0 (at t c) unnamed-good (at-sized t c z (seated (w .few) (a .sender))) (w .few)
       (omega (arith, a .room)) (t .count) (omega arith) (w .controllers c (a .sender) .outside (t .count) (a .room) (omega arith) .1)
       (unheld .marks) refl (unheld-marks (w .few)) c (at t c .length + 1) (omega arith) (omega (arith, a .room, log-room)) log-lacks-new)
-      (λ r. added-each t (sentMessage t c p) (λ m. m .sender ≡ c → m .number .0 ≤ at t c .length + 1) z (a .room) (λ _. omega arith)
+      (λ r. added-each t (sentMessage (messagesOf t) (at t c) c p) (λ m. m .sender ≡ c → m .number .0 ≤ at t c .length + 1) z (a .room) (λ _. omega arith)
       (λ s h e. omega (arith, w .controllers c (a .sender) .long r s h e)))
 
-  pub send-well-formed : WellFormed (withController longer c (sent t c))
-  unfolding sent withMessage at
+  pub send-well-formed : WellFormed (withController longer c (sent (t .count) (at t c) c))
+  unfolding sent withMessage controllerIn
   send-well-formed =
-      replaced longer c (sent t c) (message-sized t (sentMessage t c p) z) but-sender (a .sender) sender-good
+      replaced longer c (sent (t .count) (at t c) c) (message-sized t (sentMessage (messagesOf t) (at t c) c p) z) but-sender (a .sender) sender-good
       (omega (arith, w .controllers c (a .sender) .places c (a .sender)))
       (λ r h _. omega (arith, w .controllers r h .places c (a .sender)))
       (λ s h k e _. sender-known s h k e)

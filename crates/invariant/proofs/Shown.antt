@@ -9,9 +9,9 @@ use lib.Dec.{eqb}
 use borrow.Author.Tests.{eqb-true}
 use Rattle.lists.specs.Build.{tabulateFrom, tabulate}
 use Rattle.lists.proofs.Tests.{cond-case, contradiction}
-use Rattle.lists.proofs.Every.{Every}
+use Rattle.lists.specs.Every.{Every}
 use Rattle.lists.proofs.Clipped.{any-none}
-use Rattle.model.specs.Tables.{classCount, noSums, noPanel, at, message, withController}
+use Rattle.model.specs.Tables.{classCount, noSums, noPanel, at, withController, messageIn, messagesOf}
 use Rattle.model.specs.Events.{subject, next, withSent, appliedBy, weigh, plus, sums, classSums, shown, panelOf, finishes}
 use Rattle.model.specs.Records.{behind, decode}
 use Rattle.model.specs.WellFormed.{wellFormed}
@@ -29,7 +29,8 @@ use Rattle.model.specs.Facts.{WellFormed}
 use Rattle.model.proofs.Tested.{facts}
 use Rattle.model.proofs.Allowed.{no-no, look-asked}
 use Rattle.model.proofs.Steps.{settled-case}
-use Rattle.invariant.proofs.Bounds.{Bounded, bounded, sums-bounded, class-bounded}
+use Rattle.invariant.specs.Claims.{Bounded, BoundedPanel}
+use Rattle.invariant.proofs.Bounds.{bounded, sums-bounded, class-bounded}
 use Rattle.invariant.proofs.Classes.{classes-add-up}
 
 none-bounded : Bounded noSums
@@ -37,27 +38,22 @@ none-bounded = bounded noSums (omega arith)
 
 -- LOOKS: a refused one shows zeros
 
--- all sums that a panel shows
-pub record BoundedPanel (p : Panel) : Type 0 where
-  pub sums : Bounded (p .sums)
-  pub classes : Every Bounded (p .classes)
-
 every-tabulate : (P : Sums → Type 0) (f : ℕ → Sums) (i n : ℕ) → ((k : ℕ) → P (f k)) → Every P (tabulateFrom i n f)
 unfolding Every tabulateFrom
 every-tabulate P f i zero h = tt
 every-tabulate P f i (suc n) h = (h i, every-tabulate P f (suc i) n h)
 
-look-case : (P : Panel → Type 0) → P noPanel → ((t : Table) → WellFormed t → (x : Controller) → P (shown t x)) → (t : Table) (c : ℕ) → P (look t c .panel)
+look-case : (P : Panel → Type 0) → P noPanel → ((t : Table) → WellFormed t → (x : Controller) → P (shown (messagesOf t) (x .applied))) → (t : Table) (c : ℕ) → P (look t c .panel)
 unfolding look panelOf
 look-case P none some t c =
     let k = firstNo (lookQuestions t c) in
-    cond-case P (eqb k 0) (shown t (at t c)) noPanel (λ e. some t (facts t (look-asked t c (eqb-true k 0 e) .0)) (at t c)) (λ _. none)
+    cond-case P (eqb k 0) (shown (messagesOf t) (at t c .applied)) noPanel (λ e. some t (facts t (look-asked t c (eqb-true k 0 e) .0)) (at t c)) (λ _. none)
 
 pub look-bounded : (t : Table) (c : ℕ) → BoundedPanel (look t c .panel)
 unfolding shown tabulate tabulateFrom
 look-bounded =
     look-case BoundedPanel (record { sums = none-bounded; classes = every-tabulate Bounded (λ _. noSums) 0 classCount (λ _. none-bounded) })
-    (λ t f x. record { sums = sums-bounded t f x; classes = every-tabulate Bounded (classSums t x) 0 classCount (class-bounded t f x) })
+    (λ t f x. record { sums = sums-bounded t f x; classes = every-tabulate Bounded (classSums (messagesOf t) (x .applied)) 0 classCount (class-bounded t f x) })
 
 pub look-adds-up : (t : Table) (c : ℕ) → foldr plus noSums (look t c .panel .classes) ≡ look t c .panel .sums
 look-adds-up = look-case (λ (p : Panel). foldr plus noSums (p .classes) ≡ p .sums) refl classes-add-up
@@ -65,16 +61,16 @@ look-adds-up = look-case (λ (p : Panel). foldr plus noSums (p .classes) ≡ p .
 -- EVENTS: a sync that is finished, a local read; all else answers zeros
 
 -- no set finishes a sync where it is empty
-none-finished : (t : Table) (c : ℕ) → finishes t [] c ≡ false
+none-finished : (t : Table) (c : ℕ) → finishes (messagesOf t) [] c ≡ false
 unfolding finishes
 none-finished t c = sym (any-none (t .count) _ (λ s _. refl))
 
 answering-bounded : (t : Table) → WellFormed t → (a : Command) (r : List ℕ) → Bounded (answering t a r .sums)
-unfolding answering panelOf shown appliedBy subject next withSent withController sums weigh message
+unfolding answering panelOf shown appliedBy subject next withSent withController sums weigh messageIn
 answering-bounded t f (Read c) r = sums-bounded t f (at t c)
-answering-bounded t f (Act e) r = cond-case Bounded (finishes t (appliedBy t e) (subject e)) _ noSums (go e) (λ _. none-bounded)
+answering-bounded t f (Act e) r = cond-case Bounded (finishes (messagesOf t) (appliedBy t e) (subject e)) _ noSums (go e) (λ _. none-bounded)
   where
-    go : (e : Event) → finishes t (appliedBy t e) (subject e) ≡ true → Bounded (panelOf (next t e) (subject e) .sums)
+    go : (e : Event) → finishes (messagesOf t) (appliedBy t e) (subject e) ≡ true → Bounded (panelOf (next t e) (subject e) .sums)
     go (Send c p) q = contradiction q (none-finished t c)
     go (Handover r o) q = sums-bounded t f (at (next t (Handover r o)) r)
     go (Stop c k) q = contradiction q (none-finished t c)

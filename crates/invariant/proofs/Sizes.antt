@@ -9,7 +9,7 @@ use lib.ListN.{length, getD, set, length-set, getD-replicate}
 use lib.Seq.{getD-set-same, getD-set-other}
 use Rattle.lists.proofs.Tests.{cond-case}
 use Rattle.lists.proofs.Build.{length-tabulate, getD-tabulate}
-use Rattle.model.specs.Tables.{seats, capacity, absent, at, place, entry, highest, noController, noPending, unheld, idle, start, fresh, withController, withMessage, withEntry, withRead, withMark}
+use Rattle.model.specs.Tables.{seats, capacity, absent, at, place, entry, highest, noController, noPending, unheld, idle, start, fresh, withController, withMessage, withEntry, withRead, withMark, controllerIn, messagesOf}
 use Rattle.model.specs.Delivery.{Slots, has}
 use Rattle.model.specs.Events.{sent, forward, received, deliver, subject, after, withSent, next}
 use Rattle.model.specs.Sized.{Sized, SizedController}
@@ -21,6 +21,7 @@ use Rattle.model.specs.declared.Table.{Table}
 use Rattle.model.specs.declared.Event.{Event}
 use Rattle.model.specs.declared.Event.the-variants.{Send, Handover, Stop}
 use Rattle.model.specs.Facts.{Among}
+use Rattle.model.proofs.Handovers.{receivedAt}
 use Rattle.invariant.proofs.Stores.{at-same, at-other, forward-case}
 
 -- CONTROLLERS
@@ -61,7 +62,7 @@ marked-sized c s ms o k z l = record {
         (length-set ms (o - 1) _ ∙ l (omega arith))
     go r h (no e) = rw (getD-set-other (c .pending) s r _ noPending e) (z .marks r h)
 
-pub delivered-sized : (t : Table) (c : Controller) (S : Slots) → SizedController c → SizedController (deliver t c S)
+pub delivered-sized : (t : Table) (c : Controller) (S : Slots) → SizedController c → SizedController (deliver (messagesOf t) c S)
 unfolding deliver
 delivered-sized t c S z = record {
   log = z .log;
@@ -79,14 +80,14 @@ forward-sized c m s o k z =
     (λ _ _. marked-sized c s (entry (c .pending) s .marks) o k z (z .marks s))
     (λ _ _. marked-sized (withEntry c s) s (unheld .marks) o k (entered-sized c s z) (λ _. refl))
 
-pub received-sized : (t : Table) (r o : ℕ) → SizedController (at t r) → SizedController (received t r o)
+pub received-sized : (t : Table) (r o : ℕ) → SizedController (at t r) → SizedController (receivedAt t r o)
 unfolding received
 received-sized t r o z = forward-sized (withRead (at t r) o) _ _ _ _ (read-sized (at t r) o z)
 
 -- TABLES
 
 pub replaced-sized : (t : Table) (c : ℕ) (x : Controller) → Sized t → (SizedController (at t c) → SizedController x) → Sized (withController t c x)
-unfolding withController at
+unfolding withController controllerIn
 replaced-sized t c x z f = record {
   messages = z .messages;
   controllers = length-set (t .controllers) (c - 1) x ∙ z .controllers;
@@ -108,7 +109,7 @@ message-sized t m z = record {
 }
 
 pub next-sized : (t : Table) (e : Event) → Sized t → Sized (next t e)
-unfolding next subject after withSent sent withMessage at
+unfolding next subject after withSent sent withMessage controllerIn
 next-sized t (Send c p) z =
     replaced-sized (withMessage t _) c _ (message-sized t _ z)
     (λ zc. marked-sized (withEntry (at t c) (t .count)) (t .count) (unheld .marks) c (at t c .length + 1) (entered-sized (at t c) (t .count) zc) (λ _. refl))
@@ -131,7 +132,7 @@ sent-sized t (Handover r o) z = z
 sent-sized t (Stop c k) z = z
 
 sent-at : (t : Table) (e : Event) (d : ℕ) → at (withSent t e) d ≡ at t d
-unfolding withSent withMessage at
+unfolding withSent withMessage controllerIn
 sent-at t (Send c p) d = refl
 sent-at t (Handover r o) d = refl
 sent-at t (Stop c k) d = refl

@@ -4,10 +4,9 @@ use Prim.Native.Nat.{ℕ, _≤_}
 use native.Mathlib.Omega.{arith}
 use Rattle.model.specs.Tables.{at, withController, withStop}
 use Rattle.model.specs.Sized.{Sized}
-use Rattle.model.specs.WellFormed.{greatestApplied}
+use Rattle.model.specs.Facts.{greatestApplied, GoodController, WellFormed}
 use Rattle.model.specs.declared.Controller.{Controller}
 use Rattle.model.specs.declared.Table.{Table}
-use Rattle.model.specs.Facts.{GoodController, WellFormed}
 use Rattle.model.proofs.Allowed.{StopAllowed}
 use Rattle.invariant.proofs.Replacing.{but-one, replaced}
 

@@ -10,7 +10,7 @@ use lib.ListN.{length, getD, set}
 use lib.Dec.{leb}
 use lib.Seq.{getD-set-same, getD-set-other}
 use Rattle.lists.proofs.Tests.{or-left, cond-case}
-use Rattle.model.specs.Tables.{seats, capacity, yes?, at, message, place, entry, held, mark, applied, highest, unheld, noController, noMessage, noPending, forwardNumber, withController, withMessage, withEntry, withRead, withMark}
+use Rattle.model.specs.Tables.{seats, capacity, yes?, at, message, place, entry, held, mark, applied, highest, unheld, noController, noMessage, noPending, forwardNumber, withController, withMessage, withEntry, withRead, withMark, controllerIn, messageIn}
 use Rattle.model.specs.Events.{forward}
 use Rattle.model.specs.Sized.{Sized, SizedController}
 use Rattle.model.specs.declared.ForwardNumber.{ForwardNumber}
@@ -27,25 +27,25 @@ seated few h = record { low = h .low; high = omega (arith, h .high) }
 -- A CONTROLLER REPLACED
 
 pub at-same : (t : Table) (c : ℕ) (x : Controller) → Sized t → Among seats c → at (withController t c x) c ≡ x
-unfolding at withController
+unfolding controllerIn withController
 at-same t c x z h = getD-set-same (t .controllers) (c - 1) x noController (omega (arith, z .controllers))
 
 pub at-other : (t : Table) (c d : ℕ) (x : Controller) → Among seats c → Among seats d → d ≢ c → at (withController t c x) d ≡ at t d
-unfolding at withController
+unfolding controllerIn withController
 at-other t c d x hc hd f = getD-set-other (t .controllers) (c - 1) (d - 1) x noController (omega arith)
 
 pub at-sized : (t : Table) (c : ℕ) → Sized t → Among seats c → SizedController (at t c)
-unfolding at
+unfolding controllerIn
 at-sized t c z h = z .each (c - 1) (omega arith)
 
 -- A MESSAGE ADDED
 
 pub message-new : (t : Table) (m : Message) → Sized t → t .count < capacity → message (withMessage t m) (t .count) ≡ m
-unfolding message withMessage
+unfolding messageIn withMessage
 message-new t m z h = getD-set-same (t .messages) (t .count) m noMessage (omega (arith, z .messages))
 
 pub message-old : (t : Table) (m : Message) (s : ℕ) → s < t .count → message (withMessage t m) s ≡ message t s
-unfolding message withMessage
+unfolding messageIn withMessage
 message-old t m s h = getD-set-other (t .messages) (t .count) s m noMessage (omega arith)
 
 -- A PLACE MOVED ON

@@ -6,7 +6,7 @@ use lib.ListN.{length, drop}
 use Rattle.model.specs.declared.Table.{Table}
 use Rattle.events.specs.Stepped.{steppedOf, Steps}
 use Rattle.events.specs.declared.Stepped.{Stepped}
-use Rattle.events.proofs.Rest.{rest-handed-back}
+use Rattle.events.proofs.UnreadRest.{rest-handed-back}
 use Rattle.lent.specs.Called.{Called}
 
 module _ (t : Table) (s w : List ℕ) where

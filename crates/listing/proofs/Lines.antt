@@ -1,13 +1,14 @@
 -- A line's parts, the line of a set that an array holds, and the lines around the listing. Assumes nothing.
 use mathlib.Core.Path.{_≡_, refl, sym, ap, _∙_}
 use mathlib.Core.List.{List, [], _∷_, _++_, append-assoc}
-use Prim.Native.Nat.{ℕ, zero, suc, _+_, _^_, min, _≤_, _<_}
+use Prim.Native.Nat.{ℕ, _+_, _*_, _^_, min, _≤_, _<_}
 use native.Mathlib.Omega.{arith}
 use native.Mathlib.Decide.{decLt}
-use lib.ListN.{length, take, length-take}
+use lib.ListN.{length, take, length-take, length-append}
 use lib.Seq.{take-all}
 use Rattle.lists.proofs.Every.{every-take}
-use Rattle.model.specs.Runs.{decimal, sumFields, nameFields, line, lineOf, header, footer}
+use Rattle.model.specs.Tables.{capacity}
+use Rattle.model.specs.Runs.{decimal, sumFields, nameFields, line, header, footer}
 use Rattle.model.specs.declared.Name.{Name}
 use Rattle.model.specs.declared.Sums.{Sums}
 use Rattle.model.proofs.Decimals.{decimal-bound}
@@ -18,38 +19,31 @@ regroup : (a b s l z : List ℕ) → (((a ++ b) ++ s) ++ l) ++ z ≡ a ++ (b ++ 
 regroup a b s l z = simp append-assoc
 
 -- the parts, as they are stored one after the other
-pub line-parts : (e c : ℕ) (z : Sums) (ms : List Name) → (((decimal e ++ (32 ∷ decimal c)) ++ sumFields z) ++ nameFields ms) ++ (10 ∷ []) ≡ line e c z ms
+line-parts : (e c : ℕ) (z : Sums) (ms : List Name) → (((decimal e ++ (32 ∷ decimal c)) ++ sumFields z) ++ nameFields ms) ++ (10 ∷ []) ≡ line e c z ms
 unfolding line
 line-parts e c z ms = regroup (decimal e) (32 ∷ decimal c) (sumFields z) (nameFields ms) (10 ∷ [])
 
+-- of which the end of the line is one byte
+pub length-parts : (e c : ℕ) (z : Sums) (ms : List Name)
+    → length (((decimal e ++ (32 ∷ decimal c)) ++ sumFields z) ++ nameFields ms) + 1 ≡ length (line e c z ms)
+length-parts e c z ms =
+    sym (length-append (((decimal e ++ (32 ∷ decimal c)) ++ sumFields z) ++ nameFields ms) (10 ∷ [])) ∙ ap length (line-parts e c z ms)
+
 -- THE LINE OF A SET: the first of the names that an array holds, as many as there are
 
-line-of : (e c : ℕ) (z : Sums) (ms : List Name) → 0 < length ms → line e c z ms ≡ lineOf e c z ms
-unfolding lineOf
-line-of e c z [] h = absurd (omega arith)
-line-of e c z (m ∷ ms) h = refl
-
--- an empty set has no line
-pub no-line : (e c : ℕ) (z : Sums) (ms : List Name) (k size : ℕ) → k ≡ min size 64 → k ≡ 0 → [] ≡ lineOf e c z (take size ms)
-unfolding lineOf
-no-line e c z ms k zero h q = refl
-no-line e c z ms k (suc size) h q = absurd (omega arith)
-
-module _ (e c : ℕ) (z : Sums) (ms : List Name) (k size : ℕ) (a : NameArray ms) (h : k ≡ min size 64) where
+module _ (e c : ℕ) (z : Sums) (ms : List Name) (k size : ℕ) (a : NameArray ms) (h : k ≡ min size capacity) where
   same-names : take k ms ≡ take size ms
-  same-names = go (decLt size 64)
+  same-names = go (decLt size capacity)
     where
-      go : Dec (size < 64) → take k ms ≡ take size ms
+      go : Dec (size < capacity) → take k ms ≡ take size ms
       go (yes p) = let q : k ≡ size = omega arith in ap (λ (n : ℕ). take n ms) q
       go (no p) = take-all k ms (omega (arith, a .size)) ∙ sym (take-all size ms (omega (arith, a .size)))
 
-  pub line-of-clipped : (k ≡ 0 → ⊥) → line e c z (take k ms) ≡ lineOf e c z (take size ms)
-  line-of-clipped d =
-      rw same-names
-      (line-of e c z (take size ms) (omega (arith, a .size, ap length same-names, length-take k ms)))
+  pub clipped-parts : (((decimal e ++ (32 ∷ decimal c)) ++ sumFields z) ++ nameFields (take k ms)) ++ (10 ∷ []) ≡ line e c z (take size ms)
+  clipped-parts = line-parts e c z (take k ms) ∙ ap (line e c z) same-names
 
   -- at most the bytes of the longest line
-  pub line-room : e < 2 ^ 64 → c < 256 → z .added < 2 ^ 32 → z .withdrawn < 2 ^ 32 → length (line e c z (take k ms)) ≤ 559
+  pub line-room : e < 2 ^ 64 → c < 256 → z .added < 2 ^ 32 → z .withdrawn < 2 ^ 32 → length (line e c z (take k ms)) ≤ 47 + 8 * capacity
   line-room he hc ha hw =
       omega (
         arith,

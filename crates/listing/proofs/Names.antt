@@ -12,9 +12,9 @@ use denote.Shadow.{shadow}
 use denote.Laws.{Is}
 use denote.Array.{Array, each}
 use denote.Struct.Declared.{row}
-use Rattle.lists.proofs.Every.{Every}
+use Rattle.lists.specs.Every.{Every}
 use Rattle.model.specs.Runs.{decimal, nameFields}
-use Rattle.model.specs.Tables.{noName}
+use Rattle.model.specs.Tables.{capacity, noName}
 use Rattle.model.specs.declared.Name.{Name}
 use Rattle.model.proofs.Lengths.{SmallName}
 use Rattle.model.proofs.Name as name
@@ -57,7 +57,7 @@ fields-fit (m ∷ ms) (suc i) (suc n) h =
 -- AN ARRAY OF NAMES
 
 pub record NameArray (names : List Name) : Type 0 where
-  pub size : length names ≡ 64
+  pub size : length names ≡ capacity
   -- its numbers are bytes
   pub small : Every (SmallName 2 2) names
 
@@ -69,5 +69,5 @@ each-small (m ∷ ms) (u ∷ us) e =
     let fields = e .0 .1 .1 in
     (record { sender = omega (arith, fields .0 .1); number = omega (arith, fields .1 .0 .1 .1 .0 .1) }, each-small ms us (e .1))
 
-pub name-array : (names : List Name) (vs : List Val) → Is (Array (row name.the-type) 64) names vs → NameArray names
+pub name-array : (names : List Name) (vs : List Val) → Is (Array (row name.the-type) capacity) names vs → NameArray names
 name-array names vs owned = record { size = owned .1 .0 .1; small = each-small names (owned .0) (owned .1 .1) }

@@ -6,7 +6,7 @@ use native.Mathlib.Nat.{zero-add, add-zero}
 use native.Mathlib.Numerals.{add-one}
 use native.Mathlib.Omega.{arith}
 use lib.ListN.{length, getD, set, take, drop, length-append}
-use lib.Seq.{take-suc, take-length, take-append-seam, length-take-le, sets, sets-eq, length-sets}
+use lib.Seq.{take-suc, take-suc-set, take-length, take-append-seam, length-take-le, sets, sets-eq, length-sets}
 use Rattle.lists.specs.Build.{overlay}
 use Rattle.listing.specs.Writing.{stored, Stored}
 
@@ -57,19 +57,24 @@ stored-length {x} {s} {t} {at} {k} p = ap length (p .bytes) ∙ length-stored s 
 
 -- A WHOLE LINE
 
+-- what was stored from the front on stands there
+pub stored-front : {x s t : List ℕ} {k : ℕ} → k ≤ length t → Stored x s 0 t k → take k t ≡ x
+unfolding overlay
+stored-front {x} {s} {t} {k} h p =
+    let fits : length x ≤ length s = omega (arith, p .place, stored-length p) in
+    rw (p .place ∙ zero-add (length x), p .bytes ∙ stored-overlay s x fits) (take-append-seam x (drop (length x) s))
+
 -- the first k bytes of t are x
 pub record Front (x t : List ℕ) (k : ℕ) : Type 0 where
-  pub within : k ≤ length t
   pub size : k ≡ length (take k t)
   pub is : take k t ≡ x
 
--- what was stored from the front on stands there
-pub stored-front : {x s t : List ℕ} {k : ℕ} → length x ≤ length s → Stored x s 0 t k → Front x t k
-unfolding overlay
-stored-front {x} {s} {t} {k} h p =
+-- what stood before a byte that was stored, and the byte
+pub stored-last : {s t : List ℕ} {b at k : ℕ} → at < length s → Stored (b ∷ []) s at t k → Front (take at s ++ (b ∷ [])) t k
+unfolding stored
+stored-last {s} {t} {b} {at} {k} h p =
     let within : k ≤ length t = omega (arith, p .place, stored-length p) in
     record {
-      within = within;
       size = sym (length-take-le k t within);
-      is = rw (p .place ∙ zero-add (length x), p .bytes ∙ stored-overlay s x h) (take-append-seam x (drop (length x) s));
+      is = rw (p .place, p .bytes, add-one) (take-suc-set s at b h);
     }

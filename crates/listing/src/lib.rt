@@ -1,11 +1,13 @@
-// The lines of a listing, each written into the tail of the listing behind the line before.
+// The lines of a listing, each written into the tail of the listing after the line before.
 use model::Name;
 use model::Sums;
+use model::Table;
 use model::refusal;
-ghost use mathlib.Core.List.{[], _∷_};
+ghost use mathlib.Core.List.{[], _∷_, _++_};
 ghost use Prim.Native.Nat.{_+_, _≤_, _<_};
 ghost use lib.ListN.{length, take};
-ghost use Rattle.model.specs.Runs.{decimal, sumFields, nameFields, line, lineOf, header, footer};
+ghost use Rattle.model.specs.Tables.{capacity};
+ghost use Rattle.model.specs.Runs.{decimal, sumFields, nameFields, line, header, footer};
 ghost use Rattle.listing.specs.Writing.{Wrote, Stored};
 
 // What a writer answers: the refusal number, 0 if the line fits, and the bytes written.
@@ -22,8 +24,8 @@ const ZERO: u8 = 48;
 
 const NEWLINE: u8 = 10;
 
-// The longest line: numbers of 20, 3, 10 and 10 bytes, 64 names of 8 bytes, three spaces and the end of the line.
-const LINE: usize = 559;
+// The longest line: numbers of 20, 3, 10 and 10 bytes, three spaces, 8 bytes for each name, and the end of the line.
+const LINE: usize = 47 + 8 * Table::MESSAGES;
 
 // Stores a byte.
 fn put_byte(buffer: &mut [u8], at: usize, b: u8) -> usize
@@ -75,8 +77,8 @@ fn put_name(buffer: &mut [u8], at: usize, name: Name) -> usize
 }
 
 // Stores the first of the names.
-fn put_names(buffer: &mut [u8], from: usize, names: [Name; 64], count: usize) -> usize
-    requires { ⌜ (count ≤ 64) × (from + length (nameFields (take count names)) ≤ length (now buffer)) ⌝ }
+fn put_names(buffer: &mut [u8], from: usize, names: [Name; Table::MESSAGES], count: usize) -> usize
+    requires { ⌜ (count ≤ capacity) × (from + length (nameFields (take count names)) ≤ length (now buffer)) ⌝ }
     ensures { λ r. ⌜ Stored (nameFields (take count names)) (now (buffer .entry)) from (now (buffer .exit)) r ⌝ }
 {
     let mut at = from;
@@ -86,23 +88,22 @@ fn put_names(buffer: &mut [u8], from: usize, names: [Name; 64], count: usize) ->
     at
 }
 
-// Stores the line of an event.
+// Stores the line of an event, up to its end.
 fn store_line(
     buffer: &mut [u8],
     event: usize,
     controller: u8,
     sums: Sums,
-    names: [Name; 64],
+    names: [Name; Table::MESSAGES],
     count: usize,
 ) -> usize
-    requires { ⌜ (count ≤ 64) × (length (line event controller sums (take count names)) ≤ length (now buffer)) ⌝ }
-    ensures { λ r. ⌜ Stored (line event controller sums (take count names)) (now (buffer .entry)) 0 (now (buffer .exit)) r ⌝ }
+    requires { ⌜ (count ≤ capacity) × (length (line event controller sums (take count names)) ≤ length (now buffer)) ⌝ }
+    ensures { λ r. ⌜ Stored (((decimal event ++ (32 ∷ decimal controller)) ++ sumFields sums) ++ nameFields (take count names)) (now (buffer .entry)) 0 (now (buffer .exit)) r ⌝ }
 {
     let after_event = put_number(buffer, 0, event);
     let after_controller = put_field(buffer, after_event, SPACE, controller as usize);
     let after_sums = put_sums(buffer, after_controller, sums);
-    let after_names = put_names(buffer, after_sums, names, count);
-    put_byte(buffer, after_names, NEWLINE)
+    put_names(buffer, after_sums, names, count)
 }
 
 // Stores a text at the front.
@@ -117,41 +118,49 @@ fn put_text(buffer: &mut [u8], text: &[u8]) -> usize
     end
 }
 
-// Writes a line at the front of the tail, where it fits.
-fn put_whole(tail: &mut [u8], text: &[u8]) -> Put
-    ensures { λ r. ⌜ Wrote (now (text .entry)) (now (tail .entry)) (now (tail .exit)) r ⌝ }
+// Stores a word at the front and a number after it.
+fn put_word(buffer: &mut [u8], word: &[u8], x: usize) -> usize
+    requires { ⌜ length (now word) + length (32 ∷ decimal x) ≤ length (now buffer) ⌝ }
+    ensures { λ r. ⌜ Stored (now (word .entry) ++ (32 ∷ decimal x)) (now (buffer .entry)) 0 (now (buffer .exit)) r ⌝ }
 {
-    if tail.len() < text.len() {
+    let after_word = put_text(buffer, word);
+    put_field(buffer, after_word, SPACE, x)
+}
+
+// Ends the line that was stored up to a place, and writes it at the front of the tail, where it fits.
+fn end_line(tail: &mut [u8], buffer: &mut [u8], end: usize) -> Put
+    requires { ⌜ end < length (now buffer) ⌝ }
+    ensures { λ r. ⌜ Wrote (take end (now (buffer .entry)) ++ (10 ∷ [])) (now (tail .entry)) (now (tail .exit)) r ⌝ }
+{
+    let size = put_byte(buffer, end, NEWLINE);
+    if tail.len() < size {
         return Put {
             number: refusal::LISTING_LENGTH,
             written: 0,
         };
     }
-    let written = put_text(tail, text);
-    Put { number: 0, written }
+    let written = put_text(tail, &buffer[..size]);
+    Put {
+        number: refusal::ACCEPTED,
+        written,
+    }
 }
 
-// Writes the line of an event whose set has the first of the names, at the front of the tail; no line for an empty set.
+// Writes the line of an event whose set has the first of the names, at the front of the tail.
 pub fn put_line(
     tail: &mut [u8],
     event: usize,
     controller: u8,
     sums: Sums,
-    names: [Name; 64],
+    names: [Name; Table::MESSAGES],
     size: usize,
 ) -> Put
-    ensures { λ r. ⌜ Wrote (lineOf event controller sums (take size names)) (now (tail .entry)) (now (tail .exit)) r ⌝ }
+    ensures { λ r. ⌜ Wrote (line event controller sums (take size names)) (now (tail .entry)) (now (tail .exit)) r ⌝ }
 {
-    let count = numbers::at_most(size, 64);
-    if count == 0 {
-        return Put {
-            number: refusal::ACCEPTED,
-            written: 0,
-        };
-    }
+    let count = numbers::at_most(size, Table::MESSAGES);
     let mut buffer = [0u8; LINE];
     let end = store_line(&mut buffer, event, controller, sums, names, count);
-    put_whole(tail, &buffer[..end])
+    end_line(tail, &mut buffer, end)
 }
 
 // Writes the line that stands before the listing of n controllers.
@@ -159,10 +168,8 @@ pub fn put_header(tail: &mut [u8], n: u8) -> Put
     ensures { λ r. ⌜ Wrote (header n) (now (tail .entry)) (now (tail .exit)) r ⌝ }
 {
     let mut buffer = [0u8; LINE];
-    let after_text = put_text(&mut buffer, b"controllers");
-    let after_number = put_field(&mut buffer, after_text, SPACE, n as usize);
-    let end = put_byte(&mut buffer, after_number, NEWLINE);
-    put_whole(tail, &buffer[..end])
+    let end = put_word(&mut buffer, b"controllers", n as usize);
+    end_line(tail, &mut buffer, end)
 }
 
 // Writes the line that stands after the listing: the events accepted and the refusal number.
@@ -170,9 +177,7 @@ pub fn put_footer(tail: &mut [u8], events: usize, number: u8) -> Put
     ensures { λ r. ⌜ Wrote (footer events number) (now (tail .entry)) (now (tail .exit)) r ⌝ }
 {
     let mut buffer = [0u8; LINE];
-    let after_text = put_text(&mut buffer, b"end");
-    let after_events = put_field(&mut buffer, after_text, SPACE, events);
-    let after_number = put_field(&mut buffer, after_events, SPACE, number as usize);
-    let end = put_byte(&mut buffer, after_number, NEWLINE);
-    put_whole(tail, &buffer[..end])
+    let after_events = put_word(&mut buffer, b"end", events);
+    let end = put_field(&mut buffer, after_events, SPACE, number as usize);
+    end_line(tail, &mut buffer, end)
 }

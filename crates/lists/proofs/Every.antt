@@ -1,11 +1,8 @@
--- What holds of every element of a list. Assumes nothing.
+-- Laws of what holds of every element of a list. Assumes nothing.
 use Prim.Native.Nat.{ℕ, zero, suc}
 use mathlib.Core.List.{List, [], _∷_, _++_}
 use lib.ListN.{take}
-
-unfoldable pub Every : {A : Type 0} → (A → Type 0) → List A → Type 0
-Every P [] = Unit {0}
-Every P (x ∷ xs) = P x × Every P xs
+use Rattle.lists.specs.Every.{Every}
 
 pub every-append : {A : Type 0} (P : A → Type 0) (xs ys : List A) → Every P xs → Every P ys → Every P (xs ++ ys)
 unfolding Every

@@ -1,12 +1,10 @@
 -- What a turn of a counting or testing loop keeps, and what its end gives. Assumes nothing.
-use mathlib.Core.Path.{_≡_, refl, sym, _∙_}
-use mathlib.Core.Bool.{Bool, true, false, _&&_, _||_}
-use Prim.Native.Nat.{ℕ, suc, max, _+_}
+use mathlib.Core.Path.{_≡_, refl, _∙_}
+use mathlib.Core.Bool.{Bool, true, false, _&&_}
+use Prim.Native.Nat.{ℕ, max, _+_}
 use native.Mathlib.Numerals.{add-one}
 use native.Mathlib.Omega.{arith}
-use lib.Dec.{ltb}
-use borrow.Author.Tests.{lt-ltb}
-use Rattle.lists.specs.Below.{tally, count, all, greatest}
+use Rattle.lists.specs.Below.{count, all, greatest}
 
 module _ (p : ℕ → Bool) where
   pub count-start : 0 ≡ count 0 p
@@ -23,22 +21,6 @@ module _ (p : ℕ → Bool) where
 
   pub count-end : (k n c : ℕ) → k ≡ n → c ≡ count k p → c ≡ count n p
   count-end k n c h e = rw (← h) e
-
-  -- whether some number below k passes
-  pub some-start : false ≡ ltb 0 (count 0 p)
-  unfolding count
-  some-start = refl
-
-  pub some-turn : (k : ℕ) (g b : Bool) → g ≡ ltb 0 (count k p) → b ≡ p k → (b || g) ≡ ltb 0 (count (k + 1) p)
-  unfolding count
-  some-turn k g b e h = rw (add-one k, e, h) (go (p k) (count k p))
-    where
-      go : (b : Bool) (c : ℕ) → (b || ltb 0 c) ≡ ltb 0 (tally b c)
-      go true c = sym (lt-ltb 0 (suc c) (omega arith))
-      go false c = refl
-
-  pub some-end : (k n : ℕ) (g : Bool) → k ≡ n → g ≡ ltb 0 (count k p) → g ≡ ltb 0 (count n p)
-  some-end k n g h e = rw (← h) e
 
   pub all-start : true ≡ all 0 p
   unfolding all

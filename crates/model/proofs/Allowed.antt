@@ -11,11 +11,12 @@ use borrow.Author.Tests.{ltb-true, ltb-false, leb-true, eqb-true, eqb-false, eq-
 use Rattle.lists.specs.Below.{count}
 use Rattle.lists.proofs.Tests.{cond-case, and-left, and-right, both}
 use Rattle.lists.proofs.Below.{count-pos}
-use Rattle.model.specs.Tables.{seats, capacity, sync, write, yes?, at, message, place, held}
-use Rattle.model.specs.Events.{subject, controllerOf}
+use Rattle.model.specs.Tables.{seats, capacity, sync, write, yes?, at, message, place, held, messagesOf}
+use Rattle.model.specs.Events.{subject}
 use Rattle.model.specs.Records.{byte, kind, word, long, reportClass, reported, decode}
-use Rattle.model.specs.WellFormed.{named, fairAmount, fairClass, fairRegister, known, wellFormed}
-use Rattle.model.specs.Questions.{Question, ask, firstNo, freshQuestions, fileQuestions, lentTable, lookQuestions, kindQuestions, recordQuestions, ownPending, unread, keepable, eventQuestions, commandQuestions, scratchRoom, stepQuestions, lineFits}
+use Rattle.model.specs.Fair.{named, fairAmount, fairClass, fairRegister}
+use Rattle.model.specs.WellFormed.{wellFormed}
+use Rattle.model.specs.Questions.{Question, ask, firstNo, freshQuestions, fileQuestions, lentTable, lookQuestions, kindQuestions, recordQuestions, ownPending, unread, keepable, payloadQuestions, senderQuestions, sendQuestions, handoverQuestions, stopQuestions, readQuestions, eventQuestions, commandQuestions, scratchRoom, stepQuestions, lineFits, FreshAllowed}
 use Rattle.model.specs.declared.Payload.{Payload}
 use Rattle.model.specs.declared.Table.{Table}
 use Rattle.model.specs.declared.Event.{Event}
@@ -36,7 +37,7 @@ pub look-asked : (t : Table) (c : ℕ) → firstNo (lookQuestions t c) ≡ 0 →
 unfolding lookQuestions lentTable
 look-asked t c e =
     let q = no-no 3 (wellFormed t) _ e in
-    (q .0, named-at t c (no-no 7 (named t c) [] (q .1) .0))
+    (q .0, named-at t c (no-no 7 (named (t .n) c) [] (q .1) .0))
 
 pub look-passed : (t : Table) (c : ℕ) → wellFormed t ≡ true → Among (t .n) c → firstNo (lookQuestions t c) ≡ 0
 unfolding firstNo lookQuestions lentTable
@@ -56,13 +57,13 @@ no-no-append (more {k = k} {b = b} {qs = qs} n) rs e =
     (rw (q .0) (r .0), r .1)
 
 pub event-numbered : (t : Table) (e : Event) → Numbered (eventQuestions t e)
-unfolding eventQuestions
+unfolding eventQuestions payloadQuestions senderQuestions sendQuestions handoverQuestions stopQuestions
 event-numbered t (Send c p) = more (more (more (more (more (more (more (more none)))))))
 event-numbered t (Handover r o) = more (more (more none))
 event-numbered t (Stop c k) = more (more (more none))
 
 pub command-numbered : (t : Table) (a : Command) → Numbered (commandQuestions t a)
-unfolding commandQuestions
+unfolding commandQuestions readQuestions
 command-numbered t (Act e) = event-numbered t e
 command-numbered t (Read c) = more (more (more none))
 
@@ -86,12 +87,6 @@ unfolding firstNo lineFits
 line-asked k line left =
     cond-case (λ n. n ≡ 0 → (k ≡ 0) × (line ≤ left)) (eqb k 0) _ _
     (λ q v. (eqb-true k 0 q, leb-true line left (no-no 15 (leb line left) [] v .0))) (λ q v. absurd (eqb-false k 0 q v))
-
--- questions 2 and 3, of a file or of a request for a fresh table
-pub record FreshAllowed (v n : ℕ) : Type 0 where
-  pub version : known v ≡ true
-  pub some : 0 < n
-  pub few : n ≤ seats
 
 pub fresh-allowed : (v n : ℕ) → firstNo (freshQuestions v n) ≡ 0 → FreshAllowed v n
 unfolding freshQuestions
@@ -138,16 +133,16 @@ pub record StopAllowed (t : Table) (c k : ℕ) : Type 0 where
   pub read-kept : (r : ℕ) → Among (t .n) r → place (at t r) c ≤ k
 
 -- nobody's own message is pending where none is counted
-none-own : (t : Table) (c : ℕ) → not (ownPending t c) ≡ true → (s : ℕ) → s < t .count → held (at t c) s ≡ true → message t s .sender ≡ c → ⊥
+none-own : (t : Table) (c : ℕ) → not (ownPending (messagesOf t) (at t c .pending) c) ≡ true → (s : ℕ) → s < t .count → held (at t c) s ≡ true → message t s .sender ≡ c → ⊥
 unfolding ownPending
 none-own t c e s h p q = omega (
   arith,
   count-pos (t .count) (λ s. held (at t c) s && eqb (message t s .sender) c) s h (both p (eq-eqb (message t s .sender) c q)),
-  ltb-false 0 (count (t .count) (λ s. held (at t c) s && eqb (message t s .sender) c)) (not-true (ownPending t c) e),
+  ltb-false 0 (count (t .count) (λ s. held (at t c) s && eqb (message t s .sender) c)) (not-true (ownPending (messagesOf t) (at t c .pending) c) e),
 )
 
 pub send-allowed : (t : Table) (c : ℕ) (p : Payload) → firstNo (eventQuestions t (Send c p)) ≡ 0 → SendAllowed t c p
-unfolding eventQuestions
+unfolding eventQuestions payloadQuestions senderQuestions sendQuestions
 send-allowed t c p e =
     let q8 = no-no _ _ _ e in
     let q9 = no-no _ _ _ (q8 .1) in
@@ -167,20 +162,20 @@ send-allowed t c p e =
     }
 
 pub handover-allowed : (t : Table) (r o : ℕ) → firstNo (eventQuestions t (Handover r o)) ≡ 0 → HandoverAllowed t r o
-unfolding eventQuestions unread
+unfolding eventQuestions handoverQuestions unread
 handover-allowed t r o e =
     let q8 = no-no _ _ _ e in
     let q10 = no-no _ _ _ (q8 .1) in
     let q13 = no-no _ _ _ (q10 .1) in
     record {
       receiver = named-at t r (and-left _ _ (q8 .0));
-      owner = named-at t o (and-right (named t r) _ (q8 .0));
+      owner = named-at t o (and-right (named (t .n) r) _ (q8 .0));
       running = q10 .0;
       unread = ltb-true (place (at t r) o) (at t o .length) (q13 .0);
     }
 
 pub stop-allowed : (t : Table) (c k : ℕ) → firstNo (eventQuestions t (Stop c k)) ≡ 0 → StopAllowed t c k
-unfolding eventQuestions keepable
+unfolding eventQuestions stopQuestions keepable
 stop-allowed t c k e =
     let q8 = no-no _ _ _ e in
     let q10 = no-no _ _ _ (q8 .1) in
@@ -199,7 +194,7 @@ pub record ReadAllowed (t : Table) (c : ℕ) : Type 0 where
   pub none-pending : (s : ℕ) → s < t .count → held (at t c) s ≡ true → message t s .sender ≡ c → ⊥
 
 pub read-allowed : (t : Table) (c : ℕ) → firstNo (commandQuestions t (Read c)) ≡ 0 → ReadAllowed t c
-unfolding commandQuestions
+unfolding commandQuestions readQuestions
 read-allowed t c e =
     let q8 = no-no _ _ _ e in
     let q10 = no-no _ _ _ (q8 .1) in
@@ -216,11 +211,6 @@ unfolding subject
 subject-allowed t (Send c p) q = send-allowed t c p q .sender
 subject-allowed t (Handover r o) q = handover-allowed t r o q .receiver
 subject-allowed t (Stop c k) q = stop-allowed t c k q .controller
-
-pub controller-allowed : (t : Table) (a : Command) → firstNo (commandQuestions t a) ≡ 0 → Among (t .n) (controllerOf a)
-unfolding controllerOf commandQuestions
-controller-allowed t (Act e) q = subject-allowed t e q
-controller-allowed t (Read c) q = read-allowed t c q .controller
 
 -- a record that sends is a report's, a sync's, or a write's
 pub data SendRecord (v : ℕ) (s : List ℕ) (p : Payload) : Type 0 where

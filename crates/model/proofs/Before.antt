@@ -2,7 +2,7 @@
 -- that is not pending, none, and before it every mark; on every table, from 0 to n, 0 of a message against itself and if refused, and of
 -- both directions together at most n. Assumes nothing.
 use mathlib.Core.Path.{_≡_, refl, sym, ap, ap₂, _∙_}
-use mathlib.Core.Bool.{Bool, true, false, _&&_, cond}
+use mathlib.Core.Bool.{Bool, true, false, cond}
 use mathlib.Core.Logic.{_≢_, inl, inr}
 use mathlib.Core.List.{List}
 use Prim.Native.Nat.{ℕ, zero, suc, min, _+_, _≤_, _<_}
@@ -13,12 +13,12 @@ use lib.Dec.{eqb, leb, ltb}
 use borrow.Author.Tests.{eqb-true, eq-eqb, ne-eqb, le-ltb}
 use Rattle.lists.proofs.Tests.{cond-case, cond-true, cond-false, and-left, and-right, both, contradiction}
 use Rattle.lists.proofs.Below.{count-ext, count-none}
-use Rattle.model.specs.Tables.{seats, absent, yes?, unheld, at, message, entry, held, mark}
+use Rattle.model.specs.Tables.{seats, absent, yes?, unheld, at, message, entry, held, mark, messagesOf}
 use Rattle.model.specs.Delivery.{majority, markCount, goesBefore}
 use Rattle.model.specs.Largest.{precedes}
 use Rattle.model.specs.Events.{nameOf}
 use Rattle.model.specs.Questions.{firstNo, lookQuestions}
-use Rattle.model.specs.Calls.{isNamed, pendingBelow, pendingOf, countBefore}
+use Rattle.model.specs.Calls.{here, isNamed, pendingBelow, pendingOf, countBefore}
 use Rattle.model.specs.declared.ForwardNumber.{ForwardNumber}
 use Rattle.model.specs.declared.Name.{Name}
 use Rattle.model.specs.declared.Pending.{Pending}
@@ -31,47 +31,43 @@ use Rattle.model.proofs.Largest.{before-bound, before-itself, before-bo
 -- WHAT A NAME STANDS FOR
 
 module _ (t : Table) (P : List Pending) (a : Name) where
-  -- slot s is in the buffer, and is the message of this name
-  abbrev pub here : ℕ → Bool
-  here s = yes? (entry P s .held) && isNamed a (message t s)
-
   -- what holds of every mark absent, and of every slot that is pending here and has the name
-  pub pending-case : (Q : Pending → Type 0) → Q unheld → ((s : ℕ) → s < t .count → here s ≡ true → Q (entry P s)) → Q (pendingOf t P a)
+  pub pending-case : (Q : Pending → Type 0) → Q unheld → ((s : ℕ) → s < t .count → here (t .messages) P a s ≡ true → Q (entry P s)) → Q (pendingOf (messagesOf t) P a)
   unfolding pendingOf pendingBelow
   pending-case Q none some = go (t .count) some
     where
-      go : (k : ℕ) → ((s : ℕ) → s < k → here s ≡ true → Q (entry P s)) → Q (pendingBelow k t P a)
+      go : (k : ℕ) → ((s : ℕ) → s < k → here (t .messages) P a s ≡ true → Q (entry P s)) → Q (pendingBelow k (t .messages) P a)
       go zero f = none
-      go (suc k) f = cond-case Q (here k) (entry P k) (pendingBelow k t P a) (λ e. f k (omega arith) e) (λ _. go k (λ s h. f s (omega arith)))
+      go (suc k) f = cond-case Q (here (t .messages) P a k) (entry P k) (pendingBelow k (t .messages) P a) (λ e. f k (omega arith) e) (λ _. go k (λ s h. f s (omega arith)))
 
-  below-found : (k s : ℕ) → s < k → here s ≡ true → ((i : ℕ) → i < k → here i ≡ true → i ≡ s) → pendingBelow k t P a ≡ entry P s
+  below-found : (k s : ℕ) → s < k → here (t .messages) P a s ≡ true → ((i : ℕ) → i < k → here (t .messages) P a i ≡ true → i ≡ s) → pendingBelow k (t .messages) P a ≡ entry P s
   unfolding pendingBelow
   below-found zero s h e only = absurd (omega arith)
   below-found (suc k) s h e only =
-      cond-case (λ (p : Pending). p ≡ entry P s) (here k) (entry P k) (pendingBelow k t P a)
+      cond-case (λ (p : Pending). p ≡ entry P s) (here (t .messages) P a k) (entry P k) (pendingBelow k (t .messages) P a)
       (λ q. ap (entry P) (only k (omega arith) q))
       (λ q. below-found k s (go q (ℕ-discrete s k)) e (λ i l. only i (omega arith)))
     where
-      go : here k ≡ false → Dec (s ≡ k) → s < k
+      go : here (t .messages) P a k ≡ false → Dec (s ≡ k) → s < k
       go q (yes p) = contradiction e (rw p q)
       go q (no d) = omega arith
 
   -- a message that is not pending here, or not of the run, has every mark absent
-  pub pending-none : ((s : ℕ) → s < t .count → here s ≡ false) → pendingOf t P a ≡ unheld
+  pub pending-none : ((s : ℕ) → s < t .count → here (t .messages) P a s ≡ false) → pendingOf (messagesOf t) P a ≡ unheld
   pending-none f = pending-case (λ (p : Pending). p ≡ unheld) refl (λ s h e. contradiction e (f s h))
 
   -- one that is pending here has the marks of its slot: no other slot has its name
-  pub pending-found : WellFormed t → (s : ℕ) → s < t .count → here s ≡ true → pendingOf t P a ≡ entry P s
+  pub pending-found : WellFormed t → (s : ℕ) → s < t .count → here (t .messages) P a s ≡ true → pendingOf (messagesOf t) P a ≡ entry P s
   unfolding pendingOf isNamed
   pending-found w s h e = below-found (t .count) s h e (λ i l q. w .names i s l h (sender i q ∙ sym (sender s e)) (number i q ∙ sym (number s e)))
     where
-      named : (i : ℕ) → here i ≡ true → isNamed a (message t i) ≡ true
+      named : (i : ℕ) → here (t .messages) P a i ≡ true → isNamed a (message t i) ≡ true
       named i q = and-right (yes? (entry P i .held)) _ q
 
-      sender : (i : ℕ) → here i ≡ true → message t i .sender ≡ a .sender
+      sender : (i : ℕ) → here (t .messages) P a i ≡ true → message t i .sender ≡ a .sender
       sender i q = eqb-true (message t i .sender) (a .sender) (and-left _ _ (named i q))
 
-      number : (i : ℕ) → here i ≡ true → message t i .number .0 ≡ a .number .0
+      number : (i : ℕ) → here (t .messages) P a i ≡ true → message t i .number .0 ≡ a .number .0
       number i q = eqb-true (message t i .number .0) (a .number .0) (and-right (eqb (message t i .sender) (a .sender)) _ (named i q))
 
 -- a message that has no mark goes before none
@@ -92,38 +88,38 @@ module _ (t : Table) (c : ℕ) where
   abbrev P : List Pending
   P = at t c .pending
 
-  answered : WellFormed t → Among (t .n) c → (a b : Name) → countBefore t c a b .count ≡ goesBefore (t .n) (pendingOf t P a) (pendingOf t P b)
+  answered : WellFormed t → Among (t .n) c → (a b : Name) → countBefore t c a b .count ≡ goesBefore (t .n) (pendingOf (messagesOf t) P a) (pendingOf (messagesOf t) P b)
   unfolding countBefore
   answered w h a b = cond-true _ 0 (eq-eqb _ 0 (look-passed t c (tested t w) h))
 
   -- of two messages that are pending at c, line 16's relation is the count against the majority
   pub count-precedes : WellFormed t → Among (t .n) c → (s u : ℕ) → s < t .count → u < t .count → held (at t c) s ≡ true → held (at t c) u ≡ true
-      → precedes (t .n) P s u ≡ leb (majority (t .n)) (countBefore t c (nameOf (message t s)) (nameOf (message t u)) .count)
+      → precedes (t .n) (at t c .pending) s u ≡ leb (majority (t .n)) (countBefore t c (nameOf (message t s)) (nameOf (message t u)) .count)
   unfolding isNamed
   count-precedes w h s u hs hu ps pu =
       ap (leb (majority (t .n))) (sym (answered w h _ _ ∙ ap₂ (goesBefore (t .n)) (found s hs ps) (found u hu pu)))
     where
-      found : (s : ℕ) → s < t .count → held (at t c) s ≡ true → pendingOf t P (nameOf (message t s)) ≡ entry P s
+      found : (s : ℕ) → s < t .count → held (at t c) s ≡ true → pendingOf (messagesOf t) P (nameOf (message t s)) ≡ entry P s
       found s h p = pending-found t P (nameOf (message t s)) w s h
           (both p (both (eq-eqb (message t s .sender) (message t s .sender) refl) (eq-eqb (message t s .number .0) (message t s .number .0) refl)))
 
   module _ (w : WellFormed t) (h : Among (t .n) c) (a b : Name) where
     -- a message that is not pending at c, or not of the run, goes before none
-    pub count-none-before : ((s : ℕ) → s < t .count → here t P a s ≡ false) → countBefore t c a b .count ≡ 0
-    count-none-before none = answered w h a b ∙ ap (λ (p : Pending). goesBefore (t .n) p (pendingOf t P b)) (pending-none t P a none) ∙ unheld-before (t .n) _ marks
+    pub count-none-before : ((s : ℕ) → s < t .count → here (t .messages) (at t c .pending) a s ≡ false) → countBefore t c a b .count ≡ 0
+    count-none-before none = answered w h a b ∙ ap (λ (p : Pending). goesBefore (t .n) p (pendingOf (messagesOf t) P b)) (pending-none t P a none) ∙ unheld-before (t .n) _ marks
       where
         least : (k : ℕ) → GoodMark k → k ≤ absent
         least k (inl e) = omega (arith, e)
         least k (inr g) = omega (arith, g .1)
 
-        marks : (f : ℕ) → f < t .n → mark (pendingOf t P b) f ≤ absent
+        marks : (f : ℕ) → f < t .n → mark (pendingOf (messagesOf t) P b) f ≤ absent
         marks = pending-case t P b (λ (q : Pending). (f : ℕ) → f < t .n → mark q f ≤ absent)
             (λ f l. omega (arith, w .few, ap (λ (m : ForwardNumber). m .0) (getD-replicate seats f (record { 0 = absent }) (record { 0 = 0 }) (omega (arith, w .few)))))
             (λ s l e f lf. least _ (w .controllers c h .marks s f l (and-left _ _ e) lf))
 
     -- and before such a one a message that is pending there counts its marks
-    pub count-marks : (s : ℕ) → s < t .count → here t P a s ≡ true → ((u : ℕ) → u < t .count → here t P b u ≡ false)
-        → countBefore t c a b .count ≡ markCount (t .n) (entry P s)
+    pub count-marks : (s : ℕ) → s < t .count → here (t .messages) (at t c .pending) a s ≡ true → ((u : ℕ) → u < t .count → here (t .messages) (at t c .pending) b u ≡ false)
+        → countBefore t c a b .count ≡ markCount (t .n) (entry (at t c .pending) s)
     count-marks s l e none = answered w h a b ∙ ap₂ (goesBefore (t .n)) (pending-found t P a w s l e) (pending-none t P b none) ∙ before-unheld (t .n) (entry P s)
 
   -- ON EVERY TABLE
@@ -136,7 +132,7 @@ module _ (t : Table) (c : ℕ) where
   allowed = eqb (firstNo (lookQuestions t c)) 0
 
   abbrev counted : Name → Name → ℕ
-  counted a b = goesBefore (t .n) (pendingOf t P a) (pendingOf t P b)
+  counted a b = goesBefore (t .n) (pendingOf (messagesOf t) P a) (pendingOf (messagesOf t) P b)
 
   pub count-bounded : (a b : Name) → countBefore t c a b .count ≤ t .n
   unfolding countBefore

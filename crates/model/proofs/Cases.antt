@@ -311,7 +311,7 @@ table =
     ∷ counted 1 102 101 0
     -- P: a table in which a read position passes a log's end gives 4
     ∷ row astray 4 []
-    -- a report: 8 before 9 before 10; 12 and 15 stand below
+    -- a report: 8 before 9 before 10; 7, 12 and 15 stand below
     ∷ quiet 1 [] (report 2 361) 0 8 0
     ∷ quiet 2 (stop 1 0 ∷ []) (report 1 361) 0 9 1
     ∷ quiet 2 (report 1 1 ∷ stop 1 1 ∷ []) (report 1 360) 0 10 2
@@ -357,13 +357,14 @@ table =
     ∷ quiet 1 [] (report 1 0) 4096 9 0
     ∷ quiet 1 [] (report 1 (minus 360)) 4096 0 1
     ∷ quiet 1 [] (report 1 (minus 361)) 4096 9 0
-    -- P: of version 2, classes 1 to 4; a report of version 1 has none, whatever stands behind it
+    -- P: of version 2, classes 1 to 4; a report of version 1 has none, whatever follows its record: a look shows it in class 0
     ∷ quiet₂ 1 [] (classed 1 360 1) 4096 0 1
     ∷ quiet₂ 1 [] (classed 1 360 4) 4096 0 1
     ∷ quiet₂ 1 [] (classed 1 360 0) 4096 17 0
     ∷ quiet₂ 1 [] (classed 1 360 5) 4096 17 0
     ∷ quiet₂ 1 [] (classed 1 360 255) 4096 17 0
     ∷ quiet 1 [] (report 1 360 ++ (5 ∷ [])) 4096 0 1
+    ∷ shows 1 1 ((report 1 360 ++ (4 ∷ [])) ∷ handover 1 1 ∷ []) 1 (each 1 101) (both 360 0) (both 360 0 ∷ noSums ∷ noSums ∷ noSums ∷ noSums ∷ [])
     -- P: the length of a report goes by the table's version; those of the other kinds do not
     ∷ quiet 1 [] (classed 1 360 1) 4096 7 0
     ∷ quiet₂ 1 [] (report 1 360 ++ (1 ∷ [])) 4096 7 0
@@ -457,23 +458,27 @@ table =
     ∷ quiet 1 [] (0 ∷ 1 ∷ []) 0 6 0
     ∷ quiet 1 [] (1 ∷ 9 ∷ []) 0 6 0
     ∷ quiet 1 [] (3 ∷ 1 ∷ 9 ∷ 0 ∷ []) 0 7 0
-    -- P: the 64th message is accepted (above), and the 65th gives 12
+    -- P: the 64th message is accepted (above), and the 65th gives 12; a report: 10 before 12 before 15
+    ∷ quiet 2 (full 64 ++ (stop 1 64 ∷ [])) (report 1 1) 0 10 65
     ∷ quiet 2 (full 64) (report 1 1) 0 12 64
     ∷ quiet 1 [] (report 1 1) 4095 15 0
-    -- a sync: 8 before 10 before 11 before 12 before 15; no controller 8 runs
+    -- a sync: 7 before 8 before 10 before 11 before 12 before 15; no controller 8 runs
+    ∷ quiet 1 [] (3 ∷ 2 ∷ 9 ∷ 0 ∷ []) 0 7 0
     ∷ quiet 2 [] (sync 8) 0 8 0
     ∷ quiet 2 (report 1 1 ∷ stop 1 1 ∷ []) (sync 1) 0 10 2
     ∷ quiet 2 (full 64) (sync 1) 0 11 64
     ∷ quiet 2 (full 64) (sync 2) 0 12 64
     ∷ quiet 1 [] (sync 1) 4095 15 0
-    -- a handover: 8 before 10 before 13 before 15
+    -- a handover: 7 before 8 before 10 before 13 before 15
+    ∷ quiet 1 [] (2 ∷ 3 ∷ 9 ∷ []) 0 7 0
     ∷ quiet 2 (stop 1 0 ∷ []) (handover 1 3) 0 8 1
     ∷ quiet 2 (stop 1 0 ∷ []) (handover 1 2) 0 10 1
     ∷ quiet 2 [] (handover 1 2) 0 13 0
     ∷ quiet 2 (report 2 1 ∷ []) (handover 1 2) 4095 15 1
     -- a log owner need not run
     ∷ quiet 2 (report 2 1 ∷ stop 2 1 ∷ []) (handover 1 2) 4096 0 3
-    -- a stop: 8 before 10 before 14 before 15
+    -- a stop: 7 before 8 before 10 before 14 before 15
+    ∷ quiet 1 [] (3 ∷ 4 ∷ 9 ∷ 0 ∷ []) 0 7 0
     ∷ quiet 2 [] (stop 8 1) 0 8 0
     ∷ quiet 2 (stop 1 0 ∷ []) (stop 1 1) 0 10 1
     ∷ quiet 2 [] (stop 1 1) 0 14 0

@@ -16,9 +16,10 @@ use Rattle.lists.specs.Build.{tabulateFrom, tabulate}
 use Rattle.lists.proofs.Tests.{cond-case, and-left, and-right, both, bool-eq, contradiction}
 use Rattle.lists.proofs.Below.{all-at, all-of, count-le, count-eq, count-pos, count-none, count-bound, apart-count}
 use Rattle.lists.proofs.Build.{length-tabulate, getD-tabulate}
-use Rattle.model.specs.Tables.{seats, capacity, absent, entry, mark}
-use Rattle.model.specs.Delivery.{Slots, has, clears, round, settle, largest, majority, markCount, goesBefore, applicable}
-use Rattle.model.specs.Largest.{Closed, Largest, Reached, candidates, removal, inBuffer, candidate, precedes}
+use Rattle.model.specs.Tables.{seats, capacity, absent, inBuffer, entry, mark}
+use Rattle.model.specs.Delivery.{Slots, has, majority, markCount, goesBefore}
+use Rattle.model.specs.Rounds.{clears, round, settle, largest, applicable}
+use Rattle.model.specs.Largest.{Closed, Largest, Reached, candidates, removal, candidate, precedes}
 use Rattle.model.specs.declared.Pending.{Pending}
 
 module _ (N : ℕ) (held fit : ℕ → Bool) (before : ℕ → ℕ → Bool) where
@@ -137,25 +138,29 @@ module _ (N : ℕ) (held fit : ℕ → Bool) (before : ℕ → ℕ → Bool) whe
       go (no p) w = removed-other S s k p ∙ w k l e
 
   -- where nothing is left to remove, the loop has found the largest set
+  pub removals-largest : {S : Slots} → Reached N held fit before S
+      → ((s t : ℕ) → s < N → t < N → has S s ≡ true → held t ≡ true → has S t ≡ false → before s t ≡ true)
+      → Largest N held fit before S
+  removals-largest r f = record { size = reached-size r; closed = record { chosen = reached-fit r; first = f }; contains = reached-contains r }
+
   pub removals-end : {S : Slots} → Reached N held fit before S
       → ((s t : ℕ) → s < N → t < N → has S s ≡ true → held t ≡ true → has S t ≡ false → before s t ≡ true)
       → S ≡ largest N held fit before
-  removals-end {S} r f =
-      largest-unique S _ (record { size = reached-size r; closed = record { chosen = reached-fit r; first = f }; contains = reached-contains r }) largest-is
+  removals-end {S} r f = largest-unique S _ (removals-largest r f) largest-is
 
 -- THE SET THAT A CONTROLLER APPLIES
 
 module _ (n : ℕ) (P : List Pending) where
-  pub applicable-largest : Largest capacity (inBuffer n P) (candidate n P) (precedes n P) (applicable n P)
+  pub applicable-largest : Largest capacity (inBuffer P) (candidate n P) (precedes n P) (applicable n P)
   unfolding applicable
-  applicable-largest = largest-is capacity (inBuffer n P) (candidate n P) (precedes n P)
+  applicable-largest = largest-is capacity (inBuffer P) (candidate n P) (precedes n P)
 
-  pub applicable-unique : (S : Slots) → Largest capacity (inBuffer n P) (candidate n P) (precedes n P) S → S ≡ applicable n P
-  applicable-unique S l = largest-unique capacity (inBuffer n P) (candidate n P) (precedes n P) S (applicable n P) l applicable-largest
+  pub applicable-unique : (S : Slots) → Largest capacity (inBuffer P) (candidate n P) (precedes n P) S → S ≡ applicable n P
+  applicable-unique S l = largest-unique capacity (inBuffer P) (candidate n P) (precedes n P) S (applicable n P) l applicable-largest
 
   -- what is applied was in the buffer
-  pub applicable-held : (s : ℕ) → s < capacity → has (applicable n P) s ≡ true → inBuffer n P s ≡ true
-  applicable-held s h m = and-left (inBuffer n P s) (candidate n P s) (applicable-largest .closed .chosen s h m)
+  pub applicable-held : (s : ℕ) → s < capacity → has (applicable n P) s ≡ true → inBuffer P s ≡ true
+  applicable-held s h m = and-left (inBuffer P s) (candidate n P s) (applicable-largest .closed .chosen s h m)
 
 -- MAJORITIES
 
@@ -207,7 +212,7 @@ not-both-before n p q e f = omega (arith, majority-half n (goesBefore n p q) .0 
 -- the set, said of the marks alone
 pub applicable-marks : (n : ℕ) (P : List Pending)
     → applicable n P
-    ≡ largest capacity (inBuffer n P) (λ s. leb (majority n) (count (min n seats) (λ f. ltb (mark (entry P s) f) absent)))
+    ≡ largest capacity (inBuffer P) (λ s. leb (majority n) (count (min n seats) (λ f. ltb (mark (entry P s) f) absent)))
     (λ s t. leb (majority n) (count (min n seats) (λ f. ltb (mark (entry P s) f) (mark (entry P t) f))))
 unfolding applicable markCount goesBefore
 applicable-marks n P = refl

@@ -6,7 +6,8 @@ use native.Mathlib.Nat.{suc-mul}
 use native.Mathlib.Omega.{arith}
 use lib.ListN.{length, length-append}
 use Rattle.lists.proofs.Tests.{cond-case}
-use Rattle.lists.proofs.Every.{Every}
+use Rattle.lists.specs.Every.{Every}
+use Rattle.model.specs.Tables.{messagesOf}
 use Rattle.model.specs.Events.{earlier, insert, namesBelow, namesOf}
 use Rattle.model.specs.Runs.{decimal, sumFields, nameFields, line, header, footer}
 use Rattle.model.specs.declared.Name.{Name}
@@ -22,12 +23,12 @@ length-insert x [] = refl
 length-insert x (y ∷ ys) =
     cond-case (λ (r : List Name). length r ≡ suc (suc (length ys))) (earlier x y) (x ∷ y ∷ ys) (y ∷ insert x ys) (λ _. refl) (λ _. ap suc (length-insert x ys))
 
-no-names : (k : ℕ) (t : Table) → namesBelow k t [] ≡ []
+no-names : (k : ℕ) (t : Table) → namesBelow k (t .messages) [] ≡ []
 unfolding namesBelow
 no-names zero t = refl
 no-names (suc k) t = no-names k t
 
-pub none-named : (t : Table) → namesOf t [] ≡ []
+pub none-named : (t : Table) → namesOf (messagesOf t) [] ≡ []
 unfolding namesOf
 none-named t = no-names (t .count) t
 

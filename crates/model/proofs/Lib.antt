@@ -1,5 +1,6 @@
 pub mod Tested
 pub mod Allowed
+pub mod Handovers
 pub mod Registers
 pub mod Steps
 pub mod Decimals

@@ -13,12 +13,15 @@ use denote.Struct.Field.{Field, u8-field, usize-field}
 use denote.Struct.Declared.{row}
 use Rattle.model.specs.Tables.{seats, capacity, noPending, noController}
 use Rattle.model.specs.Sized.{Sized, SizedController}
+use Rattle.model.specs.declared.Answer.{Answer}
 use Rattle.model.specs.declared.Pending.{Pending}
 use Rattle.model.specs.declared.Controller.{Controller}
 use Rattle.model.specs.declared.Table.{Table}
 use Rattle.model.proofs.ForwardNumber as forwardNumber
 use Rattle.model.proofs.MessageNumber as messageNumber
 use Rattle.model.proofs.Message as message
+use Rattle.model.proofs.Name as name
+use Rattle.model.proofs.Answer as answer
 use Rattle.model.proofs.Pending as pending
 use Rattle.model.proofs.Controller as controller
 use Rattle.model.proofs.Table as table
@@ -40,6 +43,11 @@ module _ (F : Field) (n : ℕ) (xs : List (F .Value)) (vs : List Val) (owned : I
       go (y ∷ ys) [] e i h = absurd e
       go (y ∷ ys) (u ∷ us) e zero h = f y (u ∷ []) (e .0)
       go (y ∷ ys) (u ∷ us) e (suc i) h = go ys us (e .1) i (le-of-suc-le-suc h)
+
+-- THE ANSWER
+
+pub answer-sized : (a : Answer) (vs : List Val) → Is (answer.the-field .row) (answer.the-field .into a) vs → length (a .names) ≡ capacity
+answer-sized a vs g = array-length name.the-field capacity (a .names) _ (g .1 .1 .1 .1 .1 .1 .0)
 
 -- THE TABLE
 

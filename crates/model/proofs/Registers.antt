@@ -2,26 +2,23 @@
 use mathlib.Core.Path.{_≡_, refl, sym, ap, ap₂, _∙_}
 use mathlib.Core.Logic.{_⊎_, inl, inr}
 use mathlib.Core.Bool.{Bool, true, false, _&&_, _||_}
+use mathlib.Core.List.{List}
 use Prim.Native.Nat.{ℕ, zero, suc, _+_, _≤_, _<_}
 use native.Mathlib.Nat.{not-suc-le-zero}
 use native.Mathlib.Omega.{arith}
 use lib.Dec.{eqb, ltb}
 use borrow.Author.Tests.{ltb-true, ltb-false, leb-true, eqb-true, eq-eqb}
 use Rattle.lists.proofs.Tests.{and-left, and-right, or-cases, or-false, or-left, or-right, refuted, cond-case, below-suc}
-use Rattle.model.specs.Tables.{registerCount, noRegister, message}
-use Rattle.model.specs.Registers.{exceeds, wins, writes, written, newest}
-use Rattle.model.specs.WellFormed.{fairRegister, fairDate}
+use Rattle.model.specs.Tables.{registerCount, noRegister, messageIn, message}
+use Rattle.model.specs.Registers.{exceeds, wins, writes, written, newest, StampNoLater, Held, none, some}
+use Rattle.model.specs.Fair.{fairRegister, fairDate}
 use Rattle.model.specs.Facts.{WellFormed}
+use Rattle.model.specs.declared.Message.{Message}
 use Rattle.model.specs.declared.Stamp.{Stamp}
 use Rattle.model.specs.declared.Register.{Register}
 use Rattle.model.specs.declared.Table.{Table}
 
 -- THE ORDER OF STAMPS
-
--- no later: the date before the writer
-pub record StampNoLater (a b : Stamp) : Type 0 where
-  pub dates : a .date ≤ b .date
-  pub writers : a .date ≡ b .date → a .writer ≤ b .writer
 
 pub not-exceeds : (a b : Stamp) → exceeds a b ≡ false → StampNoLater a b
 unfolding exceeds
@@ -88,68 +85,63 @@ wins-most w y =
 
 -- THE NEWEST WRITE
 
--- y is a write of register r among the slots below k that f has, or was not written
-pub data Held (k : ℕ) (t : Table) (f : ℕ → Bool) (r : ℕ) (y : Register) : Type 0 where
-  none : y ≡ noRegister → Held k t f r y
-  some : (s : ℕ) → s < k → f s ≡ true → writes r (message t s) ≡ true → y ≡ written (message t s) → Held k t f r y
-
-module _ (t : Table) (f : ℕ → Bool) (r : ℕ) where
-  held-suc : {k : ℕ} {y : Register} → Held k t f r y → Held (suc k) t f r y
+module _ (M : List Message) (f : ℕ → Bool) (r : ℕ) where
+  held-suc : {k : ℕ} {y : Register} → Held k M f r y → Held (suc k) M f r y
   held-suc (none e) = none e
   held-suc (some s h p q e) = some s (omega arith) p q e
 
-  pub newest-held : (k : ℕ) → Held k t f r (newest k t f r)
+  pub newest-held : (k : ℕ) → Held k M f r (newest k M f r)
   unfolding newest
   newest-held zero = none refl
   newest-held (suc k) =
-      cond-case (Held (suc k) t f r) (f k && writes r (message t k)) _ _
-      (λ e. wins-case (Held (suc k) t f r) _ _ (λ _. some k (omega arith) (and-left _ _ e) (and-right (f k) _ e) refl) (λ _. held-suc (newest-held k)))
+      cond-case (Held (suc k) M f r) (f k && writes r (messageIn M k)) _ _
+      (λ e. wins-case (Held (suc k) M f r) _ _ (λ _. some k (omega arith) (and-left _ _ e) (and-right (f k) _ e) refl) (λ _. held-suc (newest-held k)))
       (λ _. held-suc (newest-held k))
 
   -- no write that counts is later
-  pub newest-most : (k s : ℕ) → s < k → f s ≡ true → writes r (message t s) ≡ true → StampNoLater (written (message t s) .stamp) (newest k t f r .stamp)
+  pub newest-most : (k s : ℕ) → s < k → f s ≡ true → writes r (messageIn M s) ≡ true → StampNoLater (written (messageIn M s) .stamp) (newest k M f r .stamp)
   unfolding newest
   newest-most zero s h = absurd (not-suc-le-zero h)
   newest-most (suc k) s h =
-      below-suc (λ s. f s ≡ true → writes r (message t s) ≡ true → StampNoLater (written (message t s) .stamp) (newest (suc k) t f r .stamp)) k
-      (λ p q. rw (p, q) (wins-most (written (message t k)) (newest k t f r) .0))
+      below-suc (λ s. f s ≡ true → writes r (messageIn M s) ≡ true → StampNoLater (written (messageIn M s) .stamp) (newest (suc k) M f r .stamp)) k
+      (λ p q. rw (p, q) (wins-most (written (messageIn M k)) (newest k M f r) .0))
       (λ s b p q. later-trans (newest-most k s b p q) grown) s h
     where
-      grown : StampNoLater (newest k t f r .stamp) (newest (suc k) t f r .stamp)
+      grown : StampNoLater (newest k M f r .stamp) (newest (suc k) M f r .stamp)
       grown =
-          cond-case (λ (y : Register). StampNoLater (newest k t f r .stamp) (y .stamp)) (f k && writes r (message t k)) _ _
-          (λ _. wins-most (written (message t k)) (newest k t f r) .1) (λ _. same-later (newest k t f r .stamp))
+          cond-case (λ (y : Register). StampNoLater (newest k M f r .stamp) (y .stamp)) (f k && writes r (messageIn M k)) _ _
+          (λ _. wins-most (written (messageIn M k)) (newest k M f r) .1) (λ _. same-later (newest k M f r .stamp))
 
 -- it is not later than the newest
-pub held-most : {k : ℕ} {t : Table} {f : ℕ → Bool} {r : ℕ} {y : Register} → Held k t f r y → StampNoLater (y .stamp) (newest k t f r .stamp)
+pub held-most : {k : ℕ} {M : List Message} {f : ℕ → Bool} {r : ℕ} {y : Register} → Held k M f r y → StampNoLater (y .stamp) (newest k M f r .stamp)
 held-most (none e) = rw e (zero-first _)
-held-most {k} {t} {f} {r} (some s h p q e) = rw e (newest-most t f r k s h p q)
+held-most {k} {M} {f} {r} (some s h p q e) = rw e (newest-most M f r k s h p q)
 
 -- by more slots
-pub held-within : {k : ℕ} {t : Table} {f g : ℕ → Bool} {r : ℕ} {y : Register} → ((s : ℕ) → s < k → f s ≡ true → g s ≡ true) → Held k t f r y → Held k t g r y
+pub held-within : {k : ℕ} {M : List Message} {f g : ℕ → Bool} {r : ℕ} {y : Register} → ((s : ℕ) → s < k → f s ≡ true → g s ≡ true) → Held k M f r y → Held k M g r y
 held-within w (none e) = none e
 held-within w (some s h p q e) = some s h (w s h p) q e
 
 -- a register's date is that of some message
-pub held-date : {k : ℕ} {t : Table} {f : ℕ → Bool} {r : ℕ} {y : Register} (most : ℕ) → Held k t f r y → ((s : ℕ) → s < k → message t s .date ≤ most) → y .stamp .date ≤ most
+pub held-date : {k : ℕ} {M : List Message} {f : ℕ → Bool} {r : ℕ} {y : Register} (most : ℕ) → Held k M f r y → ((s : ℕ) → s < k → messageIn M s .date ≤ most) → y .stamp .date ≤ most
 held-date most (none e) d = rw e (omega arith)
 held-date most (some s h p q e) d = rw e (d s h)
 
 -- a register rests on the slots that count and their messages
-pub newest-same : (t u : Table) (r k : ℕ) (f g : ℕ → Bool) → ((s : ℕ) → s < k → f s ≡ g s) → ((s : ℕ) → s < k → message t s ≡ message u s)
-    → newest k t f r ≡ newest k u g r
+pub newest-same : (M N : List Message) (r k : ℕ) (f g : ℕ → Bool) → ((s : ℕ) → s < k → f s ≡ g s) → ((s : ℕ) → s < k → messageIn M s ≡ messageIn N s)
+    → newest k M f r ≡ newest k N g r
 unfolding newest
-newest-same t u r zero f g e m = refl
-newest-same t u r (suc k) f g e m =
-    rw (e k (omega arith), m k (omega arith), newest-same t u r k f g (λ s h. e s (omega arith)) (λ s h. m s (omega arith))) refl
+newest-same M N r zero f g e m = refl
+newest-same M N r (suc k) f g e m =
+    rw (e k (omega arith), m k (omega arith), newest-same M N r k f g (λ s h. e s (omega arith)) (λ s h. m s (omega arith))) refl
 
-pub newest-ext : (t : Table) (r k : ℕ) (f g : ℕ → Bool) → ((s : ℕ) → s < k → f s ≡ g s) → newest k t f r ≡ newest k t g r
-newest-ext t r k f g e = newest-same t t r k f g e (λ _ _. refl)
+pub newest-ext : (M : List Message) (r k : ℕ) (f g : ℕ → Bool) → ((s : ℕ) → s < k → f s ≡ g s) → newest k M f r ≡ newest k M g r
+newest-ext M r k f g e = newest-same M M r k f g e (λ _ _. refl)
 
 -- a slot more, which does not count
-pub newest-last : (t : Table) (f : ℕ → Bool) (r k : ℕ) → f k ≡ false → newest (k + 1) t f r ≡ newest k t f r
+pub newest-last : (M : List Message) (f : ℕ → Bool) (r k : ℕ) → f k ≡ false → newest (k + 1) M f r ≡ newest k M f r
 unfolding newest
-newest-last t f r k e = let q : k + 1 ≡ suc k = omega arith in rw (q, e) refl
+newest-last M f r k e = let q : k + 1 ≡ suc k = omega arith in rw (q, e) refl
 
 -- ON A WELL-FORMED TABLE
 
@@ -192,7 +184,7 @@ module _ (t : Table) (w : WellFormed t) where
       w .stamps i j hi hj (write-kind r i wi) (write-kind r j wj) (ap (λ (a : Stamp). a .writer) e) (register-of r i wi ∙ sym (register-of r j wj)) (ap (λ (a : Stamp). a .date) e)
 
   -- and none is 0, 0: with its stamp a register has its value
-  pub same-stamp-same : {f g : ℕ → Bool} {r : ℕ} {y z : Register} → Held (t .count) t f r y → Held (t .count) t g r z → y .stamp ≡ z .stamp → y ≡ z
+  pub same-stamp-same : {f g : ℕ → Bool} {r : ℕ} {y z : Register} → Held (t .count) (t .messages) f r y → Held (t .count) (t .messages) g r z → y .stamp ≡ z .stamp → y ≡ z
   same-stamp-same (none e) (none d) q = e ∙ sym d
   same-stamp-same {r = r} (none e) (some s h p v d) q = absurd (omega (arith, write-date r s h v .0, ap (λ (x : Stamp). x .date) (rw (e, d) at q)))
   same-stamp-same {r = r} (some s h p v e) (none d) q = absurd (omega (arith, write-date r s h v .0, ap (λ (x : Stamp). x .date) (rw (e, d) at q)))
@@ -200,39 +192,39 @@ module _ (t : Table) (w : WellFormed t) where
 
   -- a write that counts is the newest, or the newest exceeds it
   pub newest-or-later : (f : ℕ → Bool) (r s : ℕ) → s < t .count → f s ≡ true → writes r (message t s) ≡ true
-      → let y = newest (t .count) t f r in
+      → let y = newest (t .count) (t .messages) f r in
       let z = written (message t s) in
       (y ≡ z) ⊎ (exceeds (y .stamp) (z .stamp) ≡ true)
-  newest-or-later f r s h p v = go (exceeds (newest (t .count) t f r .stamp) (written (message t s) .stamp)) refl
+  newest-or-later f r s h p v = go (exceeds (newest (t .count) (t .messages) f r .stamp) (written (message t s) .stamp)) refl
     where
-      go : (b : Bool) → exceeds (newest (t .count) t f r .stamp) (written (message t s) .stamp) ≡ b
-          → (newest (t .count) t f r ≡ written (message t s)) ⊎ (exceeds (newest (t .count) t f r .stamp) (written (message t s) .stamp) ≡ true)
+      go : (b : Bool) → exceeds (newest (t .count) (t .messages) f r .stamp) (written (message t s) .stamp) ≡ b
+          → (newest (t .count) (t .messages) f r ≡ written (message t s)) ⊎ (exceeds (newest (t .count) (t .messages) f r .stamp) (written (message t s) .stamp) ≡ true)
       go true e = inr e
       go false e =
-          inl (same-stamp-same {g = f} (newest-held t f r (t .count)) (some s h p v refl) (later-antisym _ _ (not-exceeds _ _ e) (newest-most t f r (t .count) s h p v)))
+          inl (same-stamp-same {g = f} (newest-held (t .messages) f r (t .count)) (some s h p v refl) (later-antisym _ _ (not-exceeds _ _ e) (newest-most (t .messages) f r (t .count) s h p v)))
 
   -- of two sets together: that of the first wins, if its stamp exceeds that of the second
   pub newest-joined : (f g h : ℕ → Bool) (r : ℕ) → ((s : ℕ) → s < t .count → h s ≡ (f s || g s))
-      → newest (t .count) t h r ≡ wins (newest (t .count) t f r) (newest (t .count) t g r)
+      → newest (t .count) (t .messages) h r ≡ wins (newest (t .count) (t .messages) f r) (newest (t .count) (t .messages) g r)
   newest-joined f g h r e =
-      same-stamp-same all joined (later-antisym (newest (t .count) t h r .stamp) (wins (newest (t .count) t f r) (newest (t .count) t g r) .stamp) (up all) (held-most joined))
+      same-stamp-same all joined (later-antisym (newest (t .count) (t .messages) h r .stamp) (wins (newest (t .count) (t .messages) f r) (newest (t .count) (t .messages) g r) .stamp) (up all) (held-most joined))
     where
-      all : Held (t .count) t h r (newest (t .count) t h r)
-      all = newest-held t h r (t .count)
+      all : Held (t .count) (t .messages) h r (newest (t .count) (t .messages) h r)
+      all = newest-held (t .messages) h r (t .count)
 
-      joined : Held (t .count) t h r (wins (newest (t .count) t f r) (newest (t .count) t g r))
+      joined : Held (t .count) (t .messages) h r (wins (newest (t .count) (t .messages) f r) (newest (t .count) (t .messages) g r))
       joined =
-          wins-case (Held (t .count) t h r) _ _
-          (λ _. held-within (λ s b p. rw (e s b) (or-left (g s) p)) (newest-held t f r (t .count)))
-          (λ _. held-within (λ s b p. rw (e s b) (or-right (f s) p)) (newest-held t g r (t .count)))
+          wins-case (Held (t .count) (t .messages) h r) _ _
+          (λ _. held-within (λ s b p. rw (e s b) (or-left (g s) p)) (newest-held (t .messages) f r (t .count)))
+          (λ _. held-within (λ s b p. rw (e s b) (or-right (f s) p)) (newest-held (t .messages) g r (t .count)))
 
-      most : StampNoLater (newest (t .count) t f r .stamp) (wins (newest (t .count) t f r) (newest (t .count) t g r) .stamp)
-          × StampNoLater (newest (t .count) t g r .stamp) (wins (newest (t .count) t f r) (newest (t .count) t g r) .stamp)
-      most = wins-most (newest (t .count) t f r) (newest (t .count) t g r)
+      most : StampNoLater (newest (t .count) (t .messages) f r .stamp) (wins (newest (t .count) (t .messages) f r) (newest (t .count) (t .messages) g r) .stamp)
+          × StampNoLater (newest (t .count) (t .messages) g r .stamp) (wins (newest (t .count) (t .messages) f r) (newest (t .count) (t .messages) g r) .stamp)
+      most = wins-most (newest (t .count) (t .messages) f r) (newest (t .count) (t .messages) g r)
 
-      up : {y : Register} → Held (t .count) t h r y → StampNoLater (y .stamp) (wins (newest (t .count) t f r) (newest (t .count) t g r) .stamp)
+      up : {y : Register} → Held (t .count) (t .messages) h r y → StampNoLater (y .stamp) (wins (newest (t .count) (t .messages) f r) (newest (t .count) (t .messages) g r) .stamp)
       up (none q) = rw q (zero-first _)
       up (some s b p v q) = rw q (elim (or-cases (f s) (g s) (sym (e s b) ∙ p)) [
-        | inl i ↦ later-trans (newest-most t f r (t .count) s b i v) (most .0)
-        | inr i ↦ later-trans (newest-most t g r (t .count) s b i v) (most .1)
+        | inl i ↦ later-trans (newest-most (t .messages) f r (t .count) s b i v) (most .0)
+        | inr i ↦ later-trans (newest-most (t .messages) g r (t .count) s b i v) (most .1)
       ])

@@ -10,20 +10,21 @@ use borrow.Author.Tests.{ltb-true, ltb-false, leb-true, eqb-true, lt-ltb, le-ltb
 use Rattle.lists.specs.Below.{all, distinct}
 use Rattle.lists.proofs.Tests.{and-left, and-right, both, or-cases, or-left, or-right, implies-at, implies-of, not-both, not-both-of, contradiction, beq-eq, eq-beq}
 use Rattle.lists.proofs.Below.{all-at, all-of, distinct-at, distinct-of}
-use Rattle.model.specs.Tables.{seats, capacity, absent, yes?, at, message, slotAt, place, entry, held, mark, applied, highest}
-use Rattle.model.specs.WellFormed.{named, fairAmount, fairClass, fairRegister, fairDate, known, sameName, sameStamp, keptWrite, goodMark, inLog, greatestApplied, inRange, goodMessage, goodMessages, goodWrites, goodLog, goodPlaces, goodMarks, goodBuffer, goodHighest, goodRunning, goodController, wellFormed}
+use Rattle.model.specs.Tables.{seats, capacity, absent, yes?, at, message, slotAt, place, entry, held, mark, applied, highest, messagesOf}
+use Rattle.model.specs.Fair.{named, fairAmount, fairClass, fairRegister, fairDate, known}
+use Rattle.model.specs.WellFormed.{sameName, sameStamp, keptWrite, goodMark, inRange, goodMessage, goodMessages, goodWrites, goodLog, goodPlaces, goodMarks, goodBuffer, goodHighest, goodRunning, goodController, wellFormed}
+use Rattle.model.specs.Facts.{inLog, greatestApplied, Among, GoodMark, GoodController, WellFormed}
 use Rattle.model.specs.declared.Message.{Message}
 use Rattle.model.specs.declared.Controller.{Controller}
 use Rattle.model.specs.declared.Table.{Table}
-use Rattle.model.specs.Facts.{Among, GoodMark, GoodController, WellFormed}
 
 -- NAMES OF CONTROLLERS
 
-pub named-at : (t : Table) (c : ℕ) → named t c ≡ true → Among (t .n) c
+pub named-at : (t : Table) (c : ℕ) → named (t .n) c ≡ true → Among (t .n) c
 unfolding named
 named-at t c e = record { low = ltb-true 0 c (and-left _ _ e); high = leb-true c (t .n) (and-right (ltb 0 c) _ e) }
 
-pub named-of : (t : Table) (c : ℕ) → Among (t .n) c → named t c ≡ true
+pub named-of : (t : Table) (c : ℕ) → Among (t .n) c → named (t .n) c ≡ true
 unfolding named
 named-of t c h = both (lt-ltb 0 c (h .low)) (le-leb c (t .n) (h .high))
 
@@ -61,20 +62,20 @@ mark-test k (inl p) = or-left _ (eq-eqb k absent p)
 mark-test k (inr p) = or-right (eqb k absent) (both (lt-ltb 0 k (p .0)) (le-leb k 64 (p .1)))
 
 module _ (t : Table) (i : ℕ) (c : Controller) where
-  controller-facts : goodController t i c ≡ true → GoodController t i c
+  controller-facts : goodController (t .n) (messagesOf t) (t .controllers) i c ≡ true → GoodController t i c
   unfolding goodController goodLog goodPlaces goodMarks goodBuffer goodHighest goodRunning
   controller-facts e =
-      let e₁ = and-right (goodLog t c) _ e in
-      let e₂ = and-right (goodPlaces t c) _ e₁ in
-      let e₃ = and-right (goodMarks t c) _ e₂ in
-      let e₄ = and-right (goodBuffer t c) _ e₃ in
-      let log = and-left (goodLog t c) _ e in
+      let e₁ = and-right (goodLog (t .count) c) _ e in
+      let e₂ = and-right (goodPlaces (t .n) (t .controllers) c) _ e₁ in
+      let e₃ = and-right (goodMarks (t .n) (t .count) c) _ e₂ in
+      let e₄ = and-right (goodBuffer (t .count) c) _ e₃ in
+      let log = and-left (goodLog (t .count) c) _ e in
       let entries = and-right (leb (c .length) capacity) _ log in
-      let places = and-left (goodPlaces t c) _ e₁ in
-      let marks = and-left (goodMarks t c) _ e₂ in
-      let buffer = and-left (goodBuffer t c) _ e₃ in
-      let agrees = and-left (goodHighest t c) _ e₄ in
-      let running = and-right (goodHighest t c) _ e₄ in
+      let places = and-left (goodPlaces (t .n) (t .controllers) c) _ e₁ in
+      let marks = and-left (goodMarks (t .n) (t .count) c) _ e₂ in
+      let buffer = and-left (goodBuffer (t .count) c) _ e₃ in
+      let agrees = and-left (goodHighest (t .n) (messagesOf t) c) _ e₄ in
+      let running = and-right (goodHighest (t .n) (messagesOf t) c) _ e₄ in
       record {
         log-room = leb-true (c .length) capacity (and-left (leb (c .length) capacity) _ log);
         log-run = λ k h. ltb-true (slotAt c k) (t .count) (all-at (c .length) _ (and-left _ _ entries) k h);
@@ -88,7 +89,7 @@ module _ (t : Table) (i : ℕ) (c : Controller) where
             let w = elsewhere (ltb s (t .count)) _ (le-ltb s (t .count) l)
             (all-at capacity _ (and-right (all (t .count) (λ s. not (held c s && applied c s))) _ buffer) s h) in
             (not-true (held c s) (and-left _ _ w), not-true (applied c s) (and-right (not (held c s)) _ w));
-        highest-is = λ x h. eqb-true (highest c x) (greatestApplied t c x) (all-named (t .n) (λ x. eqb (highest c x) (greatestApplied t c x)) agrees x h);
+        highest-is = λ x h. eqb-true (highest c x) (greatestApplied (messagesOf t) (c .applied) x) (all-named (t .n) (λ x. eqb (highest c x) (greatestApplied (messagesOf t) (c .applied) x)) agrees x h);
         exact = λ r s h. beq-eq (inLog c s) (held c s || applied c s) (all-at (t .count) _ (and-left _ _ (implies-at (yes? (c .running)) _ running r)) s h);
         long = λ r s h p.
             leb-true (message t s .number .0) (c .length) (implies-at (eqb (message t s .sender) i) _
@@ -100,7 +101,7 @@ module _ (t : Table) (i : ℕ) (c : Controller) where
       elsewhere true b p e = contradiction refl p
       elsewhere false b p e = e
 
-  controller-tested : GoodController t i c → goodController t i c ≡ true
+  controller-tested : GoodController t i c → goodController (t .n) (messagesOf t) (t .controllers) i c ≡ true
   unfolding goodController goodLog goodPlaces goodMarks goodBuffer goodHighest goodRunning
   controller-tested g =
       both (both (le-leb (c .length) capacity (g .log-room))
@@ -111,7 +112,7 @@ module _ (t : Table) (i : ℕ) (c : Controller) where
       (both (both (all-of (t .count) _ (λ s h. not-both-of (held c s) (applied c s) (g .apart s h)))
       (all-of capacity _ (λ s h. or-of (ltb s (t .count)) _ (λ p.
       let w = g .outside s h (ltb-false s (t .count) p) in both (ap not (w .0)) (ap not (w .1))))))
-      (both (all-named-of (t .n) (λ x. eqb (highest c x) (greatestApplied t c x)) (λ x h. eq-eqb (highest c x) (greatestApplied t c x) (g .highest-is x h)))
+      (both (all-named-of (t .n) (λ x. eqb (highest c x) (greatestApplied (messagesOf t) (c .applied) x)) (λ x h. eq-eqb (highest c x) (greatestApplied (messagesOf t) (c .applied) x) (g .highest-is x h)))
       (implies-of (yes? (c .running)) _ (λ r.
       both (all-of (t .count) _ (λ s h. eq-beq (inLog c s) (held c s || applied c s) (g .exact r s h)))
       (all-of (t .count) _ (λ s h. implies-of (eqb (message t s .sender) i) _ (λ p.
@@ -132,12 +133,12 @@ same-stamp a b k l p q r =
     both (eq-eqb (a .payload .kind) 6 k) (both (eq-eqb (b .payload .kind) 6 l)
     (both (eq-eqb (a .sender) (b .sender) p) (both (eq-eqb (a .payload .reg) (b .payload .reg) q) (eq-eqb (a .date) (b .date) r))))
 
-message-facts : (t : Table) (m : Message) → goodMessage t m ≡ true
+message-facts : (t : Table) (m : Message) → goodMessage (t .version) (t .n) (t .count) m ≡ true
     → Among (t .n) (m .sender) × ((0 < m .number .0) × (m .number .0 ≤ 64)) × (fairAmount (m .payload) ≡ true) × (fairClass (t .version) (m .payload) ≡ true)
-    × (fairRegister (m .payload) ≡ true) × (fairDate t m ≡ true)
+    × (fairRegister (m .payload) ≡ true) × (fairDate (t .count) m ≡ true)
 unfolding goodMessage
 message-facts t m e =
-    let e₁ = and-right (named t (m .sender)) _ e in
+    let e₁ = and-right (named (t .n) (m .sender)) _ e in
     let e₂ = and-right (ltb 0 (m .number .0)) _ e₁ in
     let e₃ = and-right (leb (m .number .0) 64) _ e₂ in
     let e₄ = and-right (fairAmount (m .payload)) _ e₃ in
@@ -155,12 +156,12 @@ unfolding wellFormed inRange goodMessages goodWrites keptWrite
 facts t e =
     let range = and-left (inRange t) _ e in
     let e₁ = and-right (inRange t) _ e in
-    let messages = and-left (goodMessages t) _ e₁ in
-    let e₂ = and-right (goodMessages t) _ e₁ in
+    let messages = and-left (goodMessages (t .version) (t .n) (messagesOf t)) _ e₁ in
+    let e₂ = and-right (goodMessages (t .version) (t .n) (messagesOf t)) _ e₁ in
     let writes = and-left (goodWrites t) _ e₂ in
     let some-few = and-right (known (t .version)) _ range in
     let few-counted = and-right (ltb 0 (t .n)) _ some-few in
-    let each : (s : ℕ) → s < t .count → goodMessage t (message t s) ≡ true = all-at (t .count) _ (and-right (distinct (t .count) (λ i j. sameName (message t i) (message t j))) _ messages) in
+    let each : (s : ℕ) → s < t .count → goodMessage (t .version) (t .n) (t .count) (message t s) ≡ true = all-at (t .count) _ (and-right (distinct (t .count) (λ i j. sameName (message t i) (message t j))) _ messages) in
     record {
       version = and-left _ _ range;
       some = ltb-true 0 (t .n) (and-left (ltb 0 (t .n)) _ some-few);
@@ -182,7 +183,7 @@ facts t e =
           (implies-at (eqb (message t s .payload .kind) 6) _
           (all-at (t .count) (keptWrite t) (and-right (distinct (t .count) (λ i j. sameStamp (message t i) (message t j))) _ writes) s h)
           (eq-eqb (message t s .payload .kind) 6 k)) r;
-      controllers = λ c h. controller-facts t c (at t c) (all-named (t .n) (λ i. goodController t i (at t i)) (and-right (goodWrites t) _ e₂) c h);
+      controllers = λ c h. controller-facts t c (at t c) (all-named (t .n) (λ i. goodController (t .n) (messagesOf t) (t .controllers) i (at t i)) (and-right (goodWrites t) _ e₂) c h);
     }
 
 pub tested : (t : Table) → WellFormed t → wellFormed t ≡ true
@@ -207,4 +208,4 @@ tested t w =
     )))))
     (all-of (t .count) _ (λ s h. implies-of (eqb (message t s .payload .kind) 6) _ (λ k.
     implies-of (yes? (at t (message t s .sender) .running)) _ (λ r. w .kept s h (eqb-true _ _ k) r)))))
-    (all-named-of (t .n) (λ i. goodController t i (at t i)) (λ c h. controller-tested t c (at t c) (w .controllers c h)))))
+    (all-named-of (t .n) (λ i. goodController (t .n) (messagesOf t) (t .controllers) i (at t i)) (λ c h. controller-tested t c (at t c) (w .controllers c h)))))

@@ -5,7 +5,7 @@ use mathlib.Core.List.{List, [], _∷_}
 use lib.ListN.{length, replicate}
 use lib.Dec.{eqb}
 use Rattle.lists.specs.Build.{over, overlay}
-use Rattle.model.specs.Tables.{capacity, scratchSize, yes?, noName, noSums, noPanel, unheld, fresh, zeroTable, at, message, entry}
+use Rattle.model.specs.Tables.{Messages, capacity, scratchSize, noName, noSums, noPanel, unheld, fresh, zeroTable, messageIn, at, messagesOf, inBuffer, entry}
 use Rattle.model.specs.Delivery.{goesBefore}
 use Rattle.model.specs.Events.{subject, next, appliedBy, resulting, panelOf, namesOf, finishes}
 use Rattle.model.specs.Records.{behind, decode}
@@ -43,19 +43,16 @@ pub record Outcome : Type 0 where
 unfoldable pub answering : Table → Command → List ℕ → EventAnswer
 answering t (Act e) r =
     let S = appliedBy t e in
-    let f = finishes t S (subject e) in
+    let f = finishes (messagesOf t) S (subject e) in
     let z = panelOf (next t e) (subject e) .sums in
-    record { number = 0; names = namesOf t S; finished = f; sums = cond f z noSums; rest = r }
+    record { number = 0; names = namesOf (messagesOf t) S; finished = f; sums = cond f z noSums; rest = r }
 answering t (Read c) r = record { number = 0; names = []; finished = false; sums = panelOf t c .sums; rest = r }
 
 unfoldable pub accepted : Table → List ℕ → Outcome
 accepted t s = let a = decode (t .version) s in record { answer = answering t a (behind s); table = resulting t a }
 
 unfoldable pub refused : Table → List ℕ → ℕ → Outcome
-refused t s k = record {
-  answer = record { number = k; names = []; finished = false; sums = noSums; rest = s };
-  table = t;
-}
+refused t s k = record { answer = record { number = k; names = []; finished = false; sums = noSums; rest = s }; table = t }
 
 -- an event whose questions give k
 unfoldable pub settled : Table → List ℕ → ℕ → Outcome
@@ -107,21 +104,26 @@ look t c =
 unfoldable pub isNamed : Name → Message → Bool
 isNamed a m = eqb (m .sender) (a .sender) && eqb (m .number .0) (a .number .0)
 
+-- slot s is in buffer P, and is the message of this name
+abbrev pub here : List Message → List Pending → Name → ℕ → Bool
+here M P a s = inBuffer P s && isNamed a (messageIn M s)
+
 -- what buffer P has of the message of this name, among the first k slots; every mark is absent if it is not pending there
-unfoldable pub pendingBelow : ℕ → Table → List Pending → Name → Pending
-pendingBelow zero t P a = unheld
-pendingBelow (suc s) t P a =
-    let r = pendingBelow s t P a in
-    cond (yes? (entry P s .held) && isNamed a (message t s)) (entry P s) r
+unfoldable pub pendingBelow : ℕ → List Message → List Pending → Name → Pending
+pendingBelow zero M P a = unheld
+pendingBelow (suc s) M P a =
+    let r = pendingBelow s M P a in
+    cond (here M P a s) (entry P s) r
 
 -- the same of the whole run: every mark is absent if it is not of the run either
-unfoldable pub pendingOf : Table → List Pending → Name → Pending
-pendingOf t P a = pendingBelow (t .count) t P a
+unfoldable pub pendingOf : Messages → List Pending → Name → Pending
+pendingOf M P a = pendingBelow (M .count) (M .slots) P a
 
 -- how many controllers have, in the buffer of c, a smaller forward number for message a than for message b
 unfoldable pub countBefore : Table → ℕ → Name → Name → CountAnswer
 countBefore t c a b =
     let k = firstNo (lookQuestions t c) in
+    let M = messagesOf t in
     let P = at t c .pending in
-    let x = goesBefore (t .n) (pendingOf t P a) (pendingOf t P b) in
+    let x = goesBefore (t .n) (pendingOf M P a) (pendingOf M P b) in
     record { number = k; count = cond (eqb k 0) x 0 }

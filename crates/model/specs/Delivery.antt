@@ -1,13 +1,11 @@
--- Lines 15 and 16 of Algorithm 1: the set of buffered messages that a controller applies.
--- It is the largest set of RULES.md, section 8 (Apply), as Largest.antt says it: proofs/Largest.antt.
-use Prim.Native.Nat.{ℕ, zero, suc, _+_, _/_, min}
-use mathlib.Core.Bool.{Bool, false, not, _&&_, _||_, cond}
+-- Lines 15 and 16 of Algorithm 1: majorities, marks and the count of "goes before", over which Largest.antt says what set a controller applies.
+use Prim.Native.Nat.{ℕ, _+_, _/_, min}
+use mathlib.Core.Bool.{Bool, false}
 use mathlib.Core.List.{List}
 use lib.ListN.{getD}
-use lib.Dec.{eqb, leb, ltb}
-use Rattle.lists.specs.Below.{count, all}
-use Rattle.lists.specs.Build.{tabulate}
-use Rattle.model.specs.Tables.{seats, capacity, absent, yes?, entry, mark}
+use lib.Dec.{ltb}
+use Rattle.lists.specs.Below.{count}
+use Rattle.model.specs.Tables.{seats, absent, mark}
 use Rattle.model.specs.declared.Pending.{Pending}
 
 -- more than half of n controllers: half of n rounded down, plus one
@@ -28,32 +26,3 @@ Slots = List Bool
 
 abbrev pub has : Slots → ℕ → Bool
 has S s = getD S s false
-
--- Over N slots: `held` are those to choose among, `fit` those that may be chosen, and `before` is the relation.
-module _ (N : ℕ) (held fit : ℕ → Bool) (before : ℕ → ℕ → Bool) where
-  -- s goes before each held slot outside S
-  unfoldable pub clears : Slots → ℕ → Bool
-  clears S s = all N (λ t. let b = before s t in has S t || (not (held t) || b))
-
-  -- one round of removals
-  unfoldable pub round : Slots → Slots
-  round S = tabulate N (λ s. let c = clears S s in has S s && c)
-
-  -- rounds until one removes nothing
-  unfoldable pub settle : ℕ → Slots → Slots
-  settle zero S = S
-  settle (suc k) S =
-      let R = round S in
-      let on = settle k R in
-      cond (eqb (count N (has R)) (count N (has S))) S on
-
-  unfoldable pub largest : Slots
-  largest = settle N (tabulate N (λ s. held s && fit s))
-
--- the set that a controller of n applies, with this buffer
-unfoldable pub applicable : ℕ → List Pending → Slots
-applicable n P =
-    largest capacity
-    (λ s. yes? (entry P s .held))
-    (λ s. leb (majority n) (markCount n (entry P s)))
-    (λ s t. leb (majority n) (goesBefore n (entry P s) (entry P t)))

@@ -7,9 +7,10 @@ use lib.ListN.{getD}
 use lib.Dec.{eqb, leb, ltb}
 use Rattle.lists.specs.Below.{count, sum, greatest}
 use Rattle.lists.specs.Build.{tabulate}
-use Rattle.model.specs.Tables.{seats, capacity, classCount, messageNumber, messageOf, unheld, at, message, slotAt, place, entry, held, applied, highest, withController, withMessage, withEntry, withRead, withMark, withDelivered, withStop}
+use Rattle.model.specs.Tables.{Messages, seats, capacity, classCount, syncKind, messageNumber, messageOf, unheld, messageIn, at, messagesOf, flagged, slotAt, place, entry, held, highest, withController, withMessage, withEntry, withRead, withMark, withDelivered, withStop}
 use Rattle.model.specs.Registers.{registers, dateOf}
-use Rattle.model.specs.Delivery.{Slots, has, applicable}
+use Rattle.model.specs.Delivery.{Slots, has}
+use Rattle.model.specs.Rounds.{applicable}
 use Rattle.model.specs.declared.Payload.{Payload}
 use Rattle.model.specs.declared.Message.{Message}
 use Rattle.model.specs.declared.Name.{Name}
@@ -24,13 +25,13 @@ use Rattle.model.specs.declared.Command.the-variants.{Act, Read}
 
 -- 1. REPORT, SYNC AND WRITE (scd-broadcast): lines 1 and 5 to 12 with i = sd = g
 
--- the message that c sends next, numbered by its log, and dated by the registers that c holds
-unfoldable pub sentMessage : Table → ℕ → Payload → Message
-sentMessage t c p = messageOf c (messageNumber (at t c .length + 1)) (dateOf t (at t c) p) p
+-- the message that x, which is controller c, sends after those of M: numbered by its log, and dated by the registers that it holds
+unfoldable pub sentMessage : Messages → Controller → ℕ → Payload → Message
+sentMessage M x c p = messageOf c (messageNumber (x .length + 1)) (dateOf M (x .applied) p) p
 
--- c with a message of the next slot: buffered with c's own mark, and at the end of c's log
-unfoldable pub sent : Table → ℕ → Controller
-sent t c = let s = t .count in withMark (withEntry (at t c) s) s (unheld .marks) c (at t c .length + 1)
+-- x, which is controller c, with a message of slot s: buffered with its own mark, and at the end of its log
+unfoldable pub sent : ℕ → Controller → ℕ → Controller
+sent s x c = withMark (withEntry x s) s (unheld .marks) c (x .length + 1)
 
 -- 2. HANDOVER (fifo-delivery from o): lines 3 to 14
 
@@ -41,19 +42,19 @@ forward c m s o k =
     (cond (held c s) (withMark c s (entry (c .pending) s .marks) o k)
     (withMark (withEntry c s) s (unheld .marks) o k))
 
--- the slot that r reads next in the log of o
-unfoldable pub nextSlot : Table → ℕ → ℕ → ℕ
-nextSlot t r o = slotAt (at t o) (place (at t r) o)
+-- the slot that x reads next in the log of o, which is y
+unfoldable pub nextSlot : Controller → Controller → ℕ → ℕ
+nextSlot x y o = slotAt y (place x o)
 
--- r after it has read, and before it applies
-unfoldable pub received : Table → ℕ → ℕ → Controller
-received t r o =
-    let s = nextSlot t r o in
-    forward (withRead (at t r) o) (message t s) s o (place (at t r) o + 1)
+-- x after it has read that entry, and before it applies
+unfoldable pub received : Messages → Controller → Controller → ℕ → Controller
+received M x y o =
+    let s = nextSlot x y o in
+    forward (withRead x o) (messageIn (M .slots) s) s o (place x o + 1)
 
--- the set that r then applies
-unfoldable pub handoverSet : Table → ℕ → ℕ → Slots
-handoverSet t r o = applicable (t .n) (received t r o .pending)
+-- the set that x, one of n controllers, then applies
+unfoldable pub handoverSet : ℕ → Messages → Controller → Controller → ℕ → Slots
+handoverSet n M x y o = applicable n (received M x y o .pending)
 
 -- 3. APPLY (scd-delivery): lines 17 to 20
 
@@ -62,16 +63,16 @@ unfoldable pub numberOf : ℕ → Message → ℕ
 numberOf x m = cond (eqb (m .sender) x) (m .number .0) 0
 
 -- the highest number of sender x, from 1, in S
-unfoldable pub highestIn : Table → Slots → ℕ → ℕ
-highestIn t S x = greatest (t .count) (λ s. let k = numberOf x (message t s) in cond (has S s) k 0)
+unfoldable pub highestIn : Messages → Slots → ℕ → ℕ
+highestIn M S x = greatest (M .count) (λ s. let k = numberOf x (messageIn (M .slots) s) in cond (has S s) k 0)
 
 -- The slots of S leave the buffer as one; with S empty nothing changes.
-unfoldable pub deliver : Table → Controller → Slots → Controller
-deliver t c S =
+unfoldable pub deliver : Messages → Controller → Slots → Controller
+deliver M c S =
     withDelivered c
     (tabulate capacity (λ s. cond (has S s) unheld (entry (c .pending) s)))
     (tabulate capacity (λ s. cond (has S s) 1 (getD (c .applied) s 0)))
-    (tabulate seats (λ x. messageNumber (max (highest c (suc x)) (highestIn t S (suc x)))))
+    (tabulate seats (λ x. messageNumber (max (highest c (suc x)) (highestIn M S (suc x)))))
 
 -- 4. STOP (crash), and every event
 
@@ -82,13 +83,15 @@ subject (Handover r o) = r
 subject (Stop c k) = c
 
 unfoldable pub after : Table → Event → Controller
-after t (Send c p) = sent t c
-after t (Handover r o) = deliver t (received t r o) (handoverSet t r o)
+after t (Send c p) = sent (t .count) (at t c) c
+after t (Handover r o) =
+    let M = messagesOf t in
+    deliver M (received M (at t r) (at t o) o) (handoverSet (t .n) M (at t r) (at t o) o)
 after t (Stop c k) = withStop (at t c) k
 
 -- the table with the message that an event sends
 unfoldable pub withSent : Table → Event → Table
-withSent t (Send c p) = withMessage t (sentMessage t c p)
+withSent t (Send c p) = withMessage t (sentMessage (messagesOf t) (at t c) c p)
 withSent t (Handover r o) = t
 withSent t (Stop c k) = t
 
@@ -98,7 +101,7 @@ next t e = withController (withSent t e) (subject e) (after t e)
 -- the set that an event applies
 unfoldable pub appliedBy : Table → Event → Slots
 appliedBy t (Send c p) = []
-appliedBy t (Handover r o) = handoverSet t r o
+appliedBy t (Handover r o) = handoverSet (t .n) (messagesOf t) (at t r) (at t o) o
 appliedBy t (Stop c k) = []
 
 -- 5. LOCAL READ (Algorithm 5), and every record: a local read leaves the table as it is
@@ -114,9 +117,9 @@ resulting t (Read c) = t
 
 -- WHAT A PANEL SHOWS (the local counter): that of Algorithm 4, as two sums, over all messages and over each class; and the registers
 
--- the sum of a weight over what x has applied
-unfoldable pub weigh : (Payload → ℕ) → Table → Controller → ℕ
-weigh w t x = sum (t .count) (λ s. let v = w (message t s .payload) in cond (applied x s) v 0)
+-- the sum of a weight over the messages of M that A flags as applied
+unfoldable pub weigh : (Payload → ℕ) → Messages → List ℕ → ℕ
+weigh w M A = sum (M .count) (λ s. let v = w (messageIn (M .slots) s .payload) in cond (flagged A s) v 0)
 
 -- each sum is over its own part of the amounts: those above 0, and those below 0 with the sign dropped
 abbrev pub bothOf : ((Payload → ℕ) → ℕ) → Sums
@@ -126,25 +129,25 @@ bothOf f = record { added = f (λ p. p .added); withdrawn = f (λ p. p .withdraw
 abbrev pub plus : Sums → Sums → Sums
 plus y z = record { added = y .added + z .added; withdrawn = y .withdrawn + z .withdrawn }
 
--- the sums over what x has applied
-unfoldable pub sums : Table → Controller → Sums
-sums t x = bothOf (λ w. weigh w t x)
+-- the sums over what was applied
+unfoldable pub sums : Messages → List ℕ → Sums
+sums M A = bothOf (λ w. weigh w M A)
 
 -- a weight of the payloads of class k alone
 abbrev pub ofClass : ℕ → (Payload → ℕ) → Payload → ℕ
 ofClass k w p = cond (eqb (p .class) k) (w p) 0
 
 -- the same of class k
-unfoldable pub classSums : Table → Controller → ℕ → Sums
-classSums t x k = bothOf (λ w. weigh (ofClass k w) t x)
+unfoldable pub classSums : Messages → List ℕ → ℕ → Sums
+classSums M A k = bothOf (λ w. weigh (ofClass k w) M A)
 
--- the panel of a controller that is x: the sums, those of each class from 0, and the registers
-unfoldable pub shown : Table → Controller → Panel
-shown t x = record { sums = sums t x; classes = tabulate classCount (classSums t x); registers = registers t x }
+-- the panel of a controller that has applied what A flags: the sums, those of each class from 0, and the registers
+unfoldable pub shown : Messages → List ℕ → Panel
+shown M A = record { sums = sums M A; classes = tabulate classCount (classSums M A); registers = registers M A }
 
 -- the panel of controller c
 unfoldable pub panelOf : Table → ℕ → Panel
-panelOf t c = shown t (at t c)
+panelOf t c = shown (messagesOf t) (at t c .applied)
 
 -- NAMES
 
@@ -160,16 +163,17 @@ insert x [] = x ∷ []
 insert x (y ∷ ys) = cond (earlier x y) (x ∷ y ∷ ys) (y ∷ insert x ys)
 
 -- the names of the slots of S below k, in that order
-unfoldable pub namesBelow : ℕ → Table → Slots → List Name
-namesBelow zero t S = []
-namesBelow (suc k) t S =
-    let r = namesBelow k t S in
-    let more = insert (nameOf (message t k)) r in
+unfoldable pub namesBelow : ℕ → List Message → Slots → List Name
+namesBelow zero M S = []
+namesBelow (suc k) M S =
+    let r = namesBelow k M S in
+    let more = insert (nameOf (messageIn M k)) r in
     cond (has S k) more r
 
-unfoldable pub namesOf : Table → Slots → List Name
-namesOf t S = namesBelow (t .count) t S
+unfoldable pub namesOf : Messages → Slots → List Name
+namesOf M S = namesBelow (M .count) (M .slots) S
 
 -- whether S holds a sync that c sent: c then gets its answer
-unfoldable pub finishes : Table → Slots → ℕ → Bool
-finishes t S c = ltb 0 (count (t .count) (λ s. has S s && (eqb (message t s .payload .kind) 2 && eqb (message t s .sender) c)))
+unfoldable pub finishes : Messages → Slots → ℕ → Bool
+finishes M S c =
+    ltb 0 (count (M .count) (λ s. let m = messageIn (M .slots) s in has S s && (eqb (m .payload .kind) syncKind && eqb (m .sender) c)))

@@ -8,7 +8,7 @@ use lib.ListN.{length, set}
 use lib.Dec.{leb}
 use Rattle.lists.specs.Below.{Within}
 use Rattle.lists.specs.Build.{tabulate}
-use Rattle.model.specs.Tables.{yes?, entry}
+use Rattle.model.specs.Tables.{entry}
 use Rattle.model.specs.Delivery.{Slots, has, majority, markCount, goesBefore}
 use Rattle.model.specs.declared.Pending.{Pending}
 
@@ -33,9 +33,6 @@ module _ (N : ℕ) (held fit : ℕ → Bool) (before : ℕ → ℕ → Bool) whe
 
 -- The same for a controller of n with buffer P.
 module _ (n : ℕ) (P : List Pending) where
-  abbrev pub inBuffer : ℕ → Bool
-  inBuffer s = yes? (entry P s .held)
-
   abbrev pub candidate : ℕ → Bool
   candidate s = leb (majority n) (markCount n (entry P s))
 

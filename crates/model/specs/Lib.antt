@@ -2,12 +2,13 @@ pub mod Tables
 pub mod Sized
 pub mod Delivery
 pub mod Largest
+pub mod Rounds
 pub mod Registers
 pub mod Events
 pub mod Records
-pub mod WellFormed
+pub mod Fair
 pub mod Facts
+pub mod WellFormed
 pub mod Questions
 pub mod Calls
 pub mod Runs
-pub mod Parts

@@ -4,7 +4,7 @@ use mathlib.Core.Bool.{cond}
 use mathlib.Core.List.{List, [], _∷_}
 use lib.ListN.{getD, drop}
 use lib.Dec.{eqb, ltb}
-use Rattle.model.specs.Tables.{report, sync, write}
+use Rattle.model.specs.Tables.{reportKind, syncKind, writeKind, report, sync, write}
 use Rattle.model.specs.declared.Payload.{Payload}
 use Rattle.model.specs.declared.Event.the-variants.{Send, Handover, Stop}
 use Rattle.model.specs.declared.Command.{Command}
@@ -48,9 +48,9 @@ reported k x = cond (ltb x 32768) (report k x 0) (report k 0 (65536 - x))
 -- what a record of kind 1 to 6 and of that kind's length asks for
 unfoldable pub decode : ℕ → List ℕ → Command
 decode v s =
-    cond (eqb (kind s) 1) (Act (Send (byte s 2) (reported (reportClass v s) (word s 3))))
-    (cond (eqb (kind s) 2) (Act (Send (byte s 2) sync))
+    cond (eqb (kind s) reportKind) (Act (Send (byte s 2) (reported (reportClass v s) (word s 3))))
+    (cond (eqb (kind s) syncKind) (Act (Send (byte s 2) sync))
     (cond (eqb (kind s) 3) (Act (Handover (byte s 2) (byte s 3)))
     (cond (eqb (kind s) 4) (Act (Stop (byte s 2) (word s 3)))
-    (cond (eqb (kind s) 6) (Act (Send (byte s 2) (write (byte s 3) (long s 4))))
+    (cond (eqb (kind s) writeKind) (Act (Send (byte s 2) (write (byte s 3) (long s 4))))
     (Read (byte s 2))))))

@@ -72,12 +72,7 @@ verdict p s room space =
 unfoldable pub advance : Progress → List ℕ → ℕ → ℕ → Progress
 advance p s room space =
     let k = verdict p s room space in
-    let on : Progress = record {
-      number = 0;
-      events = p .events + 1;
-      lines = p .lines ++ lineAt p s room;
-      table = step (p .table) s room .table;
-    } in
+    let on : Progress = record { number = 0; events = p .events + 1; lines = p .lines ++ lineAt p s room; table = step (p .table) s room .table } in
     cond (eqb k 0) on (record { number = k; events = p .events; lines = p .lines; table = p .table })
 
 -- THE RUN
@@ -116,11 +111,7 @@ fileRun s listing scratch =
     let k = firstNo (fileQuestions s) in
     let on = ran (progress s (length scratch) (length listing)) listing scratch in
     cond (eqb k 0) on
-    (record {
-      answer = record { number = k; events = 0; written = 0; table = zeroTable };
-      listing = listing;
-      scratch = scratch;
-    })
+    (record { answer = record { number = k; events = 0; written = 0; table = zeroTable }; listing = listing; scratch = scratch })
 
 -- the lines that the program writes before and after the listing
 unfoldable pub header : ℕ → List ℕ

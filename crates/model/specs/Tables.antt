@@ -56,16 +56,26 @@ yes? f = ltb 0 f
 
 -- MESSAGES
 
+-- what a message is, by the kind of its record
+abbrev pub reportKind : ℕ
+reportKind = 1
+
+abbrev pub syncKind : ℕ
+syncKind = 2
+
+abbrev pub writeKind : ℕ
+writeKind = 6
+
 -- a report's class, what it adds and what it withdraws; class 0 is none
 abbrev pub report : ℕ → ℕ → ℕ → Payload
-report k a w = record { kind = 1; class = k; added = a; withdrawn = w; reg = 0; value = 0 }
+report k a w = record { kind = reportKind; class = k; added = a; withdrawn = w; reg = 0; value = 0 }
 
 abbrev pub sync : Payload
-sync = record { kind = 2; class = 0; added = 0; withdrawn = 0; reg = 0; value = 0 }
+sync = record { kind = syncKind; class = 0; added = 0; withdrawn = 0; reg = 0; value = 0 }
 
 -- the register that a write sets, and the value that it gives
 abbrev pub write : ℕ → ℕ → Payload
-write r x = record { kind = 6; class = 0; added = 0; withdrawn = 0; reg = r; value = x }
+write r x = record { kind = writeKind; class = 0; added = 0; withdrawn = 0; reg = r; value = x }
 
 -- a place in a log, and a sender's number: separate counters, each from 1
 abbrev pub forwardNumber : ℕ → ForwardNumber
@@ -110,7 +120,7 @@ noController = record { length = 0; log = []; read = []; pending = []; applied =
 
 -- not pending, with every mark so
 abbrev pub unmarked : ℕ → Pending
-unmarked m = record { held = 0; marks = replicate 7 (record { 0 = m }) }
+unmarked m = record { held = 0; marks = replicate seats (record { 0 = m }) }
 
 -- not pending: every mark is absent
 abbrev pub unheld : Pending
@@ -118,18 +128,10 @@ unheld = unmarked absent
 
 -- a controller that has done nothing, with this flag and these marks
 unfoldable pub idle : ℕ → ℕ → Controller
-idle f m = record {
-  length = 0;
-  log = replicate 64 0;
-  read = replicate 7 0;
-  pending = replicate 64 (unmarked m);
-  applied = replicate 64 0;
-  highest = replicate 7 none;
-  running = f;
-}
+idle f m = record { length = 0; log = replicate capacity 0; read = replicate seats 0; pending = replicate capacity (unmarked m); applied = replicate capacity 0; highest = replicate seats none; running = f }
 
 unfoldable pub start : ℕ → ℕ → ℕ → ℕ → Table
-start v n f m = record { version = v; n = n; count = 0; messages = replicate 64 noMessage; controllers = replicate 7 (idle f m) }
+start v n f m = record { version = v; n = n; count = 0; messages = replicate capacity noMessage; controllers = replicate seats (idle f m) }
 
 -- its records are read in version v, and all n controllers run
 unfoldable pub fresh : ℕ → ℕ → Table
@@ -141,13 +143,33 @@ zeroTable = start 0 0 0 0
 
 -- READS
 
--- controller c, from 1
-unfoldable pub at : Table → ℕ → Controller
-at t c = getD (t .controllers) (c - 1) noController
+-- controller c, from 1, of an array of controllers, and of a table
+unfoldable pub controllerIn : List Controller → ℕ → Controller
+controllerIn C c = getD C (c - 1) noController
 
--- the message of slot s
-unfoldable pub message : Table → ℕ → Message
-message t s = getD (t .messages) s noMessage
+abbrev pub at : Table → ℕ → Controller
+at t c = controllerIn (t .controllers) c
+
+-- the message of slot s, of an array of messages, and of a table
+unfoldable pub messageIn : List Message → ℕ → Message
+messageIn M s = getD M s noMessage
+
+abbrev pub message : Table → ℕ → Message
+message t s = messageIn (t .messages) s
+
+-- THE MESSAGES OF A RUN: how many were sent, and the array that has them, each in its slot
+pub record Messages : Type 0 where
+  pub count : ℕ
+  pub slots : List Message
+
+-- the first k of an array, and those of a table
+abbrev pub firstOf : ℕ → List Message → Messages
+firstOf k M = record { count = k; slots = M }
+
+abbrev pub messagesOf : Table → Messages
+messagesOf t = firstOf (t .count) (t .messages)
+
+-- READS OF A CONTROLLER
 
 -- the slot at place k, from 0, of a log
 abbrev pub slotAt : Controller → ℕ → ℕ
@@ -161,16 +183,22 @@ place c o = getD (c .read) (o - 1) 0
 abbrev pub entry : List Pending → ℕ → Pending
 entry P s = getD P s noPending
 
+abbrev pub inBuffer : List Pending → ℕ → Bool
+inBuffer P s = yes? (entry P s .held)
+
 abbrev pub held : Controller → ℕ → Bool
-held c s = yes? (entry (c .pending) s .held)
+held c s = inBuffer (c .pending) s
 
 -- the forward number of controller f, from 0, for a buffered message
 abbrev pub mark : Pending → ℕ → ℕ
 mark p f = (getD (p .marks) f (record { 0 = 0 })) .0
 
--- whether slot s was applied
+-- whether slot s is flagged, and whether it was applied
+abbrev pub flagged : List ℕ → ℕ → Bool
+flagged A s = yes? (getD A s 0)
+
 abbrev pub applied : Controller → ℕ → Bool
-applied c s = yes? (getD (c .applied) s 0)
+applied c s = flagged (c .applied) s
 
 -- the highest number applied of sender x, from 1
 abbrev pub highest : Controller → ℕ → ℕ
@@ -187,60 +215,20 @@ withMessage t m = record { version = t .version; n = t .n; count = t .count + 1;
 
 -- a slot at the end of the log
 abbrev pub withEntry : Controller → ℕ → Controller
-withEntry c s = record {
-  length = c .length + 1;
-  log = set (c .log) (c .length) s;
-  read = c .read;
-  pending = c .pending;
-  applied = c .applied;
-  highest = c .highest;
-  running = c .running;
-}
+withEntry c s = record { length = c .length + 1; log = set (c .log) (c .length) s; read = c .read; pending = c .pending; applied = c .applied; highest = c .highest; running = c .running }
 
 -- one entry more of the log of o read
 abbrev pub withRead : Controller → ℕ → Controller
-withRead c o = record {
-  length = c .length;
-  log = c .log;
-  read = set (c .read) (o - 1) (place c o + 1);
-  pending = c .pending;
-  applied = c .applied;
-  highest = c .highest;
-  running = c .running;
-}
+withRead c o = record { length = c .length; log = c .log; read = set (c .read) (o - 1) (place c o + 1); pending = c .pending; applied = c .applied; highest = c .highest; running = c .running }
 
 -- slot s in the buffer with these marks, and place k of controller o marked
 abbrev pub withMark : Controller → ℕ → List ForwardNumber → ℕ → ℕ → Controller
-withMark c s ms o k = record {
-  length = c .length;
-  log = c .log;
-  read = c .read;
-  pending = set (c .pending) s (record { held = 1; marks = set ms (o - 1) (forwardNumber k) });
-  applied = c .applied;
-  highest = c .highest;
-  running = c .running;
-}
+withMark c s ms o k = record { length = c .length; log = c .log; read = c .read; pending = set (c .pending) s (record { held = 1; marks = set ms (o - 1) (forwardNumber k) }); applied = c .applied; highest = c .highest; running = c .running }
 
 -- another buffer, and what was applied
 abbrev pub withDelivered : Controller → List Pending → List ℕ → List MessageNumber → Controller
-withDelivered c P A H = record {
-  length = c .length;
-  log = c .log;
-  read = c .read;
-  pending = P;
-  applied = A;
-  highest = H;
-  running = c .running;
-}
+withDelivered c P A H = record { length = c .length; log = c .log; read = c .read; pending = P; applied = A; highest = H; running = c .running }
 
 -- stopped, with the first k entries of the log
 abbrev pub withStop : Controller → ℕ → Controller
-withStop c k = record {
-  length = k;
-  log = c .log;
-  read = c .read;
-  pending = c .pending;
-  applied = c .applied;
-  highest = c .highest;
-  running = 0;
-}
+withStop c k = record { length = k; log = c .log; read = c .read; pending = c .pending; applied = c .applied; highest = c .highest; running = 0 }

@@ -1,5 +1,5 @@
 pub mod Owned
-pub mod Sets
+pub mod PastTheArray
 pub mod Inserting
-pub mod Collecting
-pub mod Searching
+pub mod NamesSoFar
+pub mod PendingOfName

@@ -1,4 +1,4 @@
-// The least and the greater of two numbers, a flag as a number, and a place counted from 0 for one counted from 1.
+// The lesser and the greater of two numbers, a flag as a number, and the number before a number.
 ghost use mathlib.Core.Path.{_≡_};
 ghost use mathlib.Core.Bool.{cond};
 ghost use Prim.Native.Nat.{_-_, min, max};
@@ -21,9 +21,9 @@ pub fn flag(b: bool) -> u8
     if b { 1 } else { 0 }
 }
 
-// The place of controller c, from 1, in an array; 0 where there is none.
-pub fn index(c: usize) -> usize
-    ensures { λ r. ⌜ r ≡ c - 1 ⌝ }
+// The number before x, and 0 of 0: of a controller or a register, which count from 1, its index in an array.
+pub fn predecessor(x: usize) -> usize
+    ensures { λ r. ⌜ r ≡ x - 1 ⌝ }
 {
-    if c == 0 { 0 } else { c - 1 }
+    if x == 0 { 0 } else { x - 1 }
 }

@@ -1,29 +1,41 @@
--- What is printed is built in one text: the header line, the lines of the run behind it, the end line behind these. Assumes nothing.
+-- What is printed is built in one text: the lines of the run, the header line before them, the end line after them. Assumes nothing.
 use mathlib.Core.Path.{_≡_, refl, sym, ap, ap₂, _∙_}
 use mathlib.Core.Logic.{_≢_}
+use mathlib.Core.Bool.{cond}
 use mathlib.Core.List.{List, [], _∷_, _++_, append-assoc}
 use Prim.Native.Nat.{ℕ, zero, suc, _+_, _-_, _^_, _≤_, _<_}
 use native.Mathlib.Nat.{le-of-suc-le-suc}
 use native.Mathlib.Omega.{arith}
 use lib.ListN.{length, take, drop, length-append, length-drop, length-take, take-append-drop}
-use lib.Seq.{take-append-seam, drop-append-seam, drop-drop}
-use borrow.Author.Tests.{le-leb, eq-eqb, ne-eqb}
+use lib.Seq.{take-append-seam, drop-append-seam, drop-drop, length-take-le}
+use lib.Dec.{eqb}
+use borrow.Author.Tests.{le-leb, eq-eqb, ne-eqb, eqb-true, eqb-false}
 use borrow.Rule.Slice.PartMut.{midOf, putMid, same-len-mid}
 use Rattle.lists.specs.Build.{overlay}
 use Rattle.lists.proofs.Build.{length-overlay}
-use Rattle.lists.proofs.Tests.{cond-true, cond-false}
-use Rattle.model.specs.Records.{byte}
+use Rattle.lists.proofs.Tests.{cond-true, cond-false, by-contradiction}
+use Rattle.model.specs.Tables.{scratchSize, zeroTable, start, fresh}
+use Rattle.model.specs.Events.{resulting}
+use Rattle.model.specs.Records.{byte, behind, decode}
 use Rattle.model.specs.Questions.{firstNo, fileQuestions}
-use Rattle.model.specs.Runs.{header, footer, Progress, RunOutcome, progress, ran, fileRun}
+use Rattle.model.specs.Calls.{Outcome, accepted, refused, step}
+use Rattle.model.specs.Runs.{header, footer, Progress, RunOutcome, verdict, records, begun, progress, ran, fileRun}
+use Rattle.model.specs.declared.Table.{Table}
+use Rattle.model.specs.declared.Command.{Command}
+use Rattle.model.specs.declared.Command.the-variants.{Act, Read}
 use Rattle.model.specs.declared.RunAnswer.{RunAnswer}
-use Rattle.model.proofs.Lengths.{header-bound, footer-bound}
-use Rattle.model.proofs.Steps.{file-run-ran}
+use Rattle.model.proofs.Decimals.{decimal-one}
+use Rattle.model.proofs.Lengths.{footer-bound}
+use Rattle.model.proofs.Allowed.{file-allowed}
+use Rattle.model.proofs.Steps.{step-case, file-run-ran}
+use Rattle.model.proofs.Runs.{gone, advance-case}
+use Rattle.invariant.proofs.Sizes.{next-n}
 use Rattle.invariant.proofs.Listing.{listing-fits}
 use Rattle.listing.specs.declared.Put.{Put}
 use Rattle.listing.specs.Writing.{putAnswer, tailAfter, Wrote}
-use Rattle.panels.specs.Printed.{printed}
+use Rattle.panels.specs.Printed.{headerSize, listingSize, footerSize, textSize, printed}
 
--- TEXTS LAID ONE BEHIND THE OTHER
+-- TEXTS LAID ONE AFTER THE OTHER
 
 -- x laid over the front of l makes t, and ends at k
 pub record Laid (x l t : List ℕ) (k : ℕ) : Type 0 where
@@ -41,6 +53,11 @@ laid-read : {x l t : List ℕ} {k : ℕ} → Laid x l t k → take k t ≡ x
 unfolding overlay
 laid-read {x} {l} {t} {k} p = rw (p .end, p .text) (take-append-seam x (drop (length x) l))
 
+-- the text itself
+laid-self : (k : ℕ) (l : List ℕ) → k ≤ length l → Laid (take k l) l l k
+unfolding overlay
+laid-self k l h = record { text = rw (length-take-le k l h) (sym (take-append-drop k l)); end = sym (length-take-le k l h) }
+
 drop-take : (i k : ℕ) (z : List ℕ) → i ≤ k → drop i (take k z) ++ drop k z ≡ drop i z
 drop-take zero k z h = take-append-drop k z
 drop-take (suc i) zero z h = absurd (omega arith)
@@ -54,93 +71,168 @@ part-laid x y l j h =
     rw (take-append-seam x (drop (length x) l), drop-append-seam x (drop (length x) l), append-assoc y, drop-take (length y) j (drop (length x) l) h, drop-drop (length y) (length x) l, ← length-append x y)
     (sym (append-assoc x y _))
 
--- y laid over the j bytes behind x, which are then m
-laid-behind : {x l t : List ℕ} {k : ℕ} (y m : List ℕ) (j : ℕ) → length y ≤ j → Laid x l t k → m ≡ overlay y (midOf k j t)
+-- y laid over the j bytes after x, which are then m
+laid-after : {x l t : List ℕ} {k : ℕ} (y m : List ℕ) (j : ℕ) → length y ≤ j → Laid x l t k → m ≡ overlay y (midOf k j t)
     → Laid (x ++ y) l (putMid k j t m) (k + length y)
-laid-behind {x} {l} {t} {k} y m j h p e = record {
+laid-after {x} {l} {t} {k} y m j h p e = record {
   text = rw (e, p .text, p .end) (part-laid x y l j h);
   end = omega (arith, p .end, length-append x y);
 }
 
--- FROM THE CODE: the text l of 16,448 bytes, the file s, and scratch w of 4,096 bytes
+-- another text of the same length laid over the first of two
+laid-before : (g h y l t : List ℕ) (k : ℕ) → length g ≡ length h → Laid (g ++ y) l t k → Laid (h ++ y) l (overlay h t) k
+unfolding overlay
+laid-before g h y l t k e p =
+    let same : length (g ++ y) ≡ length (h ++ y) = omega (arith, length-append g y, length-append h y) in
+    record {
+      text = rw (p .text, ← e, append-assoc g y, drop-append-seam g, same) (sym (append-assoc h y _));
+      end = p .end ∙ same;
+    }
+
+-- THE NUMBER OF CONTROLLERS, which a run's table keeps
+
+resulting-n : (t : Table) (a : Command) → resulting t a .n ≡ t .n
+unfolding resulting
+resulting-n t (Act e) = next-n t e
+resulting-n t (Read c) = refl
+
+step-n : (t : Table) (s : List ℕ) (room : ℕ) → step t s room .table .n ≡ t .n
+unfolding accepted refused
+step-n t s room = step-case t s room (λ (o : Outcome). o .table .n ≡ t .n) (λ _. resulting-n t (decode (t .version) s)) (λ _. refl)
+
+records-n : (f : ℕ) (p : Progress) (s : List ℕ) (room space : ℕ) → records f p s room space .table .n ≡ p .table .n
+unfolding records
+records-n zero p s room space = refl
+records-n (suc f) p [] room space = refl
+records-n (suc f) p (b ∷ s) room space =
+    advance-case p (b ∷ s) room space (λ q. cond (eqb (q .number) 0) (records f q (behind (b ∷ s)) room space) q .table .n ≡ p .table .n)
+    (λ _. records-n f (gone p (b ∷ s) room space) (behind (b ∷ s)) room space ∙ step-n (p .table) (b ∷ s) room)
+    (λ d. rw (ne-eqb (verdict p (b ∷ s) room space) 0 d))
+
+progress-n : (s : List ℕ) (room space : ℕ) → progress s room space .table .n ≡ byte s 1
+unfolding progress begun fresh start
+progress-n s room space = records-n (length s) (begun (byte s 0) (byte s 1)) (drop 2 s) room space
+
+header-size : (n : ℕ) → n < 10 → length (header n) ≡ headerSize
+unfolding header
+header-size n h = rw (decimal-one n h)
+
+-- WHAT A RUN ANSWERS to the file s
 
 abbrev lent : List ℕ → Progress
-lent s = progress s 4096 16384
+lent s = progress s scratchSize listingSize
 
 -- no file fills the listing: question 16 refuses no record of it
 pub never-16 : (s : List ℕ) → firstNo (fileQuestions s) ≡ 0 → lent s .number ≢ 16
-never-16 s e = listing-fits s 4096 16384 e (omega arith) .0
+never-16 s e = listing-fits s scratchSize listingSize e (omega arith) .0
 
-pub only-end : (s l t : List ℕ) (k : ℕ) (q : Put) → k ≡ firstNo (fileQuestions s) → k ≢ 0 → k < 256 → length l ≡ 16448
-    → Wrote (footer 0 k) l t q → take (q .written) t ≡ printed s
-unfolding printed
-only-end s l t k q e n b ll w =
-    laid-read (laid-line (omega (arith, footer-bound 0 k (omega arith) b)) w)
-    ∙ rw e (sym (cond-false _ _ (ne-eqb (firstNo (fileQuestions s)) 0 (λ z. n (e ∙ z)))))
+-- a file that questions 1 to 3 refuse, and any other
+pub record Refused (s : List ℕ) (r : RunAnswer) : Type 0 where
+  pub asked : firstNo (fileQuestions s) ≢ 0
+  pub events : r .events ≡ 0
+  pub number : r .number ≡ firstNo (fileQuestions s)
 
--- with the header line in it, up to k
-pub record HasHeader (s l t : List ℕ) (k : ℕ) : Type 0 where
-  pub laid : Laid (header (byte s 1)) l t k
-  pub short : k ≤ 16
-  pub size : length t ≡ 16448
+pub record Passed (s : List ℕ) (r : RunAnswer) : Type 0 where
+  pub asked : firstNo (fileQuestions s) ≡ 0
+  pub n : r .table .n ≡ byte s 1
+  pub few : r .table .n < 10
 
-pub has-header : (s l t : List ℕ) (n : ℕ) (q : Put) → n ≡ byte s 1 → n < 256 → length l ≡ 16448 → Wrote (header n) l t q → HasHeader s l t (q .written)
-has-header s l t n q e b ll w =
-    let bound = header-bound n b in
-    let p = laid-line (omega arith) w in
-    record {
-      laid = rw e at p;
-      short = omega (arith, p .end);
-      size = ap length (p .text) ∙ length-overlay (header n) l (omega arith) ∙ ll;
-    }
+-- the table tells them apart
+module _ (s l w : List ℕ) (r : RunAnswer) (e : r ≡ fileRun s l w .answer) where
+  passed-n : firstNo (fileQuestions s) ≡ 0 → r .table .n ≡ byte s 1
+  unfolding ran
+  passed-n z = ap (λ (a : RunAnswer). a .table .n) e ∙ ap (λ (o : RunOutcome). o .answer .table .n) (file-run-ran s l w z) ∙ progress-n s (length w) (length l)
 
--- with the lines of the run behind it, up to k; the run has answered r
-pub record HasLines (s l t : List ℕ) (k : ℕ) (r : RunAnswer) : Type 0 where
-  pub laid : Laid (header (byte s 1) ++ lent s .lines) l t k
-  pub short : k ≤ 16400
-  pub size : length t ≡ 16448
+  refused-answer : firstNo (fileQuestions s) ≢ 0 → r ≡ record { number = firstNo (fileQuestions s); events = 0; written = 0; table = zeroTable }
+  unfolding fileRun
+  refused-answer d = e ∙ ap (λ (o : RunOutcome). o .answer) (cond-false _ _ (ne-eqb (firstNo (fileQuestions s)) 0 d))
+
+  pub none-refused : r .table .n ≡ 0 → Refused s r
+  none-refused z =
+      let d : firstNo (fileQuestions s) ≢ 0 = λ q. omega (arith, passed-n q, file-allowed s q .fresh .some) in
+      record { asked = d; events = ap (λ (a : RunAnswer). a .events) (refused-answer d); number = ap (λ (a : RunAnswer). a .number) (refused-answer d) }
+
+  pub some-passed : r .table .n ≢ 0 → Passed s r
+  unfolding zeroTable start
+  some-passed d =
+      let k = firstNo (fileQuestions s) in
+      let z = eqb-true k 0 (by-contradiction (eqb k 0) (λ y. d (ap (λ (a : RunAnswer). a .table .n) (refused-answer (eqb-false k 0 y))))) in
+      record { asked = z; n = passed-n z; few = omega (arith, passed-n z, file-allowed s z .fresh .few) }
+
+-- THE TEXT, which was l, with x and the lines of the run in it; the run has answered r
+
+pub record Holds (x s l t : List ℕ) (r : RunAnswer) : Type 0 where
+  pub laid : Laid (x ++ lent s .lines) l t (headerSize + r .written)
+  pub short : r .written ≤ listingSize
+  pub size : length t ≡ textSize
   pub events : r .events ≡ lent s .events
   pub number : r .number ≡ lent s .number
 
-pub has-lines : (s l w t m : List ℕ) (k j : ℕ) (r : RunAnswer) → firstNo (fileQuestions s) ≡ 0 → length w ≡ 4096 → j ≡ 16384 → HasHeader s l t k
-    → r ≡ fileRun s (midOf k j t) w .answer → m ≡ fileRun s (midOf k j t) w .listing → length m ≡ length (midOf k j t)
-    → HasLines s l (putMid k j t m) (k + r .written) r
+-- the lines stand after the place of the header line
+pub has-lines : (s l w m : List ℕ) (j : ℕ) (r : RunAnswer) → firstNo (fileQuestions s) ≡ 0 → length l ≡ textSize → length w ≡ scratchSize → j ≡ listingSize
+    → r ≡ fileRun s (midOf headerSize j l) w .answer → m ≡ fileRun s (midOf headerSize j l) w .listing → length m ≡ length (midOf headerSize j l)
+    → Holds (take headerSize l) s l (putMid headerSize j l m) r
 unfolding ran overlay
-has-lines s l w t m k j r z lw ej h er em same =
-    let part : length (midOf k j t) ≡ 16384 = omega (arith, length-take j (drop k t), length-drop k t, h .short, h .size) in
-    let run : fileRun s (midOf k j t) w ≡ ran (lent s) (midOf k j t) w =
-    file-run-ran s (midOf k j t) w z ∙ ap₂ (λ (room space : ℕ). ran (progress s room space) (midOf k j t) w) lw part in
-    let answer : r ≡ ran (lent s) (midOf k j t) w .answer = er ∙ ap (λ (o : RunOutcome). o .answer) run in
-    let listing : m ≡ overlay (lent s .lines) (midOf k j t) = em ∙ ap (λ (o : RunOutcome). o .listing) run in
+has-lines s l w m j r z ll lw ej er em same =
+    let x = midOf headerSize j l in
+    let part : length x ≡ listingSize = omega (arith, length-take j (drop headerSize l), length-drop headerSize l) in
+    let run : fileRun s x w ≡ ran (lent s) x w = file-run-ran s x w z ∙ ap₂ (λ (room space : ℕ). ran (progress s room space) x w) lw part in
+    let answer : r ≡ ran (lent s) x w .answer = er ∙ ap (λ (o : RunOutcome). o .answer) run in
+    let listing : m ≡ overlay (lent s .lines) x = em ∙ ap (λ (o : RunOutcome). o .listing) run in
     let written : r .written ≡ length (lent s .lines) = ap (λ (a : RunAnswer). a .written) answer in
-    let few : length (lent s .lines) ≤ 16384 =
-    omega (arith, same, part, ap length listing, length-append (lent s .lines) (drop (length (lent s .lines)) (midOf k j t))) in
+    let few : length (lent s .lines) ≤ listingSize = omega (arith, ap length listing, length-append (lent s .lines) (drop (length (lent s .lines)) x)) in
     record {
-      laid = rw written (laid-behind (lent s .lines) m j (omega arith) (h .laid) listing);
-      short = omega (arith, h .short);
-      size = same-len-mid k j t m same ∙ h .size;
+      laid = rw written (laid-after (lent s .lines) m j (omega arith) (laid-self headerSize l (omega arith)) listing);
+      short = omega arith;
+      size = same-len-mid headerSize j l m same ∙ ll;
       events = ap (λ (a : RunAnswer). a .events) answer;
       number = ap (λ (a : RunAnswer). a .number) answer;
     }
 
--- with the end line behind them, which has q's bytes
+-- the header line takes that place
+pub has-header : (s l t u : List ℕ) (r : RunAnswer) (q : Put) → length l ≡ textSize → Passed s r → Holds (take headerSize l) s l t r → Wrote (header (r .table .n)) t u q
+    → Holds (header (byte s 1)) s l u r
+has-header s l t u r q ll p h w =
+    let x = header (r .table .n) in
+    let size = header-size (r .table .n) (p .few) in
+    let front = laid-line (omega (arith, h .size)) w in
+    let whole = laid-before (take headerSize l) x (lent s .lines) l t (headerSize + r .written) (length-take-le headerSize l (omega arith) ∙ sym size) (h .laid) in
+    record {
+      laid = rw (← front .text, p .n) at whole;
+      short = h .short;
+      size = ap length (front .text) ∙ length-overlay x t (omega (arith, h .size)) ∙ h .size;
+      events = h .events;
+      number = h .number;
+    }
+
+-- with the end line after them, which has q's bytes
 pub record HasEnd (s t : List ℕ) (k : ℕ) (q : Put) : Type 0 where
-  pub short : q .written ≤ 29
+  pub short : q .written ≤ footerSize
   pub text : take (k + q .written) t ≡ printed s
 
-pub has-end : (s l t v : List ℕ) (k : ℕ) (r : RunAnswer) (q : Put) → firstNo (fileQuestions s) ≡ 0 → r .events < 2 ^ 64 → r .number < 256 → HasLines s l t k r
-    → Wrote (footer (r .events) (r .number)) (midOf k (length t - k) t) v q
+pub has-end : (s l t v : List ℕ) (r : RunAnswer) (q : Put) → firstNo (fileQuestions s) ≡ 0 → r .events < 2 ^ 64 → r .number < 256 → Holds (header (byte s 1)) s l t r
+    → let k = headerSize + r .written in
+    Wrote (footer (r .events) (r .number)) (midOf k (length t - k) t) v q
     → HasEnd s (putMid k (length t - k) t v) k q
 unfolding printed
-has-end s l t v k r q z be bn h w =
+has-end s l t v r q z be bn h w =
     let x = footer (r .events) (r .number) in
     let bound = footer-bound (r .events) (r .number) be bn in
+    let k = headerSize + r .written in
     let j = length t - k in
     let p = laid-line (omega (arith, length-take j (drop k t), length-drop k t, h .short, h .size)) w in
-    let whole = laid-behind x v j (omega (arith, h .short, h .size)) (h .laid) (p .text) in
+    let whole = laid-after x v j (omega (arith, h .short, h .size)) (h .laid) (p .text) in
     record {
       short = omega (arith, p .end);
       text = ap (λ (i : ℕ). take (k + i) (putMid k j t v)) (p .end) ∙ laid-read whole
           ∙ append-assoc (header (byte s 1)) (lent s .lines) x
           ∙ rw (h .events, h .number) (sym (cond-true _ _ (eq-eqb (firstNo (fileQuestions s)) 0 z)));
     }
+
+-- of a file that was refused, the end line alone
+pub only-end : (s t u : List ℕ) (r : RunAnswer) (q : Put) → length t ≡ textSize → r .events < 2 ^ 64 → r .number < 256 → Refused s r
+    → Wrote (footer (r .events) (r .number)) t u q → take (q .written) u ≡ printed s
+unfolding printed
+only-end s t u r q lt be bn d w =
+    laid-read (laid-line (omega (arith, footer-bound (r .events) (r .number) be bn)) w)
+    ∙ rw (d .events, d .number) (sym (cond-false _ _ (ne-eqb (firstNo (fileQuestions s)) 0 (d .asked))))

@@ -3,7 +3,7 @@
 ghost use mathlib.Core.Path.{_≡_};
 ghost use lib.ListN.{length, take};
 ghost use Rattle.model.specs.Tables.{scratchSize};
-ghost use Rattle.panels.specs.Printed.{printed};
+ghost use Rattle.panels.specs.Printed.{textSize, printed};
 use model::Table;
 
 // The bytes that stand first, all of them where there are fewer.
@@ -16,25 +16,30 @@ fn first(bytes: &[u8], size: usize) -> &[u8]
     bytes
 }
 
+// The header line of a number of one digit.
+const HEADER: usize = 14;
+
 const LISTING: usize = 16384;
 
-// The listing, at most 16 bytes before it and 29 after it, and room to spare.
-const TEXT: usize = 16448;
+// The longest end line: numbers of 20 and 3 bytes, a word of 3, two spaces and the end of the line.
+const FOOTER: usize = 29;
 
-// Writes what is to be printed of a file, and answers how many bytes that is.
+const TEXT: usize = HEADER + LISTING + FOOTER;
+
+// Writes what is to be printed of a file, and answers how many bytes that is. The run comes first, since its table has the number
+// of controllers: 0 if the file was refused before its first record, and then there is no header line.
 fn report(file: &[u8], text: &mut [u8], scratch: &mut [u8]) -> usize
-    requires { ⌜ (length (now text) ≡ 16448) × (length (now scratch) ≡ scratchSize) ⌝ }
+    requires { ⌜ (length (now text) ≡ textSize) × (length (now scratch) ≡ scratchSize) ⌝ }
     ensures { λ r. ⌜ take r (now (text .exit)) ≡ printed (now (file .entry)) ⌝ }
 {
-    let refusal = events::files::refusal_of(file);
-    if refusal != 0 {
-        let only = listing::put_footer(text, 0, refusal);
+    let run = files::run(file, &mut text[HEADER..HEADER + LISTING], scratch);
+    let n = run.table.n;
+    if n == 0 {
+        let only = listing::put_footer(text, run.events, run.number);
         return only.written;
     }
-    let head = listing::put_header(text, records::byte_at(file, 1));
-    let start = head.written;
-    let run = events::files::run(file, &mut text[start..start + LISTING], scratch);
-    let end = start + run.written;
+    listing::put_header(text, n as u8);
+    let end = HEADER + run.written;
     let tail = listing::put_footer(&mut text[end..], run.events, run.number);
     end + tail.written
 }

@@ -3,16 +3,12 @@
 // array of the table copies it, so each kind has the controllers read in one function.
 ghost use mathlib.Core.Path.{_≡_};
 ghost use mathlib.Core.Bool.{not, _&&_, _||_};
-ghost use mathlib.Core.List.{[]};
 ghost use Prim.Native.Nat.{_<_};
 ghost use lib.Dec.{eqb, leb, ltb};
 ghost use lib.ListN.{getD};
-ghost use Rattle.model.specs.Tables.{noController};
-ghost use Rattle.model.specs.Parts.{whole};
-ghost use Rattle.model.specs.Questions.{firstNo, eventQuestions, commandQuestions};
-ghost use Rattle.model.specs.declared.Event.the-variants.{Send, Handover, Stop};
-ghost use Rattle.model.specs.declared.Command.the-variants.{Read};
-ghost use Rattle.questions.specs.Arrays.{ownAmong, readWithin, latestAmong, syncedAmong};
+ghost use Rattle.lists.specs.Below.{all};
+ghost use Rattle.model.specs.Tables.{seats, capacity, reportKind, writeKind, noController, controllerIn, firstOf};
+ghost use Rattle.model.specs.Questions.{firstNo, ownPending, latest, synced, payloadQuestions, senderQuestions, sendQuestions, handoverQuestions, stopQuestions, readQuestions, commandQuestions};
 use model::Command;
 use model::Controller;
 use model::Event;
@@ -29,9 +25,14 @@ fn named(n: usize, c: u8) -> bool
     (0 < c) & (c as usize <= n)
 }
 
-// Whether one of so many messages, clipped to those of an array, is in this buffer and c's own.
-fn own_pending(count: usize, messages: [Message; 64], pending: [Pending; 64], c: u8) -> bool
-    ensures { λ r. ⌜ r ≡ ownAmong count messages pending c ⌝ }
+// Whether one of the first messages is in this buffer and c's own. Past the end of the arrays none is.
+fn own_pending(
+    count: usize,
+    messages: [Message; Table::MESSAGES],
+    pending: [Pending; Table::MESSAGES],
+    c: u8,
+) -> bool
+    ensures { λ r. ⌜ r ≡ ownPending (firstOf count messages) pending c ⌝ }
 {
     for s in 0..numbers::at_most(count, Table::MESSAGES) {
         let held = pending[s].held;
@@ -46,8 +47,14 @@ fn own_pending(count: usize, messages: [Message; 64], pending: [Pending; 64], c:
 // A REPORT, SYNC OR WRITE
 
 // Whether a message of this kind has to wait for one of its sender's own: a report has not.
-fn must_wait(kind: u8, count: usize, messages: [Message; 64], pending: [Pending; 64], c: u8) -> bool
-    ensures { λ r. ⌜ r ≡ (not (eqb kind 1) && ownAmong count messages pending c) ⌝ }
+fn must_wait(
+    kind: u8,
+    count: usize,
+    messages: [Message; Table::MESSAGES],
+    pending: [Pending; Table::MESSAGES],
+    c: u8,
+) -> bool
+    ensures { λ r. ⌜ r ≡ (not (eqb kind reportKind) && ownPending (firstOf count messages) pending c) ⌝ }
 {
     if kind == Payload::REPORT {
         return false;
@@ -55,10 +62,10 @@ fn must_wait(kind: u8, count: usize, messages: [Message; 64], pending: [Pending;
     own_pending(count, messages, pending, c)
 }
 
-// The greatest number among so many messages, of those of c.
-fn latest(count: usize, messages: [Message; 64], c: u8) -> u8
-    requires { ⌜ count < 64 ⌝ }
-    ensures { λ r. ⌜ r ≡ latestAmong count messages c ⌝ }
+// The greatest number of c among the first messages.
+fn latest(count: usize, messages: [Message; Table::MESSAGES], c: u8) -> u8
+    requires { ⌜ count < capacity ⌝ }
+    ensures { λ r. ⌜ r ≡ latest (firstOf count messages) c ⌝ }
 {
     let mut latest: u8 = 0;
     for s in 0..count {
@@ -71,48 +78,50 @@ fn latest(count: usize, messages: [Message; 64], c: u8) -> u8
     latest
 }
 
-// Whether a message of c with this number is a sync that is flagged as applied.
-fn synced(count: usize, messages: [Message; 64], applied: [u8; 64], c: u8, last: u8) -> bool
-    requires { ⌜ count < 64 ⌝ }
-    ensures { λ r. ⌜ r ≡ syncedAmong count messages applied c last ⌝ }
+// Whether the latest message of c is a sync that is flagged as applied.
+fn synced(
+    count: usize,
+    messages: [Message; Table::MESSAGES],
+    applied: [u8; Table::MESSAGES],
+    c: u8,
+) -> bool
+    requires { ⌜ count < capacity ⌝ }
+    ensures { λ r. ⌜ r ≡ synced (firstOf count messages) applied c ⌝ }
 {
+    let last = latest(count, messages, c);
     for s in 0..count {
         let m = messages[s];
         let kind = m.payload.kind;
-        let named = (m.sender == c) & (m.number.0 == last);
-        if (0 < applied[s]) & ((kind == Payload::SYNC) & named) {
+        let own_last = (m.sender == c) & (m.number.0 == last);
+        if (0 < applied[s]) & ((kind == Payload::SYNC) & own_last) {
             return true;
         }
     }
     false
 }
 
-// Whether a message of this kind may be its sender's next, by the latest one: a write follows on an applied sync.
-fn may_follow(kind: u8, count: usize, messages: [Message; 64], applied: [u8; 64], c: u8) -> bool
-    requires { ⌜ count < 64 ⌝ }
-    ensures { λ r. ⌜ r ≡ (not (eqb kind 6) || syncedAmong count messages applied c (latestAmong count messages c)) ⌝ }
+// Whether a message of this kind may be its sender's next: a write follows on an applied sync.
+fn may_follow(
+    kind: u8,
+    count: usize,
+    messages: [Message; Table::MESSAGES],
+    applied: [u8; Table::MESSAGES],
+    c: u8,
+) -> bool
+    requires { ⌜ count < capacity ⌝ }
+    ensures { λ r. ⌜ r ≡ (not (eqb kind writeKind) || synced (firstOf count messages) applied c) ⌝ }
 {
     if kind != Payload::WRITE {
         return true;
     }
-    synced(count, messages, applied, c, latest(count, messages, c))
+    synced(count, messages, applied, c)
 }
 
-fn send_refusal(
-    version: usize,
-    n: usize,
-    count: usize,
-    messages: [Message; 64],
-    controllers: [Controller; 7],
-    sender: u8,
-    payload: Payload,
-) -> u8
-    ensures { λ r. ⌜ r ≡ firstNo (eventQuestions (whole version n count messages controllers) (Send sender payload)) ⌝ }
+// Questions 9, 17 and 19.
+fn payload_refusal(version: usize, payload: Payload) -> u8
+    ensures { λ r. ⌜ r ≡ firstNo (payloadQuestions version payload) ⌝ }
 {
-    if !named(n, sender) {
-        return refusal::CONTROLLER;
-    }
-    if !Payload::fair(payload) {
+    if !Payload::fair_amount(payload) {
         return refusal::AMOUNT;
     }
     if !Payload::fair_class(version, payload) {
@@ -121,11 +130,19 @@ fn send_refusal(
     if !Payload::fair_register(payload) {
         return refusal::REGISTER;
     }
-    let i = sender as usize - 1;
-    if Table::CONTROLLERS <= i {
-        return refusal::STOPPED;
-    }
-    let x = controllers[i];
+    refusal::ACCEPTED
+}
+
+// Questions 10 to 12 and 20, x being the sender.
+fn sender_refusal(
+    count: usize,
+    messages: [Message; Table::MESSAGES],
+    x: Controller,
+    sender: u8,
+    payload: Payload,
+) -> u8
+    ensures { λ r. ⌜ r ≡ firstNo (senderQuestions (firstOf count messages) x sender payload) ⌝ }
+{
     let flag = x.running;
     if flag == 0 {
         return refusal::STOPPED;
@@ -145,16 +162,47 @@ fn send_refusal(
     refusal::ACCEPTED
 }
 
+fn send_refusal(
+    version: usize,
+    n: usize,
+    count: usize,
+    messages: [Message; Table::MESSAGES],
+    controllers: [Controller; Table::CONTROLLERS],
+    sender: u8,
+    payload: Payload,
+) -> u8
+    ensures { λ r. ⌜ r ≡ firstNo (sendQuestions version n (firstOf count messages) (controllerIn controllers sender) sender payload) ⌝ }
+{
+    if !named(n, sender) {
+        return refusal::CONTROLLER;
+    }
+    let number = payload_refusal(version, payload);
+    if number != 0 {
+        return number;
+    }
+    let i = numbers::predecessor(sender as usize);
+    if Table::CONTROLLERS <= i {
+        return refusal::STOPPED;
+    }
+    let x = controllers[i];
+    sender_refusal(count, messages, x, sender, payload)
+}
+
 // A HANDOVER
 
-fn handover_refusal(n: usize, controllers: [Controller; 7], receiver: u8, owner: u8) -> u8
-    ensures { λ r. ⌜ r ≡ firstNo (eventQuestions (whole 0 n 0 [] controllers) (Handover receiver owner)) ⌝ }
+fn handover_refusal(
+    n: usize,
+    controllers: [Controller; Table::CONTROLLERS],
+    receiver: u8,
+    owner: u8,
+) -> u8
+    ensures { λ r. ⌜ r ≡ firstNo (handoverQuestions n (controllerIn controllers receiver) (controllerIn controllers owner) receiver owner) ⌝ }
 {
     if !(named(n, receiver) & named(n, owner)) {
         return refusal::CONTROLLER;
     }
-    let r = receiver as usize - 1;
-    let o = owner as usize - 1;
+    let r = numbers::predecessor(receiver as usize);
+    let o = numbers::predecessor(owner as usize);
     if Table::CONTROLLERS <= r {
         return refusal::STOPPED;
     }
@@ -178,9 +226,9 @@ fn handover_refusal(n: usize, controllers: [Controller; 7], receiver: u8, owner:
 // A STOP
 
 // Whether none of n controllers has read more than k entries of the log at index o.
-fn none_past(n: usize, controllers: [Controller; 7], o: usize, k: usize) -> bool
-    requires { ⌜ o < 7 ⌝ }
-    ensures { λ r. ⌜ r ≡ readWithin n controllers o k ⌝ }
+fn none_past(n: usize, controllers: [Controller; Table::CONTROLLERS], o: usize, k: usize) -> bool
+    requires { ⌜ o < seats ⌝ }
+    ensures { λ r. ⌜ r ≡ all n (λ j. leb (getD (getD controllers j noController .read) o 0) k) ⌝ }
 {
     for r in 0..numbers::at_most(n, Table::CONTROLLERS) {
         let x = controllers[r];
@@ -193,20 +241,25 @@ fn none_past(n: usize, controllers: [Controller; 7], o: usize, k: usize) -> bool
     true
 }
 
-fn pick(controllers: [Controller; 7], i: usize) -> Controller
-    requires { ⌜ i < 7 ⌝ }
+fn pick(controllers: [Controller; Table::CONTROLLERS], i: usize) -> Controller
+    requires { ⌜ i < seats ⌝ }
     ensures { λ r. ⌜ r ≡ getD controllers i noController ⌝ }
 {
     controllers[i]
 }
 
-fn stop_refusal(n: usize, controllers: [Controller; 7], controller: u8, kept: usize) -> u8
-    ensures { λ r. ⌜ r ≡ firstNo (eventQuestions (whole 0 n 0 [] controllers) (Stop controller kept)) ⌝ }
+fn stop_refusal(
+    n: usize,
+    controllers: [Controller; Table::CONTROLLERS],
+    controller: u8,
+    kept: usize,
+) -> u8
+    ensures { λ r. ⌜ r ≡ firstNo (stopQuestions n controllers controller kept) ⌝ }
 {
     if !named(n, controller) {
         return refusal::CONTROLLER;
     }
-    let i = controller as usize - 1;
+    let i = numbers::predecessor(controller as usize);
     if Table::CONTROLLERS <= i {
         return refusal::STOPPED;
     }
@@ -230,16 +283,16 @@ fn stop_refusal(n: usize, controllers: [Controller; 7], controller: u8, kept: us
 fn read_refusal(
     n: usize,
     count: usize,
-    messages: [Message; 64],
-    controllers: [Controller; 7],
+    messages: [Message; Table::MESSAGES],
+    controllers: [Controller; Table::CONTROLLERS],
     controller: u8,
 ) -> u8
-    ensures { λ r. ⌜ r ≡ firstNo (commandQuestions (whole 0 n count messages controllers) (Read controller)) ⌝ }
+    ensures { λ r. ⌜ r ≡ firstNo (readQuestions n (firstOf count messages) (controllerIn controllers controller) controller) ⌝ }
 {
     if !named(n, controller) {
         return refusal::CONTROLLER;
     }
-    let i = controller as usize - 1;
+    let i = numbers::predecessor(controller as usize);
     if Table::CONTROLLERS <= i {
         return refusal::STOPPED;
     }

@@ -2,7 +2,7 @@
 use mathlib.Core.Path.{_≡_, refl, sym, ap, _∙_}
 use mathlib.Core.Bool.{Bool, true, false, cond}
 use mathlib.Core.List.{List}
-use Prim.Native.Nat.{ℕ, _+_, _-_, _≤_, _<_}
+use Prim.Native.Nat.{ℕ, _-_, _≤_, _<_}
 use native.Mathlib.Nat.{le-refl}
 use native.Mathlib.Omega.{arith}
 use borrow.Author.Tests.{ltb-true, lt-ltb, le-ltb}
@@ -27,7 +27,7 @@ short-cut s k e h = rw (le-ltb (size s) (length s) (rw e at h))
 -- what the answer Whole tells
 pub record IsWhole (s : List ℕ) (k : ℕ) : Type 0 where
   pub test : whole s ≡ true
-  pub counted : k ≡ size s
+  pub size-is : k ≡ size s
   pub inside : k < length s
 
 pub whole-of : (s : List ℕ) (c : Cut) (k : ℕ) → found c ≡ cut s → c ≡ Whole k → IsWhole s k
@@ -37,7 +37,7 @@ whole-of s c k e q = go (whole s) refl (rw q at e)
     go : (b : Bool) → whole s ≡ b → found (Whole k) ≡ record { number = cond b 0 5; size = cond b (size s) 0 } → IsWhole s k
     go true w r =
         let n : k ≡ size s = ap (λ (f : Found). f .size) r in
-        record { test = w; counted = n; inside = omega (arith, ltb-true (size s) (length s) w) }
+        record { test = w; size-is = n; inside = omega (arith, ltb-true (size s) (length s) w) }
     go false w r = let z : _≡_ {A = ℕ} 0 5 = ap (λ (f : Found). f .number) r in absurd (omega arith)
 
 -- what the answer Short tells

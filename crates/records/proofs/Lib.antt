@@ -1,2 +1,2 @@
 pub mod Cuts
-pub mod Shapes
+pub mod Decoding

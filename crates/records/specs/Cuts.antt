@@ -1,9 +1,10 @@
 -- The record that the bytes begin with: cut off, or not there whole (question 5), and then asked and decoded.
 use Prim.Native.Nat.{ℕ, _+_}
-use mathlib.Core.Bool.{Bool, cond}
+use mathlib.Core.Bool.{Bool, _&&_, cond}
 use mathlib.Core.List.{List, [], _∷_}
 use lib.ListN.{length}
-use lib.Dec.{eqb, ltb}
+use lib.Dec.{eqb, leb, ltb}
+use Rattle.model.specs.Tables.{writeKind}
 use Rattle.model.specs.Records.{size, decode}
 use Rattle.model.specs.Questions.{ask, firstNo, recordQuestions}
 use Rattle.records.specs.declared.Cut.{Cut}
@@ -26,6 +27,17 @@ cut s = record { number = firstNo (ask 5 (whole s) ∷ []); size = cond (whole s
 unfoldable pub found : Cut → Found
 found (Whole k) = record { number = 0; size = k }
 found Short = record { number = 5; size = 0 }
+
+-- the last kind, and the bytes of the longest record, a write
+abbrev pub lastKind : ℕ
+lastKind = writeKind
+
+abbrev pub longestRecord : ℕ
+longestRecord = 8
+
+-- question 6, of a record of this kind with n bytes after its length byte
+abbrev pub hasKind : ℕ → ℕ → Bool
+hasKind n k = ltb 0 n && (ltb 0 k && leb k lastKind)
 
 -- the record that the bytes of a file of version v begin with: asked, how many bytes it takes, and decoded
 unfoldable pub recordOf : ℕ → List ℕ → Record

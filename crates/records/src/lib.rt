@@ -5,15 +5,13 @@ use model::Payload;
 use model::Table;
 use model::refusal;
 ghost use mathlib.Core.Path.{_≡_};
-ghost use Prim.Native.Nat.{_<_};
-ghost use mathlib.Core.Bool.{_&&_};
-ghost use lib.Dec.{leb, ltb};
+ghost use Prim.Native.Nat.{_+_, _<_};
 ghost use lib.ListN.{drop};
 ghost use Rattle.model.specs.Records.{byte, word, long, sizeOf, reportClass, reported, decode};
 ghost use Rattle.model.specs.Questions.{firstNo, kindQuestions};
-ghost use Rattle.records.specs.Cuts.{cut, found, recordOf};
+ghost use Rattle.records.specs.Cuts.{cut, found, hasKind, longestRecord, recordOf};
 
-// The record at the head of the bytes is whole, and so many bytes follow its length byte; or it is not.
+// The record at the head of the bytes is whole, and this many bytes follow its length byte; or it is not.
 enum Cut {
     Whole(usize),
     Short,
@@ -48,7 +46,7 @@ fn cut_record(bytes: &[u8]) -> Cut
     Cut::Short
 }
 
-// What is left behind so many bytes; nothing where there are fewer.
+// What is left after that many bytes; nothing where there are fewer.
 pub fn behind(bytes: &[u8], used: usize) -> &[u8]
     ensures { λ r. ⌜ now r ≡ drop used (now (bytes .entry)) ⌝ }
 {
@@ -59,30 +57,41 @@ pub fn behind(bytes: &[u8], used: usize) -> &[u8]
     &bytes[have..]
 }
 
+const HANDOVER: u8 = 3;
+
+const STOP: u8 = 4;
+
+const LAST_KIND: u8 = Payload::WRITE;
+
+// Kinds count from 1, and 0 has a place too.
+const KINDS: usize = LAST_KIND as usize + 1;
+
 // The lengths of the kinds 1 report, 2 sync, 3 handover, 4 stop, 5 local read, 6 write in version 1.
-const SIZES: [usize; 7] = [0, 4, 2, 3, 4, 2, 7];
+const SIZES: [usize; KINDS] = [0, 4, 2, 3, 4, 2, 7];
+
+const CLASSED_REPORT: usize = 5;
 
 // The length of a record of a kind, in files of a version; 0 for what is no kind. A report of version 2 has a class byte more.
 fn size_of_kind(version: usize, kind: u8) -> usize
     ensures { λ r. ⌜ r ≡ sizeOf version kind ⌝ }
 {
     if (version == Table::CLASSED) & (kind == Payload::REPORT) {
-        return 5;
+        return CLASSED_REPORT;
     }
-    if kind < 7 {
+    if kind <= LAST_KIND {
         return SIZES[kind as usize];
     }
     0
 }
 
-// Question 6, of a record of so many bytes: there is a kind, from 1 to 6.
+// Question 6, of a record of this many bytes: there is a kind, from 1 to 6.
 fn has_kind(size: usize, kind: u8) -> bool
-    ensures { λ r. ⌜ r ≡ (ltb 0 size && (ltb 0 kind && leb kind 6)) ⌝ }
+    ensures { λ r. ⌜ r ≡ hasKind size kind ⌝ }
 {
     if size == 0 {
         return false;
     }
-    0 < kind && kind <= 6
+    0 < kind && kind <= LAST_KIND
 }
 
 // The first no of questions 6 and 7.
@@ -102,7 +111,7 @@ fn kind_refusal(version: usize, size: usize, kind: u8) -> u8
 
 // Two bytes, the high one first.
 fn word_at(bytes: &[u8], i: usize) -> u16
-    requires { ⌜ i < 8 ⌝ }
+    requires { ⌜ i < longestRecord ⌝ }
     ensures { λ r. ⌜ r ≡ word (now (bytes .entry)) i ⌝ }
 {
     let high = byte_at(bytes, i) as u16;
@@ -112,7 +121,7 @@ fn word_at(bytes: &[u8], i: usize) -> u16
 
 // Four bytes, the high one first.
 fn long_at(bytes: &[u8], i: usize) -> u32
-    requires { ⌜ i < 6 ⌝ }
+    requires { ⌜ i + 2 < longestRecord ⌝ }
     ensures { λ r. ⌜ r ≡ long (now (bytes .entry)) i ⌝ }
 {
     let high = word_at(bytes, i) as u32;
@@ -130,19 +139,20 @@ fn class_of(version: usize, bytes: &[u8]) -> u8
     0
 }
 
+// Two bytes in two's complement name a number below 0 from here on, and their greatest value is -1.
+const NEGATIVE: u16 = 32768;
+
+const MINUS_ONE: u16 = 65535;
+
 // A report of a class and of the amount that two bytes in two's complement name.
 fn report_of(class: u8, x: u16) -> Payload
     ensures { λ r. ⌜ r ≡ reported class x ⌝ }
 {
-    if x < 32768 {
+    if x < NEGATIVE {
         return Payload::report(class, x, 0);
     }
-    Payload::report(class, 0, 65535 - x + 1)
+    Payload::report(class, 0, MINUS_ONE - x + 1)
 }
-
-const HANDOVER: u8 = 3;
-
-const STOP: u8 = 4;
 
 // What a record of kind 1 to 6 and of that kind's length asks for.
 fn decode_record(version: usize, bytes: &[u8]) -> Command

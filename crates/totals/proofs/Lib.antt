@@ -1,5 +1,4 @@
-pub mod Parts
-pub mod Passing
-pub mod Weights
-pub mod Writing
-pub mod Panels
+pub mod SumsSoFar
+pub mod PastTheArray
+pub mod RegistersSoFar
+pub mod ControllerPanel

@@ -1,10 +1,11 @@
 // What a panel shows, of all messages and of each class, and its registers; and whether a set holds a sync of a controller's own: on every
 // table, what no array holds being zero.
 ghost use mathlib.Core.Path.{_≡_};
-ghost use Rattle.model.specs.Registers.{exceeds, wins, written};
-ghost use Rattle.model.specs.Events.{plus, panelOf, finishes};
-ghost use Rattle.model.specs.Parts.{part};
-ghost use Rattle.totals.specs.Shown.{sumsOf, classesOf, registersOf, shownOf, countedOf, indexOf, largestSum, AtMost};
+ghost use Rattle.lists.specs.Build.{tabulate};
+ghost use Rattle.model.specs.Tables.{classCount, firstOf};
+ghost use Rattle.model.specs.Registers.{exceeds, wins, written, registers};
+ghost use Rattle.model.specs.Events.{plus, sums, classSums, shown, panelOf, finishes};
+ghost use Rattle.totals.specs.Shown.{partsOf, indexOf, largestAmount, largestSum, AtMost};
 use model::Message;
 use model::Panel;
 use model::Payload;
@@ -16,8 +17,8 @@ use model::Table;
 // WHAT A PANEL SHOWS
 
 // The parts of a message's amount, where the flag says that it counts.
-fn counted(flag: u8, p: Payload) -> Sums
-    ensures { λ r. ⌜ (r ≡ countedOf flag p) × AtMost 65535 r ⌝ }
+fn parts_of(flag: u8, p: Payload) -> Sums
+    ensures { λ r. ⌜ (r ≡ partsOf flag p) × AtMost largestAmount r ⌝ }
 {
     if flag == 0 {
         return Sums::zero();
@@ -29,7 +30,7 @@ fn counted(flag: u8, p: Payload) -> Sums
 
 // Each sum with an amount more.
 fn plus(s: Sums, more: Sums) -> Sums
-    requires { ⌜ AtMost largestSum s × AtMost 65535 more ⌝ }
+    requires { ⌜ AtMost largestSum s × AtMost largestAmount more ⌝ }
     ensures { λ r. ⌜ r ≡ plus s more ⌝ }
 {
     Sums {
@@ -38,26 +39,34 @@ fn plus(s: Sums, more: Sums) -> Sums
     }
 }
 
-// The sums over so many messages, of those flagged as applied.
-pub fn sums(count: usize, messages: [Message; 64], applied: [u8; 64]) -> Sums
-    ensures { λ r. ⌜ r ≡ sumsOf count messages applied ⌝ }
+// The sums over the first messages, of those flagged as applied.
+pub fn sums(
+    count: usize,
+    messages: [Message; Table::MESSAGES],
+    applied: [u8; Table::MESSAGES],
+) -> Sums
+    ensures { λ r. ⌜ r ≡ sums (firstOf count messages) applied ⌝ }
 {
     let mut sums = Sums::zero();
     for s in 0..numbers::at_most(count, Table::MESSAGES) {
         let m = messages[s];
-        sums = plus(sums, counted(applied[s], m.payload));
+        sums = plus(sums, parts_of(applied[s], m.payload));
     }
     sums
 }
 
-// The sums of each class, from 0, over so many messages, of those flagged as applied. Above the last class there are none.
-fn classes(count: usize, messages: [Message; 64], applied: [u8; 64]) -> [Sums; 5]
-    ensures { λ r. ⌜ r ≡ classesOf count messages applied ⌝ }
+// The sums of each class, from 0, over the first messages, of those flagged as applied. A class above the last has none.
+fn classes(
+    count: usize,
+    messages: [Message; Table::MESSAGES],
+    applied: [u8; Table::MESSAGES],
+) -> [Sums; Panel::CLASSES]
+    ensures { λ r. ⌜ r ≡ tabulate classCount (classSums (firstOf count messages) applied) ⌝ }
 {
-    let mut sums: [Sums; 5] = [Sums::zero(); Panel::CLASSES];
+    let mut sums: [Sums; Panel::CLASSES] = [Sums::zero(); Panel::CLASSES];
     for s in 0..numbers::at_most(count, Table::MESSAGES) {
         let m = messages[s];
-        let more = counted(applied[s], m.payload);
+        let more = parts_of(applied[s], m.payload);
         let class = m.payload.class as usize;
         if Panel::CLASSES <= class {
             continue;
@@ -105,18 +114,22 @@ fn register_index(flag: u8, p: Payload) -> usize
 {
     let kind = p.kind;
     let reg = p.reg as usize;
-    let i = numbers::index(reg);
+    let i = numbers::predecessor(reg);
     if (0 < flag) & ((kind == Payload::WRITE) & (0 < reg)) {
         return i;
     }
     Panel::REGISTERS
 }
 
-// The registers, from 1, by so many messages, of those flagged as applied.
-pub fn registers(count: usize, messages: [Message; 64], applied: [u8; 64]) -> [Register; 8]
-    ensures { λ r. ⌜ r ≡ registersOf count messages applied ⌝ }
+// The registers, from 1, by the first messages, of those flagged as applied.
+pub fn registers(
+    count: usize,
+    messages: [Message; Table::MESSAGES],
+    applied: [u8; Table::MESSAGES],
+) -> [Register; Panel::REGISTERS]
+    ensures { λ r. ⌜ r ≡ registers (firstOf count messages) applied ⌝ }
 {
-    let mut registers: [Register; 8] = [Register::zero(); Panel::REGISTERS];
+    let mut registers: [Register; Panel::REGISTERS] = [Register::zero(); Panel::REGISTERS];
     for s in 0..numbers::at_most(count, Table::MESSAGES) {
         let m = messages[s];
         let i = register_index(applied[s], m.payload);
@@ -128,9 +141,13 @@ pub fn registers(count: usize, messages: [Message; 64], applied: [u8; 64]) -> [R
     registers
 }
 
-// The panel of a controller that has applied so, of so many messages.
-pub fn shown(count: usize, messages: [Message; 64], applied: [u8; 64]) -> Panel
-    ensures { λ r. ⌜ r ≡ shownOf count messages applied ⌝ }
+// The panel of a controller that has applied what is flagged, of the first messages.
+pub fn shown(
+    count: usize,
+    messages: [Message; Table::MESSAGES],
+    applied: [u8; Table::MESSAGES],
+) -> Panel
+    ensures { λ r. ⌜ r ≡ shown (firstOf count messages) applied ⌝ }
 {
     Panel {
         sums: sums(count, messages, applied),
@@ -144,9 +161,9 @@ pub fn panel(t: Table, c: usize) -> Panel
     ensures { λ r. ⌜ r ≡ panelOf t c ⌝ }
 {
     let messages = t.messages;
-    let i = numbers::index(c);
+    let i = numbers::predecessor(c);
     if Table::CONTROLLERS <= i {
-        return shown(0, messages, [0; 64]);
+        return shown(0, messages, [0; Table::MESSAGES]);
     }
     let x = t.controllers[i];
     let applied = x.applied;
@@ -156,8 +173,13 @@ pub fn panel(t: Table, c: usize) -> Panel
 // A FINISHED SYNC
 
 // Whether a sync of c is among the members.
-pub fn finishes(count: usize, messages: [Message; 64], members: [bool; 64], c: u8) -> bool
-    ensures { λ r. ⌜ r ≡ finishes (part 0 0 count messages) members c ⌝ }
+pub fn finishes(
+    count: usize,
+    messages: [Message; Table::MESSAGES],
+    members: [bool; Table::MESSAGES],
+    c: u8,
+) -> bool
+    ensures { λ r. ⌜ r ≡ finishes (firstOf count messages) members c ⌝ }
 {
     for s in 0..numbers::at_most(count, Table::MESSAGES) {
         let kind = messages[s].payload.kind;

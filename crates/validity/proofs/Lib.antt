@@ -1,8 +1,8 @@
-pub mod Flags
-pub mod Messages
-pub mod Writes
-pub mod Logs
-pub mod Marks
-pub mod Buffers
-pub mod Numbers
-pub mod Controllers
+pub mod SeenFlags
+pub mod DistinctNames
+pub mod WriteStamps
+pub mod LogEntries
+pub mod AllowedMarks
+pub mod SlotTests
+pub mod GreatestNumbers
+pub mod ControllerTests

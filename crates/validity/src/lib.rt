@@ -2,17 +2,16 @@
 // into flags, so that no clause searches; a name, a stamp, a log entry and a sender each have a flag or a number of their own.
 ghost use mathlib.Core.Path.{_≡_};
 ghost use mathlib.Core.Bool.{_&&_, cond};
-ghost use mathlib.Core.List.{[]};
 ghost use Prim.Native.Nat.{suc, _+_, _≤_};
 ghost use lib.ListN.{getD};
 ghost use lib.Dec.{eqb, leb};
 ghost use Rattle.lists.specs.Below.{all, distinct};
 ghost use Rattle.lists.specs.Build.{tabulate};
-ghost use Rattle.model.specs.Tables.{none, noMessage, noController, yes?};
-ghost use Rattle.model.specs.WellFormed.{fairDate, sameStamp, goodMessage, goodMessages, goodMark, wellFormed};
-ghost use Rattle.model.specs.Parts.{part, whole};
+ghost use Rattle.model.specs.Tables.{seats, capacity, none, noMessage, noController, yes?, firstOf};
+ghost use Rattle.model.specs.Fair.{fairDate};
+ghost use Rattle.model.specs.WellFormed.{sameStamp, goodMessage, goodMessages, goodMark, wellFormed};
 ghost use Rattle.validity.specs.Parts.{keepsOwn, goodAlone, goodWith};
-ghost use Rattle.validity.specs.Flags.{AllBounded, ReadsWrites, ownTest, ReadsLog, goodEntry, ReadsBuffer, goodSlot, slotTest, Named, Seated, greatestOf};
+ghost use Rattle.validity.specs.Flags.{AllBounded, ReadsWrites, ownTest, ReadsLog, allowedMarks, goodEntry, ReadsBuffer, goodSlot, slotTest, NamesOf, Seated, senderCount, greatestOf};
 use model::Controller;
 use model::ForwardNumber;
 use model::Message;
@@ -27,7 +26,7 @@ use model::Table;
 
 // A write has a date from 1 to the count of messages; every other message has none.
 fn fair_date(count: usize, m: Message) -> bool
-    ensures { λ r. ⌜ r ≡ fairDate (part 0 0 count []) m ⌝ }
+    ensures { λ r. ⌜ r ≡ fairDate count m ⌝ }
 {
     let kind = m.payload.kind;
     let date = m.date as usize;
@@ -38,12 +37,12 @@ fn fair_date(count: usize, m: Message) -> bool
 }
 
 fn good_message(version: usize, n: usize, count: usize, m: Message) -> bool
-    ensures { λ r. ⌜ r ≡ goodMessage (part version n count []) m ⌝ }
+    ensures { λ r. ⌜ r ≡ goodMessage version n count m ⌝ }
 {
     let number = m.number.0 as usize;
     let named = (0 < m.sender) & ((m.sender as usize) <= n);
     let write = Payload::fair_register(m.payload) & fair_date(count, m);
-    let fair = Payload::fair(m.payload) & (Payload::fair_class(version, m.payload) & write);
+    let fair = Payload::fair_amount(m.payload) & (Payload::fair_class(version, m.payload) & write);
     named & ((0 < number) & ((number <= Table::MESSAGES) & fair))
 }
 
@@ -55,9 +54,14 @@ const NUMBERS: usize = Table::MESSAGES + 1;
 // A name has a code of its own, below this.
 const CODES: usize = SENDERS * NUMBERS;
 
-fn good_messages(version: usize, n: usize, count: usize, messages: [Message; 64]) -> bool
-    requires { ⌜ (n ≤ 7) × (count ≤ 64) ⌝ }
-    ensures { λ r. ⌜ r ≡ goodMessages (part version n count messages) ⌝ }
+fn good_messages(
+    version: usize,
+    n: usize,
+    count: usize,
+    messages: [Message; Table::MESSAGES],
+) -> bool
+    requires { ⌜ (n ≤ seats) × (count ≤ capacity) ⌝ }
+    ensures { λ r. ⌜ r ≡ goodMessages version n (firstOf count messages) ⌝ }
 {
     let mut seen = [false; CODES];
     for s in 0..count {
@@ -83,8 +87,8 @@ const REGISTERS: usize = Panel::REGISTERS + 1;
 const STAMPS: usize = SENDERS * REGISTERS * NUMBERS;
 
 // No two writes of one sender and register have the same date.
-fn each_write(count: usize, messages: [Message; 64]) -> bool
-    requires { ⌜ (count ≤ 64) × AllBounded count messages ⌝ }
+fn each_write(count: usize, messages: [Message; Table::MESSAGES]) -> bool
+    requires { ⌜ (count ≤ capacity) × AllBounded count messages ⌝ }
     ensures { λ r. ⌜ r ≡ distinct count (λ i j. sameStamp (getD messages i noMessage) (getD messages j noMessage)) ⌝ }
 {
     let mut stamps = [false; STAMPS];
@@ -104,19 +108,20 @@ fn each_write(count: usize, messages: [Message; 64]) -> bool
     true
 }
 
-// Whether that is so; for each slot the sender of the write that is there, 0 where there is none; and where the slots with a write end.
+// Whether no two writes have the same stamp; for each slot the sender of its write, 0 where there is none; and where the slots with a
+// write end.
 struct WritesRead {
     good: bool,
     end: usize,
-    senders: [u8; 64],
+    senders: [u8; Table::MESSAGES],
 }
 
 // Dates are looked at only where there is a write.
-fn read_writes(count: usize, messages: [Message; 64]) -> WritesRead
-    requires { ⌜ (count ≤ 64) × AllBounded count messages ⌝ }
+fn read_writes(count: usize, messages: [Message; Table::MESSAGES]) -> WritesRead
+    requires { ⌜ (count ≤ capacity) × AllBounded count messages ⌝ }
     ensures { λ r. ⌜ ReadsWrites count messages r ⌝ }
 {
-    let mut senders: [u8; 64] = [0; Table::MESSAGES];
+    let mut senders: [u8; Table::MESSAGES] = [0; Table::MESSAGES];
     let mut end: usize = 0;
     for s in 0..count {
         let m = messages[s];
@@ -143,10 +148,10 @@ fn own_kept(
     writes: WritesRead,
     who: usize,
     running: bool,
-    held: [bool; 64],
-    applied: [u8; 64],
+    held: [bool; Table::MESSAGES],
+    applied: [u8; Table::MESSAGES],
 ) -> bool
-    requires { ⌜ writes .end ≤ 64 ⌝ }
+    requires { ⌜ writes .end ≤ capacity ⌝ }
     ensures { λ r. ⌜ r ≡ all (writes .end) (ownTest (writes .senders) who running held applied) ⌝ }
 {
     let end = writes.end;
@@ -162,32 +167,42 @@ fn own_kept(
 
 // LOGS
 
-// Whether the entries of a log are good, and then which slots it names.
+// Whether the entries of a log are good, and then which slots are logged.
 struct LogRead {
     good: bool,
-    named: [bool; 64],
+    logged: [bool; Table::MESSAGES],
 }
 
-fn read_log(count: usize, length: usize, log: [u8; 64]) -> LogRead
-    requires { ⌜ (count ≤ 64) × (length ≤ 64) ⌝ }
+fn read_log(count: usize, length: usize, log: [u8; Table::MESSAGES]) -> LogRead
+    requires { ⌜ (count ≤ capacity) × (length ≤ capacity) ⌝ }
     ensures { λ r. ⌜ ReadsLog count length log r ⌝ }
 {
-    let mut named = [false; Table::MESSAGES];
+    let mut logged = [false; Table::MESSAGES];
     for k in 0..length {
         let slot = log[k] as usize;
         if count <= slot {
-            return LogRead { good: false, named };
+            return LogRead {
+                good: false,
+                logged,
+            };
         }
-        if named[slot] {
-            return LogRead { good: false, named };
+        if logged[slot] {
+            return LogRead {
+                good: false,
+                logged,
+            };
         }
-        named[slot] = true;
+        logged[slot] = true;
     }
-    LogRead { good: true, named }
+    LogRead { good: true, logged }
 }
 
-fn good_places(n: usize, read: [usize; 7], ends: [usize; 7]) -> bool
-    requires { ⌜ n ≤ 7 ⌝ }
+fn good_places(
+    n: usize,
+    read: [usize; Table::CONTROLLERS],
+    ends: [usize; Table::CONTROLLERS],
+) -> bool
+    requires { ⌜ n ≤ seats ⌝ }
     ensures { λ r. ⌜ r ≡ all n (λ o. leb (getD read o 0) (getD ends o 0)) ⌝ }
 {
     let mut good = true;
@@ -204,8 +219,8 @@ fn good_places(n: usize, read: [usize; 7], ends: [usize; 7]) -> bool
 const BYTES: usize = 256;
 
 // For each byte whether it is a good mark: a look is quicker than the comparisons, seven for each pending message.
-fn allowed_marks() -> [bool; 256]
-    ensures { λ r. ⌜ r ≡ tabulate 256 goodMark ⌝ }
+fn allowed_marks() -> [bool; BYTES]
+    ensures { λ r. ⌜ r ≡ allowedMarks ⌝ }
 {
     let mut allowed = [false; BYTES];
     allowed[ForwardNumber::ABSENT as usize] = true;
@@ -215,8 +230,8 @@ fn allowed_marks() -> [bool; 256]
     allowed
 }
 
-fn good_mark(allowed: &[bool; 256], k: u8) -> bool
-    requires { ⌜ now allowed ≡ tabulate 256 goodMark ⌝ }
+fn good_mark(allowed: &[bool; BYTES], k: u8) -> bool
+    requires { ⌜ now allowed ≡ allowedMarks ⌝ }
     ensures { λ r. ⌜ r ≡ goodMark k ⌝ }
 {
     let index = k as usize;
@@ -224,8 +239,8 @@ fn good_mark(allowed: &[bool; 256], k: u8) -> bool
 }
 
 // The marks of a message that is not in the buffer are not read.
-fn good_entry(n: usize, allowed: &[bool; 256], p: Pending) -> bool
-    requires { ⌜ (n ≤ 7) × (now allowed ≡ tabulate 256 goodMark) ⌝ }
+fn good_entry(n: usize, allowed: &[bool; BYTES], p: Pending) -> bool
+    requires { ⌜ (n ≤ seats) × (now allowed ≡ allowedMarks) ⌝ }
     ensures { λ r. ⌜ r ≡ goodEntry n p ⌝ }
 {
     let held = p.held;
@@ -243,11 +258,11 @@ fn good_entry(n: usize, allowed: &[bool; 256], p: Pending) -> bool
 // Whether the entries of a buffer are good, and which slots are in it.
 struct BufferRead {
     good: bool,
-    held: [bool; 64],
+    held: [bool; Table::MESSAGES],
 }
 
-fn read_buffer(n: usize, allowed: &[bool; 256], pending: [Pending; 64]) -> BufferRead
-    requires { ⌜ (n ≤ 7) × (now allowed ≡ tabulate 256 goodMark) ⌝ }
+fn read_buffer(n: usize, allowed: &[bool; BYTES], pending: [Pending; Table::MESSAGES]) -> BufferRead
+    requires { ⌜ (n ≤ seats) × (now allowed ≡ allowedMarks) ⌝ }
     ensures { λ r. ⌜ ReadsBuffer n pending r ⌝ }
 {
     let mut held = [false; Table::MESSAGES];
@@ -261,38 +276,38 @@ fn read_buffer(n: usize, allowed: &[bool; 256], pending: [Pending; 64]) -> Buffe
 }
 
 // A slot is pending or applied and not both, only if it is of the run, and of a running controller's slots exactly those
-// are that its log names.
-fn good_slot(inside: bool, running: bool, held: bool, done: bool, named: bool) -> bool
-    ensures { λ r. ⌜ r ≡ goodSlot inside running held done named ⌝ }
+// that are logged.
+fn good_slot(inside: bool, running: bool, held: bool, done: bool, logged: bool) -> bool
+    ensures { λ r. ⌜ r ≡ goodSlot inside running held done logged ⌝ }
 {
     let known = held | done;
-    let exact = (named & known) | (!named & !known);
+    let exact = (logged & known) | (!logged & !known);
     !(held & done) & ((inside | !known) & (!running | exact))
 }
 
 fn good_slots(
     count: usize,
     running: bool,
-    held: [bool; 64],
-    applied: [u8; 64],
-    named: [bool; 64],
+    held: [bool; Table::MESSAGES],
+    applied: [u8; Table::MESSAGES],
+    logged: [bool; Table::MESSAGES],
 ) -> bool
-    ensures { λ r. ⌜ r ≡ all 64 (slotTest count running held applied named) ⌝ }
+    ensures { λ r. ⌜ r ≡ all capacity (slotTest count running held applied logged) ⌝ }
 {
     let mut good = true;
     for s in 0..Table::MESSAGES {
         let done = 0 < applied[s];
-        good = good_slot(s < count, running, held[s], done, named[s]) & good;
+        good = good_slot(s < count, running, held[s], done, logged[s]) & good;
     }
     good
 }
 
 // NUMBERS
 
-// The names of so many messages. What is handed on for each controller is copied each time, and names are an eighth of the messages.
-fn names(count: usize, messages: [Message; 64]) -> [Name; 64]
-    requires { ⌜ count ≤ 64 ⌝ }
-    ensures { λ r. ⌜ Named count messages r ⌝ }
+// The names of the first messages. What is handed on for each controller is copied each time, and names are an eighth of the messages.
+fn names(count: usize, messages: [Message; Table::MESSAGES]) -> [Name; Table::MESSAGES]
+    requires { ⌜ count ≤ capacity ⌝ }
+    ensures { λ r. ⌜ NamesOf count messages r ⌝ }
 {
     let none = Name {
         sender: 0,
@@ -317,11 +332,15 @@ fn number_if(flag: u8, m: Name) -> u8
 }
 
 // For each sender the greatest number among the messages that are flagged.
-fn greatest_numbers(count: usize, names: [Name; 64], flags: [u8; 64]) -> [u8; 8]
-    requires { ⌜ (count ≤ 64) × Seated count names ⌝ }
-    ensures { λ r. ⌜ r ≡ tabulate 8 (greatestOf count names flags) ⌝ }
+fn greatest_numbers(
+    count: usize,
+    names: [Name; Table::MESSAGES],
+    flags: [u8; Table::MESSAGES],
+) -> [u8; SENDERS]
+    requires { ⌜ (count ≤ capacity) × Seated count names ⌝ }
+    ensures { λ r. ⌜ r ≡ tabulate senderCount (greatestOf count names flags) ⌝ }
 {
-    let mut greatest: [u8; 8] = [0; SENDERS];
+    let mut greatest: [u8; SENDERS] = [0; SENDERS];
     for s in 0..count {
         let m = names[s];
         let sender = m.sender as usize;
@@ -331,8 +350,12 @@ fn greatest_numbers(count: usize, names: [Name; 64], flags: [u8; 64]) -> [u8; 8]
     greatest
 }
 
-fn good_highest(n: usize, highest: [MessageNumber; 7], greatest: [u8; 8]) -> bool
-    requires { ⌜ n ≤ 7 ⌝ }
+fn good_highest(
+    n: usize,
+    highest: [MessageNumber; Table::CONTROLLERS],
+    greatest: [u8; SENDERS],
+) -> bool
+    requires { ⌜ n ≤ seats ⌝ }
     ensures { λ r. ⌜ r ≡ all n (λ x. eqb (getD highest x none .0) (getD greatest (x + 1) 0)) ⌝ }
 {
     let mut good = true;
@@ -349,15 +372,15 @@ fn good_highest(n: usize, highest: [MessageNumber; 7], greatest: [u8; 8]) -> boo
 fn good_controller(
     n: usize,
     count: usize,
-    names: [Name; 64],
-    allowed: &[bool; 256],
+    names: [Name; Table::MESSAGES],
+    allowed: &[bool; BYTES],
     sent: u8,
     writes: WritesRead,
     who: usize,
     c: Controller,
 ) -> bool
-    requires { ⌜ (n ≤ 7) × (count ≤ 64) × Seated count names × (now allowed ≡ tabulate 256 goodMark) × (writes .end ≤ 64) ⌝ }
-    ensures { λ r. ⌜ r ≡ (goodAlone (part 0 n count []) names sent c && keepsOwn (writes .end) (writes .senders) who c) ⌝ }
+    requires { ⌜ (n ≤ seats) × (count ≤ capacity) × Seated count names × (now allowed ≡ allowedMarks) × (writes .end ≤ capacity) ⌝ }
+    ensures { λ r. ⌜ r ≡ (goodAlone n count names sent c && keepsOwn (writes .end) (writes .senders) who c) ⌝ }
 {
     let length = c.length;
     if Table::MESSAGES < length {
@@ -375,17 +398,17 @@ fn good_controller(
     let buffer = read_buffer(n, allowed, pending);
     let greatest = greatest_numbers(count, names, applied);
     let held = buffer.held;
-    let named = entries.named;
-    let slots = good_slots(count, running, held, applied, named);
+    let logged = entries.logged;
+    let slots = good_slots(count, running, held, applied, logged);
     let long = !running | ((sent as usize) <= length);
     let kept = own_kept(writes, who, running, held, applied);
     ((buffer.good & slots) & (good_highest(n, highest, greatest) & long)) & kept
 }
 
-fn lengths(controllers: [Controller; 7]) -> [usize; 7]
-    ensures { λ r. ⌜ r ≡ tabulate 7 (λ o. getD controllers o noController .length) ⌝ }
+fn lengths(controllers: [Controller; Table::CONTROLLERS]) -> [usize; Table::CONTROLLERS]
+    ensures { λ r. ⌜ r ≡ tabulate seats (λ o. getD controllers o noController .length) ⌝ }
 {
-    let mut lengths: [usize; 7] = [0; Table::CONTROLLERS];
+    let mut lengths: [usize; Table::CONTROLLERS] = [0; Table::CONTROLLERS];
     for o in 0..Table::CONTROLLERS {
         let c = controllers[o];
         lengths[o] = c.length;
@@ -396,24 +419,24 @@ fn lengths(controllers: [Controller; 7]) -> [usize; 7]
 fn each_controller(
     n: usize,
     count: usize,
-    messages: [Message; 64],
+    messages: [Message; Table::MESSAGES],
     writes: WritesRead,
-    controllers: [Controller; 7],
+    controllers: [Controller; Table::CONTROLLERS],
 ) -> bool
-    requires { ⌜ (n ≤ 7) × (count ≤ 64) × AllBounded count messages × (writes .end ≤ 64) ⌝ }
-    ensures { λ r. ⌜ r ≡ all n (λ i. goodWith (whole 0 n count messages controllers) (writes .end) (writes .senders) (suc i)) ⌝ }
+    requires { ⌜ (n ≤ seats) × (count ≤ capacity) × AllBounded count messages × (writes .end ≤ capacity) ⌝ }
+    ensures { λ r. ⌜ r ≡ all n (λ i. goodWith n (firstOf count messages) controllers (writes .end) (writes .senders) (suc i)) ⌝ }
 {
     let ends = lengths(controllers);
-    let named = names(count, messages);
-    let every: [u8; 64] = [1; Table::MESSAGES];
-    let sent = greatest_numbers(count, named, every);
+    let all_names = names(count, messages);
+    let every: [u8; Table::MESSAGES] = [1; Table::MESSAGES];
+    let sent = greatest_numbers(count, all_names, every);
     let allowed = allowed_marks();
     for i in 0..n {
         let c = controllers[i];
         let read = c.read;
         let places = good_places(n, read, ends);
         let who = i + 1;
-        if !(places & good_controller(n, count, named, &allowed, sent[who], writes, who, c)) {
+        if !(places & good_controller(n, count, all_names, &allowed, sent[who], writes, who, c)) {
             return false;
         }
     }

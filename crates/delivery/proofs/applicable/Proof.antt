@@ -1,16 +1,12 @@
 -- `applicable` finds the set: by the candidates alone, or by the matrix and the removals. Assumes nothing.
-use mathlib.Core.Path.{_≡_, refl}
-use Prim.Native.Nat.{_≤_}
+use mathlib.Core.Path.{refl}
 use native.Mathlib.Omega.{arith}
-use denote.Ref.{now}
-use lib.ListN.{length}
-use Rattle.delivery.specs.Apply.{Listed}
-use Rattle.delivery.proofs.Removal.{removable, matrix-applicable, candidates-applicable}
+use Rattle.delivery.proofs.LargestByRemoval.{removable, matrix-applicable, candidates-applicable}
 use borrow.Author.Needs.{needs}
 use Rattle.delivery.proofs.applicable.Statement.{statement}
 use Rattle.delivery.proofs.applicable.Tie as tie
 
--- PLACES: from behind the matrix to the candidates, from there to the list, and to the start
+-- PLACES: from after the matrix to the candidates, from there to the list, and to the start
 abbrev filled : tie.After-settle-arg → tie.After-fill
 filled c = c .before .before .before
 
@@ -23,28 +19,16 @@ listed c = c .before .before
 abbrev start : tie.After-held-slots → tie.Start
 start c = c .before .before
 
-held-slots-requires : tie.Need-held-slots-requires
-held-slots-requires c κs = search needs
-
-candidates-requires : tie.Need-candidates-requires
-candidates-requires c κs = search needs
-
 returns : tie.Need-returns
 returns c =
     let k = c .before .before in
     record { set = candidates-applicable _ _ _ _ (listed k .held-slots .ensures) _ (k .candidates .ensures) (c .if1 .taken); size = refl; behind = λ x h. refl }
-
-fill-requires : tie.Need-fill-requires
-fill-requires c κs = search needs
 
 settle-requires : tie.Need-settle-requires
 settle-requires c κs =
     let f = filled c in
     let k = chosen f in
     removable _ _ _ _ (listed k .held-slots .ensures) _ (k .candidates .ensures) _ (omega (arith, start (listed k) .pre, f .fill .ensures .size))
-
-same-length : tie.Need-same-length
-same-length c = search needs
 
 returns-2 : tie.Need-returns-2
 returns-2 c =
@@ -57,10 +41,10 @@ pub applicable-spec : {M : Type 1} → statement M
 applicable-spec =
     tie.close
     (tie.spec
-    held-slots-requires
-    candidates-requires
+    (λ c κs. search needs)
+    (λ c κs. search needs)
     returns
-    fill-requires
+    (λ c κs. search needs)
     settle-requires
-    same-length
+    (λ c. search needs)
     returns-2)

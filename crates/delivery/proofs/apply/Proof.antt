@@ -1,11 +1,10 @@
 -- `apply` answers and leaves what specs/Apply.antt says, whatever the length of the scratch area. Assumes nothing.
-use native.Mathlib.Omega.{arith}
-use Rattle.delivery.proofs.Answer.{applied-with-room, applied-without-room}
+use Rattle.delivery.proofs.ApplyAnswer.{applied-with-room, applied-without-room}
 use borrow.Author.Needs.{needs}
 use Rattle.delivery.proofs.apply.Statement.{statement}
 use Rattle.delivery.proofs.apply.Tie as tie
 
--- PLACES: from the end to behind the clearing, and from there to behind the set
+-- PLACES: from the end to after the clearing, and from there to after the set
 abbrev cleared : tie.After-slice-known3 → tie.After-clear
 cleared c = c .before .before
 
@@ -15,15 +14,6 @@ found c = c .before .before .before .before
 returns : tie.Need-returns
 returns c = applied-without-room _ _ _ (c .if1 .taken)
 
-applicable-requires : tie.Need-applicable-requires
-applicable-requires c κs = search needs
-
-clear-requires : tie.Need-clear-requires
-clear-requires c κs = search needs
-
-same-length : tie.Need-same-length
-same-length c = search needs
-
 returns-2 : tie.Need-returns-2
 returns-2 c =
     let k = cleared c in
@@ -31,4 +21,4 @@ returns-2 c =
     applied-with-room _ _ _ _ _ _ (f .before .before .if1 .left) (f .applicable .ensures) (k .clear .ensures)
 
 pub apply-spec : {M : Type 1} → statement M
-apply-spec = tie.close (tie.spec returns applicable-requires clear-requires same-length returns-2)
+apply-spec = tie.close (tie.spec returns (λ c κs. search needs) (λ c κs. search needs) (λ c. search needs) returns-2)

@@ -3,14 +3,8 @@ use borrow.Author.Needs.{needs}
 use Rattle.delivery.proofs.bars.Statement.{statement}
 use Rattle.delivery.proofs.bars.Tie as tie
 
-returns : tie.Need-returns
-returns c = search needs
-
-shared-slice-read-result : tie.Need-shared-slice-read-result
-shared-slice-read-result c = search needs
-
 returns-2 : tie.Need-returns-2
 returns-2 c = rw (c .before .if1 .left)
 
 pub bars-spec : {M : Type 1} → statement M
-bars-spec = tie.close (tie.spec returns shared-slice-read-result returns-2)
+bars-spec = tie.close (tie.spec (λ c. search needs) (λ c. search needs) returns-2)

@@ -5,7 +5,8 @@ use Prim.Native.Nat.{ℕ, _-_, _≤_, _<_}
 use native.Mathlib.Omega.{arith}
 use lib.ListN.{getD}
 use lib.Dec.{leb}
-use Rattle.delivery.proofs.Listing.{Choosing, choosing-start, choosing-few, choosing-turn, choosing-end}
+use Rattle.model.specs.Tables.{capacity}
+use Rattle.delivery.proofs.HeldSlots.{Choosing, choosing-start, choosing-few, choosing-turn, choosing-end}
 use borrow.Author.Needs.{needs}
 use Rattle.delivery.proofs.candidates.Statement.{statement}
 use Rattle.delivery.proofs.candidates.Tie as tie
@@ -16,7 +17,7 @@ Inv-loop n size pending slots m members₀ count₀ k₀ members count k = (k �
 abbrev μ-loop : tie.MeasureT-loop
 μ-loop n size pending slots m members₀ count₀ k₀ members count k = size - k
 
--- PLACES: from a turn to the start, and from behind its count of marks to the turn
+-- PLACES: from a turn to the start, and from after its count of marks to the turn
 abbrev start : tie.At-loop Inv-loop μ-loop → tie.Start Inv-loop μ-loop
 start c = c .before .before
 
@@ -26,43 +27,13 @@ slots c = c .args .t4
 abbrev turn : tie.After-mark-count Inv-loop μ-loop → tie.In-loop Inv-loop μ-loop
 turn c = c .before .before
 
-slot-below : (c : tie.In-loop Inv-loop μ-loop) → getD (slots (start (c .before))) (c .before .loop .k) 0 < 64
+slot-below : (c : tie.In-loop Inv-loop μ-loop) → getD (slots (start (c .before))) (c .before .loop .k) 0 < capacity
 slot-below c = start (c .before) .pre .below _ (omega arith)
-
-majority-requires : tie.Need-majority-requires Inv-loop μ-loop
-majority-requires c κs = search needs
-
-loop-holds : tie.Need-loop-holds Inv-loop μ-loop
-loop-holds c = (search needs, choosing-start _ _ _)
-
-array-read-s : tie.Need-array-read-s Inv-loop μ-loop
-array-read-s c = search needs
-
-cast-s : tie.Need-cast-s Inv-loop μ-loop
-cast-s c = search needs
-
-mul-mark-count : tie.Need-mul-mark-count Inv-loop μ-loop
-mul-mark-count c = let h = slot-below c in search needs
-
-array-copy-out-mark-count : tie.Need-array-copy-out-mark-count Inv-loop μ-loop
-array-copy-out-mark-count c = let h = slot-below c in search needs
-
-mark-count-requires : tie.Need-mark-count-requires Inv-loop μ-loop
-mark-count-requires c κs = search needs
-
-array-write-members : tie.Need-array-write-members Inv-loop μ-loop
-array-write-members c = let h = slot-below (turn c) in search needs
 
 tallied-requires : tie.Need-tallied-requires Inv-loop μ-loop
 tallied-requires c κs =
     let t = turn c .before in
     omega (arith, start t .pre .few, choosing-few _ _ _ _ _ _ (t .loop .inv .1))
-
-add-k : tie.Need-add-k Inv-loop μ-loop
-add-k c = search needs
-
-loop-less : tie.Need-loop-less Inv-loop μ-loop
-loop-less c = search needs
 
 loop-again : tie.Need-loop-again Inv-loop μ-loop
 loop-again c =
@@ -81,16 +52,16 @@ candidates-spec =
     (tie.spec
     Inv-loop
     μ-loop
-    majority-requires
-    loop-holds
-    array-read-s
-    cast-s
-    mul-mark-count
-    array-copy-out-mark-count
-    mark-count-requires
-    array-write-members
+    (λ c κs. search needs)
+    (λ c. (search needs, choosing-start _ _ _))
+    (λ c. search needs)
+    (λ c. search needs)
+    (λ c. let h = slot-below c in search needs)
+    (λ c. let h = slot-below c in search needs)
+    (λ c κs. search needs)
+    (λ c. let h = slot-below (turn c) in search needs)
     tallied-requires
-    add-k
-    loop-less
+    (λ c. search needs)
+    (λ c. search needs)
     loop-again
     returns)

@@ -6,7 +6,7 @@ use lib.ListN.{length, length-set}
 use Rattle.lists.specs.Build.{over}
 use Rattle.lists.proofs.Build.{over-none, over-more}
 use borrow.Author.Needs.{needs}
-use Rattle.delivery.proofs.Matrix.{cleared-all}
+use Rattle.delivery.proofs.ScratchMatrix.{cleared-all}
 use Rattle.delivery.proofs.clear.Statement.{statement}
 use Rattle.delivery.proofs.clear.Tie as tie
 
@@ -16,26 +16,8 @@ Inv-loop scratch₀ end k₀ scratch k = (k ≤ end) × (length scratch ≡ leng
 abbrev μ-loop : tie.MeasureT-loop
 μ-loop scratch₀ end k₀ scratch k = end - k
 
-at-most-requires : tie.Need-at-most-requires Inv-loop μ-loop
-at-most-requires c κs = search needs
-
-loop-holds : tie.Need-loop-holds Inv-loop μ-loop
-loop-holds c = (search needs, refl, sym (over-none _ _))
-
-slice-write-scratch : tie.Need-slice-write-scratch Inv-loop μ-loop
-slice-write-scratch c = search needs
-
-add-k : tie.Need-add-k Inv-loop μ-loop
-add-k c = search needs
-
-loop-less : tie.Need-loop-less Inv-loop μ-loop
-loop-less c = search needs
-
 loop-again : tie.Need-loop-again Inv-loop μ-loop
 loop-again c = (search needs, simp length-set (omega arith), over-more _ _ _ _ _ (c .before .loop .inv .2) refl)
-
-same-length : tie.Need-same-length Inv-loop μ-loop
-same-length c = search needs
 
 returns : tie.Need-returns Inv-loop μ-loop
 returns c = cleared-all _ _ (c .before .loop .k) (omega arith) (c .before .loop .inv .2)
@@ -46,11 +28,11 @@ clear-spec =
     (tie.spec
     Inv-loop
     μ-loop
-    at-most-requires
-    loop-holds
-    slice-write-scratch
-    add-k
-    loop-less
+    (λ c κs. search needs)
+    (λ c. (search needs, refl, sym (over-none _ _)))
+    (λ c. search needs)
+    (λ c. search needs)
+    (λ c. search needs)
     loop-again
-    same-length
+    (λ c. search needs)
     returns)

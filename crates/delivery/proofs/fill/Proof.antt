@@ -5,8 +5,9 @@ use mathlib.Core.List.{List}
 use Prim.Native.Nat.{ℕ, _-_, _≤_, _<_}
 use native.Mathlib.Omega.{arith}
 use lib.ListN.{getD}
+use Rattle.model.specs.Tables.{capacity}
 use Rattle.delivery.specs.Apply.{RowsFilled}
-use Rattle.delivery.proofs.Matrix.{rows-start, rows-stored, rows-skipped}
+use Rattle.delivery.proofs.ScratchMatrix.{rows-start, rows-stored, rows-skipped}
 use borrow.Author.Needs.{needs}
 use Rattle.delivery.proofs.fill.Statement.{statement}
 use Rattle.delivery.proofs.fill.Tie as tie
@@ -24,32 +25,11 @@ start c = c .before .before .before
 abbrev slots : tie.Start Inv-loop μ-loop → List ℕ
 slots c = c .args .t4
 
-slot-below : (c : tie.In-loop Inv-loop μ-loop) → getD (slots (start (c .before))) (c .before .loop .k) 0 < 64
+slot-below : (c : tie.In-loop Inv-loop μ-loop) → getD (slots (start (c .before))) (c .before .loop .k) 0 < capacity
 slot-below c = start (c .before) .pre .1 .below _ (omega arith)
-
-majority-requires : tie.Need-majority-requires Inv-loop μ-loop
-majority-requires c κs = search needs
-
-loop-holds : tie.Need-loop-holds Inv-loop μ-loop
-loop-holds c = (search needs, rows-start _ _ _ _ _)
-
-array-read-s : tie.Need-array-read-s Inv-loop μ-loop
-array-read-s c = search needs
-
-cast-s : tie.Need-cast-s Inv-loop μ-loop
-cast-s c = search needs
-
-array-read-if1 : tie.Need-array-read-if1 Inv-loop μ-loop
-array-read-if1 c = let h = slot-below c in search needs
 
 fill-row-requires : tie.Need-fill-row-requires Inv-loop μ-loop
 fill-row-requires c κs = (search needs, search needs, slot-below (c .before .before), search needs)
-
-add-k : tie.Need-add-k Inv-loop μ-loop
-add-k c = search needs
-
-loop-less : tie.Need-loop-less Inv-loop μ-loop
-loop-less c = search needs
 
 loop-again : tie.Need-loop-again Inv-loop μ-loop
 loop-again c =
@@ -61,9 +41,6 @@ loop-again c =
           (c .if1 .came),
     )
 
-same-length : tie.Need-same-length Inv-loop μ-loop
-same-length c = search needs
-
 returns : tie.Need-returns Inv-loop μ-loop
 returns c = let e : c .before .loop .k ≡ start (c .before) .args .size = omega arith in rw e at (c .before .loop .inv .1)
 
@@ -73,14 +50,14 @@ fill-spec =
     (tie.spec
     Inv-loop
     μ-loop
-    majority-requires
-    loop-holds
-    array-read-s
-    cast-s
-    array-read-if1
+    (λ c κs. search needs)
+    (λ c. (search needs, rows-start _ _ _ _ _))
+    (λ c. search needs)
+    (λ c. search needs)
+    (λ c. let h = slot-below c in search needs)
     fill-row-requires
-    add-k
-    loop-less
+    (λ c. search needs)
+    (λ c. search needs)
     loop-again
-    same-length
+    (λ c. search needs)
     returns)

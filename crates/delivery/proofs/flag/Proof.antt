@@ -12,14 +12,8 @@ flagged : (b : Bool) (f : ℕ) → f ≡ cond b 1 0 → yes? f ≡ b
 flagged true f e = rw e refl
 flagged false f e = rw e refl
 
-goes-before-requires : tie.Need-goes-before-requires
-goes-before-requires c κs = search needs
-
-flag-requires : tie.Need-flag-requires
-flag-requires c κs = search needs
-
 returns : tie.Need-returns
 returns c = flagged _ _ (c .flag .ensures) ∙ ap₂ leb (c .before .before .pre) (c .before .goes-before .ensures)
 
 pub flag-spec : {M : Type 1} → statement M
-flag-spec = tie.close (tie.spec goes-before-requires flag-requires returns)
+flag-spec = tie.close (tie.spec (λ c κs. search needs) (λ c κs. search needs) returns)

@@ -8,37 +8,17 @@ use lib.ListN.{getD}
 use borrow.Author.Tests.{lt-ltb, le-ltb}
 use Rattle.lists.specs.Below
 use Rattle.lists.proofs.Loops.{count-start, count-yes, count-no, count-end}
+use Rattle.model.specs.Tables.{seats}
 use Rattle.model.specs.Delivery.{goesBefore}
 use borrow.Author.Needs.{needs}
 use Rattle.delivery.proofs.goes_before.Statement.{statement}
 use Rattle.delivery.proofs.goes_before.Tie as tie
 
 abbrev Inv-loop : tie.InvT-loop
-Inv-loop n first second end count₀ f₀ count f = (f ≤ end) × (end ≡ min n 7) × (count ≤ f) × (count ≡ Below.count f (λ g. ltb ((getD first g (record { 0 = 0 })) .0) ((getD second g (record { 0 = 0 })) .0)))
+Inv-loop n first second end count₀ f₀ count f = (f ≤ end) × (end ≡ min n seats) × (count ≤ f) × (count ≡ Below.count f (λ g. ltb ((getD first g (record { 0 = 0 })) .0) ((getD second g (record { 0 = 0 })) .0)))
 
 abbrev μ-loop : tie.MeasureT-loop
 μ-loop n first second end count₀ f₀ count f = end - f
-
-at-most-requires : tie.Need-at-most-requires Inv-loop μ-loop
-at-most-requires c κs = search needs
-
-loop-holds : tie.Need-loop-holds Inv-loop μ-loop
-loop-holds c = (search needs, c .at-most .ensures, search needs, count-start _)
-
-element-copy-out-if1 : tie.Need-element-copy-out-if1 Inv-loop μ-loop
-element-copy-out-if1 c = search needs
-
-element-copy-out-if1-2 : tie.Need-element-copy-out-if1-2 Inv-loop μ-loop
-element-copy-out-if1-2 c = search needs
-
-add-count : tie.Need-add-count Inv-loop μ-loop
-add-count c = search needs
-
-add-f : tie.Need-add-f Inv-loop μ-loop
-add-f c = search needs
-
-loop-less : tie.Need-loop-less Inv-loop μ-loop
-loop-less c = search needs
 
 loop-again : tie.Need-loop-again Inv-loop μ-loop
 loop-again c =
@@ -57,12 +37,12 @@ goes-before-spec =
     (tie.spec
     Inv-loop
     μ-loop
-    at-most-requires
-    loop-holds
-    element-copy-out-if1
-    element-copy-out-if1-2
-    add-count
-    add-f
-    loop-less
+    (λ c κs. search needs)
+    (λ c. (search needs, c .at-most .ensures, search needs, count-start _))
+    (λ c. search needs)
+    (λ c. search needs)
+    (λ c. search needs)
+    (λ c. search needs)
+    (λ c. search needs)
     loop-again
     returns)

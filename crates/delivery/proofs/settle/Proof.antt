@@ -11,8 +11,8 @@ use Rattle.lists.proofs.Tests.{contradiction}
 use Rattle.model.specs.Tables.{capacity}
 use Rattle.model.specs.Delivery.{has}
 use Rattle.delivery.specs.Apply.{among}
-use Rattle.delivery.proofs.Listing.{among-none, among-at, among-more}
-use Rattle.delivery.proofs.Removal.{Removing, barred, removing-start, removed-fewer, removed-still, settled}
+use Rattle.delivery.proofs.HeldSlots.{among-none, among-at, among-more}
+use Rattle.delivery.proofs.LargestByRemoval.{Removing, barred, removing-start, removed-fewer, removed-still, settled}
 use borrow.Author.Needs.{needs}
 use Rattle.delivery.proofs.settle.Statement.{statement}
 use Rattle.delivery.proofs.settle.Tie as tie
@@ -36,7 +36,7 @@ abbrev Inv-again : tie.InvT-again
 Inv-again size flags slots members₀ members = Removing size slots members₀ flags members
 
 abbrev μ-again : tie.MeasureT-again
-μ-again size flags slots members₀ members = count 64 (has members)
+μ-again size flags slots members₀ members = count capacity (has members)
 
 -- PLACES: the start, a pass, its turn at a member, and the turn there at another slot
 abbrev Start : Type 0
@@ -84,10 +84,10 @@ whole-array : (c : Start) → length (c .args .candidates) ≡ capacity
 whole-array c = c .good .1 .1 .0 .1 .0 .1
 
 -- the slots of both turns are below 64
-member-below : (c : In-loop) → getD (slots (pass (c .before))) (c .before .loop .j) 0 < 64
+member-below : (c : In-loop) → getD (slots (pass (c .before))) (c .before .loop .j) 0 < capacity
 member-below c = start (pass (c .before)) .pre .below _ (omega arith)
 
-other-below : (c : In-loop2) → getD (slots (pass (member (c .before)))) (c .before .loop2 .k) 0 < 64
+other-below : (c : In-loop2) → getD (slots (pass (member (c .before)))) (c .before .loop2 .k) 0 < capacity
 other-below c = start (pass (member (c .before))) .pre .below _ (omega arith)
 
 -- the members at both turns are those of the pass, and the member is one of them
@@ -100,42 +100,8 @@ is-member c = rw (member c .loop .inv .1) at (c .before .if1 .taken)
 again-holds : tie.Need-again-holds Inv-loop2 μ-loop2 Inv-loop μ-loop Inv-again μ-again
 again-holds c = removing-start _ _ _ _ (whole-array (c .before)) (c .before .pre)
 
-loop-holds : tie.Need-loop-holds Inv-loop2 μ-loop2 Inv-loop μ-loop Inv-again μ-again
-loop-holds c = (search needs, refl, λ s a. contradiction a (among-none _ s))
-
-array-read-s : tie.Need-array-read-s Inv-loop2 μ-loop2 Inv-loop μ-loop Inv-again μ-again
-array-read-s c = search needs
-
-cast-s : tie.Need-cast-s Inv-loop2 μ-loop2 Inv-loop μ-loop Inv-again μ-again
-cast-s c = search needs
-
-array-read-if1 : tie.Need-array-read-if1 Inv-loop2 μ-loop2 Inv-loop μ-loop Inv-again μ-again
-array-read-if1 c = let h = member-below c in search needs
-
-loop2-holds : tie.Need-loop2-holds Inv-loop2 μ-loop2 Inv-loop μ-loop Inv-again μ-again
-loop2-holds c = (search needs, refl, λ t a. contradiction a (among-none _ t))
-
-array-read-t : tie.Need-array-read-t Inv-loop2 μ-loop2 Inv-loop μ-loop Inv-again μ-again
-array-read-t c = search needs
-
-cast-t : tie.Need-cast-t Inv-loop2 μ-loop2 Inv-loop μ-loop Inv-again μ-again
-cast-t c = search needs
-
-mul-bars : tie.Need-mul-bars Inv-loop2 μ-loop2 Inv-loop μ-loop Inv-again μ-again
-mul-bars c = let h = member-below (at-member (c .before)) in search needs
-
-add-bars : tie.Need-add-bars Inv-loop2 μ-loop2 Inv-loop μ-loop Inv-again μ-again
-add-bars c = omega (arith, member-below (at-member (c .before)), other-below c)
-
-array-read-bars : tie.Need-array-read-bars Inv-loop2 μ-loop2 Inv-loop μ-loop Inv-again μ-again
-array-read-bars c = let h = other-below c in search needs
-
 bars-requires : tie.Need-bars-requires Inv-loop2 μ-loop2 Inv-loop μ-loop Inv-again μ-again
 bars-requires c κs = omega (arith, member-below (at-member (c .before)), other-below c)
-
-array-write-members :
-    tie.Need-array-write-members Inv-loop2 μ-loop2 Inv-loop μ-loop Inv-again μ-again
-array-write-members c = let h = member-below (at-member (other (c .before))) in search needs
 
 again-less : tie.Need-again-less Inv-loop2 μ-loop2 Inv-loop μ-loop Inv-again μ-again
 again-less c =
@@ -150,23 +116,11 @@ again-again c =
     (removed-still _ _ _ _ _ (pass (member (other b)) .again .inv) _ _ (member-below (at-member (other b))) (other-below (b .before)) (is-member (other b))
     (among-at _ _ _ (omega arith)) (rw (same-members b) at (sym (b .bars .ensures) ∙ c .if2 .taken)))
 
-add-k : tie.Need-add-k Inv-loop2 μ-loop2 Inv-loop μ-loop Inv-again μ-again
-add-k c = search needs
-
-loop2-less : tie.Need-loop2-less Inv-loop2 μ-loop2 Inv-loop μ-loop Inv-again μ-again
-loop2-less c = search needs
-
 loop2-again : tie.Need-loop2-again Inv-loop2 μ-loop2 Inv-loop μ-loop Inv-again μ-again
 loop2-again c =
     let b = c .before in
     let i = other b .loop2 .inv in
     (search needs, i .1, among-more _ _ _ (λ t _. i .2 t) (rw (i .1) at (sym (b .bars .ensures) ∙ c .if2 .left)))
-
-add-j : tie.Need-add-j Inv-loop2 μ-loop2 Inv-loop μ-loop Inv-again μ-again
-add-j c = search needs
-
-loop-less : tie.Need-loop-less Inv-loop2 μ-loop2 Inv-loop μ-loop Inv-again μ-again
-loop-less c = search needs
 
 loop-again : tie.Need-loop-again Inv-loop2 μ-loop2 Inv-loop μ-loop Inv-again μ-again
 loop-again c =
@@ -195,24 +149,24 @@ settle-spec =
     Inv-again
     μ-again
     again-holds
-    loop-holds
-    array-read-s
-    cast-s
-    array-read-if1
-    loop2-holds
-    array-read-t
-    cast-t
-    mul-bars
-    add-bars
-    array-read-bars
+    (λ c. (search needs, refl, λ s a. contradiction a (among-none _ s)))
+    (λ c. search needs)
+    (λ c. search needs)
+    (λ c. let h = member-below c in search needs)
+    (λ c. (search needs, refl, λ t a. contradiction a (among-none _ t)))
+    (λ c. search needs)
+    (λ c. search needs)
+    (λ c. let h = member-below (at-member (c .before)) in search needs)
+    (λ c. omega (arith, member-below (at-member (c .before)), other-below c))
+    (λ c. let h = other-below c in search needs)
     bars-requires
-    array-write-members
+    (λ c. let h = member-below (at-member (other (c .before))) in search needs)
     again-less
     again-again
-    add-k
-    loop2-less
+    (λ c. search needs)
+    (λ c. search needs)
     loop2-again
-    add-j
-    loop-less
+    (λ c. search needs)
+    (λ c. search needs)
     loop-again
     returns)

@@ -1,6 +1,6 @@
 -- `furnacejade_event` meets its contract: a walk of its MIR, by hand. All that it is lent is lent on to `event` for good, at its own lifetimes, shares and names, so what it has at entry is what `event` asks, by computation.
 -- Assumes nothing.
-use Rattle.lent.proofs.Walk.{_≡_, refl, ℕ, _<_, _^_, [], _∷_, List, length, URA, named, erased, w64, Val, vint, SProp, ent, Lft, Share, ftrue, flft, fres, Memory, Routine, Heap, Calls, Loops, WpFn, Atoms, Fun, givenOf, tables, Given, Item, ‵, raw, _⊛_, ⋆, _$_, _∵_, !, qed, by, move, keep, drop, use1, fsplit, fjoin, suffices, frame, done, look, init, stop, hop, fld, from, load, addr, of-opd, and-then, no-more, assigns, land, returns, enter, alloc1, alloc0, params1, pass1, pass0, free0, agg, whole, sub, look-in, FmC, Is, uint-makes, u8, usize, RefT, ptr-vals, mut-tells, sliceVal, slice-vals, MutSlice, ShrSlice, finally, mut-slice-tells, shr-slice-tells, mut-slice-lawful, shr-slice-lawful, owned, heard, nothing, onEntry, tripleOf, Contract, Triple, calls-at, cited, says, Stays, stay-dropped, gave-ref, gave-slice, walkOf, goes-dropped, goes-gave-ref, goes-gave-slice, ends-at, yes, Slot, plain, shrSliceOf, ptrOf, sliceOf, as-long, answered, told, freed, asks, proves}
+use Rattle.walks.proofs.Walk.{_≡_, refl, ℕ, _<_, _^_, [], _∷_, List, length, URA, named, erased, w64, Val, vint, SProp, ent, Lft, Share, ftrue, flft, fres, Memory, Routine, Heap, Calls, Loops, WpFn, Atoms, Fun, givenOf, tables, Given, Item, ‵, raw, _⊛_, ⋆, _$_, _∵_, !, qed, by, move, keep, drop, use1, fsplit, fjoin, suffices, frame, done, look, init, stop, hop, fld, from, load, addr, of-opd, and-then, no-more, assigns, land, returns, enter, alloc1, alloc0, params1, pass1, pass0, free0, agg, whole, sub, look-in, FmC, Is, uint-makes, u8, usize, RefT, ptr-vals, mut-tells, sliceVal, slice-vals, MutSlice, ShrSlice, finally, mut-slice-tells, shr-slice-tells, mut-slice-lawful, shr-slice-lawful, owned, heard, nothing, onEntry, tripleOf, Contract, Triple, calls-at, cited, says, Stays, stay-dropped, gave-ref, gave-slice, walkOf, goes-dropped, goes-gave-ref, goes-gave-slice, ends-at, yes, Slot, plain, shrSliceOf, ptrOf, sliceOf, as-long, answered, told, freed, asks, proves}
 use Rattle.lent.specs.Called.{Called}
 use Rattle.engine.proofs.Outcomes.{counted}
 use Rattle.model.specs.declared.Table.{Table}

@@ -2,42 +2,40 @@
 use mathlib.Core.Path.{_≡_, sym, ap, _∙_}
 use mathlib.Core.Bool.{true}
 use mathlib.Core.List.{List}
-use Prim.Native.Nat.{ℕ}
+use Prim.Native.Nat.{ℕ, _≤_}
 use lib.ListN.{length}
 use borrow.Author.Tests.{not-true, not-false}
-use borrow.Author.Needs.{needs}
 use denote.Ref.{now}
+use Rattle.model.specs.Tables.{scratchSize}
 use Rattle.model.specs.Records.{decode}
 use Rattle.model.specs.WellFormed.{wellFormed}
 use Rattle.model.specs.Questions.{firstNo, stepQuestions}
 use Rattle.model.specs.declared.Command.the-variants.{Act, Read}
 use Rattle.records.specs.declared.Record.{Record}
-use Rattle.events.specs.declared.effects.Effect.{Effect}
-use Rattle.events.specs.Conditions.{Accepted}
-use Rattle.events.specs.Asking.{refusalOf}
-use Rattle.events.specs.Effects.{effectOf}
-use Rattle.events.proofs.Asking.{command-read, used-read, refusal-is, enough, allowed, readable}
-use Rattle.events.proofs.Reading.{allowed-parties}
-use Rattle.events.proofs.Stepping.{step-refused, step-acted, step-read, event-refused-four, event-stepped}
+use Rattle.effects.specs.declared.Effect.{Effect}
+use Rattle.effects.specs.Conditions.{Accepted}
+use Rattle.effects.specs.Effects.{effectOf}
+use Rattle.effects.proofs.Seats.{allowed-parties}
+use Rattle.events.specs.Stepped.{refusalOf}
+use Rattle.events.proofs.QuestionOrder.{command-read, used-read, refusal-is, enough, allowed, readable}
+use Rattle.events.proofs.CallOutcome.{step-refused, step-acted, step-read, event-refused-four, event-stepped}
+use borrow.Author.Needs.{needs}
 use Rattle.events.proofs.event.Statement.{statement}
 use Rattle.events.proofs.event.Tie as tie
 
--- PLACES: from behind the stored table to the effect, the controllers read, the questions, the record and the start
+-- PLACES: from behind the controller to the effect, the controllers read, the command, the questions, the record and the start
 abbrev carried : tie.After-controller → tie.After-carry-out
 carried c = c .before .before .before .before
 
-abbrev both : tie.After-carry-out-arg → tie.After-both
-both c = c .before .before .before
+abbrev both : tie.After-carry-out → tie.After-both
+both c = c .before .before .before .before
 
-abbrev commanded : tie.After-both → tie.After-command
-commanded c = c .before .before
+abbrev commanded : tie.After-carry-out → tie.After-command
+commanded c = both c .before .before
 
--- and of a local read, from behind the cleared scratch area
-abbrev read : tie.After-clear → tie.After-command2
+-- and of a local read, from behind its answer
+abbrev read : tie.After-read-answer → tie.After-command2
 read c = c .before .before .before
-
-abbrev asked : tie.After-command → tie.Else2
-asked c = c .before .before
 
 abbrev reader : tie.Else2 → tie.After-read-record
 reader c = c .before .before
@@ -56,24 +54,27 @@ formed : (c : tie.After-read-record) → wellFormed (start c .args .t) ≡ true
 formed c = let e = c .before in sym (e .before .well-formed .ensures) ∙ not-false _ (e .if1 .left)
 
 -- the number is the first no, and past it the event is allowed
-number-is : (c : tie.After-refusal-of) → c .refusal-of .result ≡ firstNo (stepQuestions (start (c .before) .args .t) (bytes (c .before)) (room (c .before)))
+number-is : (c : tie.After-step-refusal) → c .step-refusal .result ≡ firstNo (stepQuestions (start (c .before) .args .t) (bytes (c .before)) (room (c .before)))
 number-is c =
-    c .refusal-of .ensures
+    c .step-refusal .ensures
     ∙ (ap (λ (r : Record). refusalOf (start (c .before) .args .t) r (room (c .before))) (c .before .read-record .ensures)
     ∙ refusal-is (start (c .before) .args .t) (bytes (c .before)) (room (c .before)))
 
 passed : (c : tie.Else2) → firstNo (stepQuestions (start (reader c) .args .t) (bytes (reader c)) (room (reader c))) ≡ 0
 passed c = sym (number-is (c .before)) ∙ c .if2 .left
 
+roomy : (c : tie.Else2) → scratchSize ≤ room (reader c)
+roomy c = enough _ _ _ (formed (reader c)) (passed c)
+
 -- the record asks for an event, which is allowed, or for a local read
-event-is : (c : tie.After-command) → let d = reader (asked c) in decode (start d .args .t .version) (bytes d) ≡ Act (c .command .given .0 .0)
-event-is c = sym (command-read _ _ _ (reader (asked c) .read-record .ensures)) ∙ c .command .given .1
+event-is : (c : tie.After-command) → let d = reader (c .before .before) in decode (start d .args .t .version) (bytes d) ≡ Act (c .command .given .0 .0)
+event-is c = sym (command-read _ _ _ (reader (c .before .before) .read-record .ensures)) ∙ c .command .given .1
 
 read-is : (c : tie.After-command2) → let d = reader (c .before .before) in decode (start d .args .t .version) (bytes d) ≡ Read (c .command2 .given .0 .0)
 read-is c = sym (command-read _ _ _ (reader (c .before .before) .read-record .ensures)) ∙ c .command2 .given .1
 
-accepted : (c : tie.After-command) → Accepted (start (reader (asked c)) .args .t) (c .command .given .0 .0)
-accepted c = allowed _ _ _ (formed (reader (asked c))) (passed (asked c)) _ (event-is c)
+accepted : (c : tie.After-command) → Accepted (start (reader (c .before .before)) .args .t) (c .command .given .0 .0)
+accepted c = allowed _ _ _ (formed (reader (c .before .before))) (passed (c .before .before)) _ (event-is c)
 
 well-formed-requires : tie.Need-well-formed-requires
 well-formed-requires c κs = search needs
@@ -87,8 +88,8 @@ returns c = event-refused-four _ _ _ _ (sym (c .before .before .well-formed .ens
 read-record-requires : tie.Need-read-record-requires
 read-record-requires c κs = search needs
 
-refusal-of-requires : tie.Need-refusal-of-requires
-refusal-of-requires c κs = search needs
+step-refusal-requires : tie.Need-step-refusal-requires
+step-refusal-requires c κs = search needs
 
 refused-requires-2 : tie.Need-refused-requires-2
 refused-requires-2 c κs = search needs
@@ -102,55 +103,46 @@ enum-known-command : tie.Need-enum-known-command
 enum-known-command c = search needs
 
 both-requires : tie.Need-both-requires
-both-requires c κs = accepted (c .before)
+both-requires c κs = search needs
 
 carry-out-requires : tie.Need-carry-out-requires
-carry-out-requires c κs =
-    let b = both c in
-    let k = commanded b in
-    (allowed-parties _ _ (accepted k) _ (b .both .ensures), enough _ _ _ (formed (reader (asked k))) (passed (asked k)))
+carry-out-requires c κs = search needs
 
 stored-requires : tie.Need-stored-requires
-unfolding effectOf
-stored-requires c κs =
-    let d = carried c in
-    (accepted (commanded (both (d .before))), ap (λ (x : Effect). x .controller) (d .carry-out .ensures .effect))
+stored-requires c κs = search needs
 
 enum-known-command-2 : tie.Need-enum-known-command-2
 enum-known-command-2 c = search needs
 
-clear-requires : tie.Need-clear-requires
-clear-requires c κs = search needs
-
 read-answer-requires : tie.Need-read-answer-requires
-read-answer-requires c κs =
-    let k = read (c .before .before) in
-    let h = readable _ _ _ (formed (reader (k .before .before))) (passed (k .before .before)) _ (read-is k) in
-    (h .low, h .high)
+read-answer-requires c κs = search needs
 
 same-length : tie.Need-same-length
 same-length c = search needs
 
 returns-3 : tie.Need-returns-3
+unfolding effectOf
 returns-3 c =
     let d = carried (c .before) in
-    let k = commanded (both (d .before)) in
-    let r = reader (asked k) in
-    let z = passed (asked k) in
+    let k = commanded d in
+    let q = k .before .before in
+    let r = reader q in
+    let f = d .carry-out .ensures .effected (allowed-parties _ _ (accepted k) _ (both d .both .ensures)) (roomy q) in
     event-stepped _ _ _ _ _ (formed r)
-    (step-acted _ _ _ z _ (used-read _ _ _ _ (r .read-record .ensures) z) _ (event-is k) _ _ (d .carry-out .ensures) _ (c .stored .ensures))
+    (step-acted _ _ _ (passed q) _ (used-read _ _ _ _ (r .read-record .ensures) (passed q)) _ (event-is k) _ _ f _
+    (c .stored .ensures .stored (accepted k, ap (λ (x : Effect). x .controller) (f .effect))))
 
 same-length-2 : tie.Need-same-length-2
 same-length-2 c = search needs
 
 returns-4 : tie.Need-returns-4
 returns-4 c =
-    let d = c .before .before .before in
+    let d = c .before .before in
     let k = read d in
-    let r = reader (k .before .before) in
-    let z = passed (k .before .before) in
+    let q = k .before .before in
+    let r = reader q in
     event-stepped _ _ _ _ _ (formed r)
-    (step-read _ _ _ z _ (used-read _ _ _ _ (r .read-record .ensures) z) _ (read-is k) _ (c .read-answer .ensures) _ (d .clear .ensures))
+    (step-read _ _ _ (passed q) _ (used-read _ _ _ _ (r .read-record .ensures) (passed q)) _ (read-is k) (readable _ _ _ (formed r) (passed q) _ (read-is k)) _ _ (d .read-answer .ensures))
 
 pub event-spec : {M : Type 1} → statement M
 event-spec =
@@ -160,7 +152,7 @@ event-spec =
     refused-requires
     returns
     read-record-requires
-    refusal-of-requires
+    step-refusal-requires
     refused-requires-2
     returns-2
     enum-known-command
@@ -168,7 +160,6 @@ event-spec =
     carry-out-requires
     stored-requires
     enum-known-command-2
-    clear-requires
     read-answer-requires
     same-length
     returns-3

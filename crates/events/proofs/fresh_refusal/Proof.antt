@@ -3,8 +3,8 @@ use mathlib.Core.Path.{_≡_, sym, _∙_}
 use mathlib.Core.Bool.{true}
 use borrow.Author.Needs.{needs}
 use borrow.Author.Tests.{not-true, not-false}
-use Rattle.model.specs.WellFormed.{known}
-use Rattle.events.proofs.Fresh.{version-refuses, count-refuses, none-refuses}
+use Rattle.model.specs.Fair.{known}
+use Rattle.events.proofs.FreshTable.{version-refuses, count-refuses, none-refuses}
 use Rattle.events.proofs.fresh_refusal.Statement.{statement}
 use Rattle.events.proofs.fresh_refusal.Tie as tie
 

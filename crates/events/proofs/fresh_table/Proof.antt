@@ -1,6 +1,6 @@
 -- `fresh_table` refuses by questions 2 and 3, or answers a fresh table. Assumes nothing.
 use borrow.Author.Needs.{needs}
-use Rattle.events.proofs.Fresh.{fresh-refused, fresh-given}
+use Rattle.events.proofs.FreshTable.{fresh-refused, fresh-given}
 use Rattle.events.proofs.fresh_table.Statement.{statement}
 use Rattle.events.proofs.fresh_table.Tie as tie
 

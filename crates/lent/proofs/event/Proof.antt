@@ -1,7 +1,7 @@
 -- `event` meets its contract: a walk of its MIR, by hand. The table is copied out of its borrow and handed to the by-value `event` with the bytes and the scratch area, which is given up for good; the table and the answer that come back are stored, and `behind` makes the part that is handed back.
 -- All that the proof knows of the two callees is that each meets its contract.
 -- Assumes nothing.
-use Rattle.lent.proofs.Walk.{_≡_, refl, ℕ, [], _∷_, List, length, dropped, URA, named, w64, Val, vint, SProp, ent, id⊢, Lft, Share, Fml, ftrue, flft, Memory, Routine, Heap, Calls, Loops, WpFn, Atoms, Fun, givenOf, tables, Given, Item, ‵, raw, _⊛_, ⋆, _$_, _∵_, !, qed, by, move, drop, use1, split, join, fsplit, fsplit3, fjoin, fjoin3, feqI, suffices, frame, done, look, look-raw, init, store-raw, stop, hop, fld, from, load, addr, of-opd, and-then, no-more, assigns, land, returns, enter, alloc1, alloc0, params1, pass1, pass0, free0, agg, whole, sub, look-in, FmC, owns, Is, shows, uint-makes, u8, usize, RefT, MutRef, ptr-vals, mut-tells, slice-vals, MutSlice, ShrSlice, finally, mut-slice-tells, shr-slice-tells, mut-slice-lawful, shr-slice-lawful, shr-slice-copy, owned, peeks, heard, nothing, onEntry, tripleOf, Contract, Triple, calls-at, cited, says, Stays, stay-ref, stay-dropped, gave-slice, walkOf, goes-ref, goes-dropped, goes-gave-slice, ends-at, yes, Slot, plain, shrSliceOf, ptrOf, sliceOf, lent, opened, closed, as-long, answered, told, freed, asks, proves}
+use Rattle.walks.proofs.Walk.{_≡_, refl, ℕ, [], _∷_, List, length, dropped, URA, named, w64, Val, vint, SProp, ent, id⊢, Lft, Share, Fml, ftrue, flft, Memory, Routine, Heap, Calls, Loops, WpFn, Atoms, Fun, givenOf, tables, Given, Item, ‵, raw, _⊛_, ⋆, _$_, _∵_, !, qed, by, move, drop, use1, split, join, fsplit, fsplit3, fjoin, fjoin3, feqI, suffices, frame, done, look, look-raw, init, store-raw, stop, hop, fld, from, load, addr, of-opd, and-then, no-more, assigns, land, returns, enter, alloc1, alloc0, params1, pass1, pass0, free0, agg, whole, sub, look-in, FmC, owns, Is, shows, uint-makes, u8, usize, RefT, MutRef, ptr-vals, mut-tells, slice-vals, MutSlice, ShrSlice, finally, mut-slice-tells, shr-slice-tells, mut-slice-lawful, shr-slice-lawful, shr-slice-copy, owned, peeks, heard, nothing, onEntry, tripleOf, Contract, Triple, calls-at, cited, says, Stays, stay-ref, stay-dropped, gave-slice, walkOf, goes-ref, goes-dropped, goes-gave-slice, ends-at, yes, Slot, plain, shrSliceOf, ptrOf, sliceOf, lent, opened, closed, as-long, answered, told, freed, asks, proves}
 use denote.Struct.Laws as LL
 use Rattle.events.specs.Stepped.{Steps}
 use Rattle.lent.proofs.Outcomes.{called}

@@ -1,4 +1,4 @@
--- `put_number` stores a number in decimal: its last digit behind the digits of a tenth of it, which is the measure's fall.
+-- `put_number` stores a number in decimal: its last digit after the digits of a tenth of it, which is the measure's fall.
 -- Assumes nothing.
 use mathlib.Core.Path.{_≡_, sym, ap, _∙_}
 use mathlib.Core.List.{[], _∷_, _++_}
@@ -29,7 +29,7 @@ Given t = and 1 kinds.ps (is 1 kinds.ps μ t) reads.Pre
 abbrev Calls : ℕ → lts.Claims
 Calls t = (put-byte.Asked, put-byte.Learnt, and 1 kinds.ps (falls 1 kinds.ps _<_ μ t) reads.Pre, reads.Post)
 
--- PLACES: in the branch of one digit, and from behind the last digit back to behind the others and into their branch
+-- PLACES: in the branch of one digit, and from after the last digit back to after the others and into their branch
 
 module _ (t : ℕ) where
   abbrev OneDigit : Type 0

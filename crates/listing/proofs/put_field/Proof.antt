@@ -1,12 +1,12 @@
--- `put_field` stores a byte and a number behind it. Assumes nothing.
+-- `put_field` stores a byte and a number after it. Assumes nothing.
 use Rattle.listing.proofs.Storing.{stored-then}
 use borrow.Author.Needs.{needs}
 use Rattle.listing.proofs.put_field.Statement.{statement}
 use Rattle.listing.proofs.put_field.Tie as tie
 
--- from behind the number back to behind the byte
-abbrev behind-byte : tie.After-put-number → tie.After-put-byte
-behind-byte c = c .before .before .before .before
+-- from after the number back to after the byte
+abbrev after-byte : tie.After-put-number → tie.After-put-byte
+after-byte c = c .before .before .before .before
 
 put-byte-requires : tie.Need-put-byte-requires
 put-byte-requires c κs = search needs
@@ -20,7 +20,7 @@ same-length c = search needs
 returns : tie.Need-returns
 returns c =
     let number = c .before .before in
-    stored-then (behind-byte number .put-byte .ensures) (number .put-number .ensures)
+    stored-then (after-byte number .put-byte .ensures) (number .put-number .ensures)
 
 pub put-field-spec : {M : Type 1} → statement M
 put-field-spec = tie.close (tie.spec put-byte-requires put-number-requires same-length returns)

@@ -7,7 +7,7 @@ use borrow.Author.Needs.{needs}
 use Rattle.listing.proofs.put_name.Statement.{statement}
 use Rattle.listing.proofs.put_name.Tie as tie
 
--- PLACES: from behind the number back to behind the sender, and from there to the start
+-- PLACES: from after the number back to after the sender, and from there to the start
 
 abbrev sender : tie.After-struct-known2 → tie.After-put-field
 sender c = c .before .before .before .before

@@ -20,7 +20,7 @@ abbrev μ-loop : tie.MeasureT-loop
 μ-loop buffer₀ from count names at₀ i₀ buffer at i =
     count - i
 
--- PLACES: from behind a name back to where it is stored, to the loop, and to the start
+-- PLACES: from after a name back to where it is stored, to the loop, and to the start
 
 abbrev Turn : Type 0
 Turn = tie.After-put-name-arg2 Inv-loop μ-loop

@@ -7,7 +7,7 @@ use borrow.Author.Needs.{needs}
 use Rattle.listing.proofs.put_sums.Statement.{statement}
 use Rattle.listing.proofs.put_sums.Tie as tie
 
--- PLACES: from behind the second sum back to behind the first, and from there to the start
+-- PLACES: from after the second sum back to after the first, and from there to the start
 
 abbrev first : tie.After-struct-known2 → tie.After-put-field
 first c = c .before .before .before .before

@@ -1,19 +1,15 @@
--- `store_line` stores a line, part by part. Assumes nothing.
+-- `store_line` stores a line up to its end, part by part. Assumes nothing.
 use Prim.Native.Nat.{_+_, _≤_}
 use native.Mathlib.Omega.{arith}
 use lib.ListN.{length, take}
 use Rattle.model.specs.Runs.{decimal, sumFields, nameFields}
 use Rattle.model.proofs.Lengths.{length-line}
-use Rattle.listing.proofs.Lines.{line-parts}
-use Rattle.listing.proofs.Storing.{stored-same, stored-then}
+use Rattle.listing.proofs.Storing.{stored-then}
 use borrow.Author.Needs.{needs}
 use Rattle.listing.proofs.store_line.Statement.{statement}
 use Rattle.listing.proofs.store_line.Tie as tie
 
--- PLACES: from behind each part back to behind the part before it
-
-abbrev names : tie.After-put-byte → tie.After-put-names
-names c = c .before .before .before .before
+-- PLACES: from after each part back to after the part before it
 
 abbrev sums : tie.After-put-names → tie.After-put-sums
 sums c = c .before .before .before .before
@@ -46,26 +42,16 @@ put-sums-requires c κs = omega (arith, room (start (event (c .before .before .b
 put-names-requires : tie.Need-put-names-requires
 put-names-requires c κs = omega (arith, room (start (event (controller (c .before .before .before)))))
 
-put-byte-requires : tie.Need-put-byte-requires
-put-byte-requires c κs = omega (arith, room (start (event (controller (sums (c .before .before .before))))))
-
 same-length : tie.Need-same-length
 same-length c = search needs
 
 returns : tie.Need-returns
 returns c =
-    let end = c .before .before in
-    let n = names end in
+    let n = c .before .before in
     let z = sums n in
     let k = controller z in
     let e = event k in
-    let s = start e in
-    stored-same (line-parts (s .args .event) (s .args .controller) (s .args .sums) _)
-    (stored-then
-    (stored-then
-    (stored-then (stored-then (e .put-number .ensures) (k .put-field .ensures)) (z .put-sums .ensures))
-    (n .put-names .ensures))
-    (end .put-byte .ensures))
+    stored-then (stored-then (stored-then (e .put-number .ensures) (k .put-field .ensures)) (z .put-sums .ensures)) (n .put-names .ensures)
 
 pub store-line-spec : {M : Type 1} → statement M
 store-line-spec =
@@ -75,6 +61,5 @@ store-line-spec =
     put-field-requires
     put-sums-requires
     put-names-requires
-    put-byte-requires
     same-length
     returns)

@@ -4,12 +4,9 @@ use mathlib.Core.Bool.{true}
 use borrow.Author.Needs.{needs}
 use borrow.Author.Tests.{not-true, not-false}
 use Rattle.model.specs.WellFormed.{wellFormed}
-use Rattle.looks.proofs.Looking.{table-refuses, controller-refuses, look-allowed}
+use Rattle.looks.proofs.LookAnswers.{table-refuses, controller-refuses, look-allowed}
 use Rattle.looks.proofs.look_refusal.Statement.{statement}
 use Rattle.looks.proofs.look_refusal.Tie as tie
-
-well-formed-requires : tie.Need-well-formed-requires
-well-formed-requires c κs = search needs
 
 returns : tie.Need-returns
 returns c = table-refuses _ _ (sym (c .before .well-formed .ensures) ∙ not-true _ (c .if1 .taken))
@@ -25,4 +22,4 @@ returns-3 : tie.Need-returns-3
 returns-3 c = look-allowed _ _ (formed (c .before .before)) (not-false _ (c .if2 .left))
 
 pub look-refusal-spec : {M : Type 1} → statement M
-look-refusal-spec = tie.close (tie.spec well-formed-requires returns returns-2 returns-3)
+look-refusal-spec = tie.close (tie.spec (λ c κs. search needs) returns returns-2 returns-3)

@@ -1,110 +1,87 @@
 -- `report` writes what the program prints. Assumes nothing.
-use mathlib.Core.Path.{_≡_, sym, _∙_}
+use mathlib.Core.Path.{_≡_, _∙_}
 use mathlib.Core.List.{List}
 use Prim.Native.Nat.{ℕ, _+_, _-_}
 use native.Mathlib.Omega.{arith}
-use lib.ListN.{length}
-use borrow.Rule.Slice.PartMut.{putMid}
-use Rattle.model.specs.Questions.{firstNo, fileQuestions}
-use Rattle.panels.proofs.Printing.{only-end, HasHeader, has-header, HasLines, has-lines, HasEnd, has-end}
+use lib.ListN.{length, take}
+use borrow.Rule.Slice.PartMut.{putMid, same-len-mid}
+use Rattle.model.specs.Records.{byte}
+use Rattle.model.specs.Runs.{header}
+use Rattle.panels.specs.Printed.{headerSize, listingSize, textSize}
+use Rattle.panels.proofs.Printing.{none-refused, Passed, some-passed, Holds, has-lines, has-header, HasEnd, has-end, only-end}
 use borrow.Author.Needs.{needs}
 use Rattle.panels.proofs.report.Statement.{statement}
 use Rattle.panels.proofs.report.Tie as tie
 
--- PLACES: from behind the end line back to behind the run and the header line, to the file's questions, and to the start
+-- PLACES: from after the end line back to after the header line, to the test, to after the run, and to the start
 
-abbrev lines : tie.After-put-footer2 → tie.After-struct-known
-lines c = c .before .before
+abbrev headed : tie.After-struct-known → tie.After-put-header
+headed c = c .before .before .before
 
-abbrev ran : tie.After-struct-known → tie.After-text3
-ran c = c .before .before .before .before
+abbrev else : tie.After-put-header → tie.Else1
+else c = c .before .before
 
-abbrev head : tie.After-text3 → tie.After-put-header
-head c = c .before .before .before .before .before .before
+abbrev ran : tie.After-slice-known4 → tie.After-text
+ran c = c .before .before .before
 
-abbrev asked : tie.After-put-header → tie.Else1
-asked c = c .before .before .before
+abbrev start : tie.After-text → tie.Start
+start c = c .before .before .before .before .before .before .before
 
-abbrev start : tie.After-refusal-of → tie.Start
-start c = c .before .before .before .before
+-- THE TEXT as it grows
 
--- the file and what is lent with it
-abbrev lent : tie.After-put-header → tie.Start
-lent c = start (asked c .before)
+abbrev part : ℕ
+part = (headerSize + listingSize) - headerSize
 
--- no question refused the file
-passed : (c : tie.After-put-header) → firstNo (fileQuestions (lent c .args .file .now)) ≡ 0
-passed c = sym (asked c .before .refusal-of .ensures) ∙ asked c .if1 .left
+abbrev linesText : tie.After-text → List ℕ
+linesText c = putMid headerSize part (start c .args .text .now) (c .before .run .last .1 .0)
 
--- THE TEXT as it grows, and how far it reaches
+lines-size : (c : tie.After-text) → length (linesText c) ≡ textSize
+lines-size c = same-len-mid headerSize part (start c .args .text .now) (c .before .run .last .1 .0) (c .text .given .0) ∙ start c .pre .0
 
-abbrev headEnd : tie.After-put-header → ℕ
-headEnd c = c .put-header .result .written
+passed : (c : tie.Else1) → let t = ran (c .before) in Passed (start t .args .file .now) (t .before .run .result)
+passed c = some-passed _ _ _ _ (ran (c .before) .before .run .ensures .outcome) (c .if1 .left)
 
-abbrev headText : tie.After-put-header → List ℕ
-headText c = c .put-header .last .0
-
-with-header : (c : tie.After-put-header) → HasHeader (lent c .args .file .now) (lent c .args .text .now) (headText c) (headEnd c)
-with-header c =
-    has-header (lent c .args .file .now) (lent c .args .text .now) _ _ _ (c .before .byte-at .ensures) (c .before .byte-at .ok) (lent c .pre .0) (c .put-header .ensures)
-
-abbrev linesEnd : tie.After-text3 → ℕ
-linesEnd c = headEnd (head c) + c .before .run .result .written
-
--- the bytes that the run was lent
-abbrev part : tie.After-put-header → ℕ
-part c = (headEnd c + 16384) - headEnd c
-
-abbrev linesText : tie.After-text3 → List ℕ
-linesText c = putMid (headEnd (head c)) (part (head c)) (headText (head c)) (c .before .run .last .1 .0)
-
-with-lines : (c : tie.After-text3)
-    → HasLines (lent (head c) .args .file .now) (lent (head c) .args .text .now) (linesText c) (linesEnd c) (c .before .run .result)
+with-lines : (c : tie.Else1)
+    → let t = ran (c .before) in
+    let a = start t .args in
+    Holds (take headerSize (a .text .now)) (a .file .now) (a .text .now) (linesText t) (t .before .run .result)
 with-lines c =
-    let h = head c in
-    let s = lent h in
-    has-lines (s .args .file .now) (s .args .text .now) (s .args .scratch .now) (headText h) _ (headEnd h) (part h) _ (passed h) (s .pre .1) (omega arith) (with-header h)
-    (c .before .run .ensures .outcome) (c .before .run .ensures .listed) (c .text3 .given .0)
+    let t = ran (c .before) in
+    let s = start t in
+    let r = t .before .run in
+    has-lines (s .args .file .now) (s .args .text .now) (s .args .scratch .now) _ part _ (passed c .asked) (s .pre .0) (s .pre .1) (omega arith) (r .ensures .outcome) (r .ensures .listed) (t .text .given .0)
+
+with-header : (c : tie.After-put-header)
+    → let t = ran (else c .before) in
+    let a = start t .args in
+    Holds (header (byte (a .file .now) 1)) (a .file .now) (a .text .now) (c .put-header .last .0) (t .before .run .result)
+with-header c =
+    let e = else c in
+    let s = start (ran (e .before)) in
+    has-header (s .args .file .now) (s .args .text .now) _ _ _ _ (s .pre .0) (passed e) (with-lines e) (c .put-header .ensures)
+
+-- where the end line begins
+abbrev linesEnd : tie.After-put-header → ℕ
+linesEnd c = headerSize + ran (else c .before) .before .run .result .written
 
 abbrev wholeText : tie.After-put-footer2 → List ℕ
 wholeText c =
-    let l = ran (lines c) in
-    putMid (linesEnd l) (length (linesText l) - linesEnd l) (linesText l) (c .put-footer2 .last .0)
+    let h = headed (c .before .before) in
+    let t = h .put-header .last .0 in
+    putMid (linesEnd h) (length t - linesEnd h) t (c .put-footer2 .last .0)
 
 with-end : (c : tie.After-put-footer2)
-    → let l = ran (lines c) in
-    HasEnd (lent (head l) .args .file .now) (wholeText c) (linesEnd l) (c .put-footer2 .result)
+    → let h = headed (c .before .before) in
+    HasEnd (start (ran (else h .before)) .args .file .now) (wholeText c) (linesEnd h) (c .put-footer2 .result)
 with-end c =
-    let l = ran (lines c) in
-    let h = head l in
-    let r = l .before .run in
-    let fields = r .ok .1 .1 in
-    has-end (lent h .args .file .now) (lent h .args .text .now) (linesText l) _ (linesEnd l) (r .result) _ (passed h) (fields .1 .0 .1) (fields .0 .1) (with-lines l) (c .put-footer2 .ensures)
-
-refusal-of-requires : tie.Need-refusal-of-requires
-refusal-of-requires c κs = search needs
-
-put-footer-requires : tie.Need-put-footer-requires
-put-footer-requires c κs = search needs
-
-same-length : tie.Need-same-length
-same-length c = search needs
-
-returns : tie.Need-returns
-returns c =
-    let put = c .before .before in
-    let refused = put .before .before in
-    let s = start (refused .before) in
-    only-end (s .args .file .now) (s .args .text .now) _ _ _ (refused .before .refusal-of .ensures) (refused .if1 .taken) (refused .before .refusal-of .ok) (s .pre .0) (put .put-footer .ensures)
-
-byte-at-requires : tie.Need-byte-at-requires
-byte-at-requires c κs = search needs
-
-put-header-requires : tie.Need-put-header-requires
-put-header-requires c κs = search needs
+    let h = headed (c .before .before) in
+    let e = else h in
+    let s = start (ran (e .before)) in
+    let fields = ran (e .before) .before .run .ok .1 .1 in
+    has-end (s .args .file .now) (s .args .text .now) _ _ _ _ (passed e .asked) (fields .1 .0 .1) (fields .0 .1) (with-header h) (c .put-footer2 .ensures)
 
 add-run : tie.Need-add-run
-add-run c = omega (arith, with-header (c .before .before) .short)
+add-run c = search needs
 
 sub-run : tie.Need-sub-run
 sub-run c = search needs
@@ -113,19 +90,43 @@ part-run-start : tie.Need-part-run-start
 part-run-start c = search needs
 
 part-run-end : tie.Need-part-run-end
-part-run-end c = let h = with-header (c .before .before) in omega (arith, h .short, h .size)
+part-run-end c = search needs
 
 run-requires : tie.Need-run-requires
 run-requires c κs = search needs
 
+put-footer-requires : tie.Need-put-footer-requires
+put-footer-requires c κs = search needs
+
+same-length : tie.Need-same-length
+same-length c = search needs
+
+same-length-2 : tie.Need-same-length-2
+same-length-2 c = search needs
+
+returns : tie.Need-returns
+returns c =
+    let put = c .before .before in
+    let then = put .before .before in
+    let t = ran (then .before) in
+    let fields = t .before .run .ok .1 .1 in
+    only-end (start t .args .file .now) (linesText t) _ _ _ (lines-size t) (fields .1 .0 .1) (fields .0 .1)
+    (none-refused _ _ _ _ (t .before .run .ensures .outcome) (then .if1 .taken)) (put .put-footer .ensures)
+
+cast-put-header : tie.Need-cast-put-header
+cast-put-header c = omega (arith, passed (c .before) .few)
+
+put-header-requires : tie.Need-put-header-requires
+put-header-requires c κs = search needs
+
 add-end : tie.Need-add-end
-add-end c = omega (arith, with-lines (ran c) .short)
+add-end c = omega (arith, with-header (headed c) .short)
 
 sub-put-footer : tie.Need-sub-put-footer
-sub-put-footer c = let l = with-lines (ran c) in omega (arith, l .short, l .size)
+sub-put-footer c = let h = with-header (headed c) in omega (arith, h .short, h .size)
 
 part-put-footer-start : tie.Need-part-put-footer-start
-part-put-footer-start c = let l = with-lines (ran c) in omega (arith, l .short, l .size)
+part-put-footer-start c = let h = with-header (headed c) in omega (arith, h .short, h .size)
 
 part-put-footer-end : tie.Need-part-put-footer-end
 part-put-footer-end c = search needs
@@ -136,13 +137,13 @@ put-footer-requires-2 c κs = search needs
 add-result : tie.Need-add-result
 add-result c =
     let put = c .before .before .before in
-    omega (arith, with-lines (ran (lines put)) .short, with-end put .short)
-
-same-length-2 : tie.Need-same-length-2
-same-length-2 c = search needs
+    omega (arith, with-header (headed (put .before .before)) .short, with-end put .short)
 
 same-length-3 : tie.Need-same-length-3
 same-length-3 c = search needs
+
+same-length-4 : tie.Need-same-length-4
+same-length-4 c = search needs
 
 returns-2 : tie.Need-returns-2
 returns-2 c = with-end (c .before .before .before) .text
@@ -151,23 +152,23 @@ pub report-spec : {M : Type 1} → statement M
 report-spec =
     tie.close
     (tie.spec
-    refusal-of-requires
-    put-footer-requires
-    same-length
-    returns
-    byte-at-requires
-    put-header-requires
     add-run
     sub-run
     part-run-start
     part-run-end
     run-requires
+    put-footer-requires
+    same-length
+    same-length-2
+    returns
+    cast-put-header
+    put-header-requires
     add-end
     sub-put-footer
     part-put-footer-start
     part-put-footer-end
     put-footer-requires-2
     add-result
-    same-length-2
     same-length-3
+    same-length-4
     returns-2)

@@ -1,7 +1,7 @@
--- `synced` searches the messages for a sync of c that has this number and is applied. The loop's invariant: none before is.
+-- `synced` searches the messages for a sync of c that has the latest number and is applied. The loop's invariant: none before is.
 -- Assumes nothing.
 use mathlib.Core.Path.{_≡_}
-use mathlib.Core.Bool.{false}
+use mathlib.Core.Bool.{false, _&&_}
 use Prim.Native.Nat.{ℕ, _-_, _≤_, _<_}
 use native.Mathlib.Nat.{not-suc-le-zero}
 use native.Mathlib.Omega.{arith}
@@ -9,50 +9,33 @@ use lib.ListN.{getD}
 use borrow.Author.Count.{below-more}
 use borrow.Author.Needs.{needs}
 use Rattle.lists.proofs.Clipped.{any-found, any-none}
-use Rattle.model.specs.Tables.{noMessage}
-use Rattle.questions.specs.Arrays.{isSynced, syncedAmong}
+use Rattle.model.specs.Tables.{noMessage, messageIn, flagged}
+use Rattle.model.specs.Questions.{isSync, synced}
 use Rattle.questions.proofs.synced.Statement.{statement}
 use Rattle.questions.proofs.synced.Tie as tie
 
 abbrev Inv-loop : tie.InvT-loop
-Inv-loop count c last messages applied s₀ s =
-    (s ≤ count) × (count < 64) × ((j : ℕ) → j < s → isSynced (getD applied j 0) (getD messages j noMessage) c last ≡ false)
+Inv-loop count c messages applied last s₀ s =
+    (s ≤ count)
+    × ((j : ℕ) → j < s → (flagged applied j && isSync c last (getD messages j noMessage)) ≡ false)
 
 abbrev μ-loop : tie.MeasureT-loop
-μ-loop count c last messages applied s₀ s = count - s
+μ-loop count c messages applied last s₀ s = count - s
 
--- from behind what a turn reads to the turn
+-- from after what a turn reads to the turn
 abbrev turn : tie.After-struct-known2 Inv-loop μ-loop → tie.At-loop Inv-loop μ-loop
 turn c = c .before .before .before .before
 
-loop-holds : tie.Need-loop-holds Inv-loop μ-loop
-loop-holds c = (search needs, search needs, λ j h. absurd (not-suc-le-zero h))
-
-mul-m : tie.Need-mul-m Inv-loop μ-loop
-mul-m c = search needs
-
-array-copy-out-m : tie.Need-array-copy-out-m Inv-loop μ-loop
-array-copy-out-m c = search needs
-
-array-read-if1 : tie.Need-array-read-if1 Inv-loop μ-loop
-array-read-if1 c = search needs
-
 returns : tie.Need-returns Inv-loop μ-loop
-unfolding syncedAmong
-returns c = any-found _ _ (turn (c .before) .loop .s) (search needs) (c .if1 .taken)
-
-add-s : tie.Need-add-s Inv-loop μ-loop
-add-s c = search needs
-
-loop-less : tie.Need-loop-less Inv-loop μ-loop
-loop-less c = search needs
+unfolding synced messageIn
+returns c = let k = turn (c .before) in rw (← k .before .latest .ensures) (any-found _ _ (k .loop .s) (search needs) (c .if1 .taken))
 
 loop-again : tie.Need-loop-again Inv-loop μ-loop
-loop-again c = (search needs, search needs, below-more _ _ (turn (c .before) .loop .inv .2) (c .if1 .left))
+loop-again c = (search needs, below-more _ _ (turn (c .before) .loop .inv .1) (c .if1 .left))
 
 returns-2 : tie.Need-returns-2 Inv-loop μ-loop
-unfolding syncedAmong
-returns-2 c = any-none _ _ (λ j h. c .before .loop .inv .2 j (omega arith))
+unfolding synced messageIn
+returns-2 c = let k = c .before in rw (← k .before .latest .ensures) (any-none _ _ (λ j h. k .loop .inv .1 j (omega arith)))
 
 pub synced-spec : {M : Type 1} → statement M
 synced-spec =
@@ -60,12 +43,13 @@ synced-spec =
     (tie.spec
     Inv-loop
     μ-loop
-    loop-holds
-    mul-m
-    array-copy-out-m
-    array-read-if1
+    (λ c κs. search needs)
+    (λ c. (search needs, λ j h. absurd (not-suc-le-zero h)))
+    (λ c. search needs)
+    (λ c. search needs)
+    (λ c. search needs)
     returns
-    add-s
-    loop-less
+    (λ c. search needs)
+    (λ c. search needs)
     loop-again
     returns-2)

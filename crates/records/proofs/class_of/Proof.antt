@@ -7,9 +7,6 @@ use Rattle.model.specs.Records.{reportClass}
 use Rattle.records.proofs.class_of.Statement.{statement}
 use Rattle.records.proofs.class_of.Tie as tie
 
-byte-at-requires : tie.Need-byte-at-requires
-byte-at-requires c κs = search needs
-
 returns : tie.Need-returns
 unfolding reportClass
 returns c = c .byte-at .ensures ∙ sym (cond-true _ _ (eq-eqb _ 2 (c .before .if1 .taken)))
@@ -19,4 +16,4 @@ unfolding reportClass
 returns-2 c = sym (cond-false _ _ (ne-eqb _ 2 (c .if1 .left)))
 
 pub class-of-spec : {M : Type 1} → statement M
-class-of-spec = tie.close (tie.spec byte-at-requires returns returns-2)
+class-of-spec = tie.close (tie.spec (λ c κs. search needs) returns returns-2)

@@ -5,12 +5,6 @@ use Rattle.records.proofs.Cuts.{whole-cut, short-cut}
 use Rattle.records.proofs.cut_record.Statement.{statement}
 use Rattle.records.proofs.cut_record.Tie as tie
 
-byte-at-requires : tie.Need-byte-at-requires
-byte-at-requires c κs = search needs
-
-cast-size : tie.Need-cast-size
-cast-size c = search needs
-
 returns : tie.Need-returns
 returns c = whole-cut (now (c .before .before .before .args .bytes)) _ (c .before .byte-at .ensures) (c .if1 .taken)
 
@@ -18,4 +12,4 @@ returns-2 : tie.Need-returns-2
 returns-2 c = short-cut (now (c .before .before .before .args .bytes)) _ (c .before .byte-at .ensures) (c .if1 .left)
 
 pub cut-record-spec : {M : Type 1} → statement M
-cut-record-spec = tie.close (tie.spec byte-at-requires cast-size returns returns-2)
+cut-record-spec = tie.close (tie.spec (λ c κs. search needs) (λ c. search needs) returns returns-2)

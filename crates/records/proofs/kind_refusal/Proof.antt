@@ -3,12 +3,10 @@ use mathlib.Core.Path.{_≡_, sym, _∙_}
 use mathlib.Core.Bool.{true}
 use borrow.Author.Needs.{needs}
 use borrow.Author.Tests.{not-true, not-false}
-use Rattle.records.proofs.Shapes.{hasKind, refused-six, refused-seven, shaped}
+use Rattle.records.specs.Cuts.{hasKind}
+use Rattle.records.proofs.Decoding.{refused-six, refused-seven, shaped}
 use Rattle.records.proofs.kind_refusal.Statement.{statement}
 use Rattle.records.proofs.kind_refusal.Tie as tie
-
-has-kind-requires : tie.Need-has-kind-requires
-has-kind-requires c κs = search needs
 
 returns : tie.Need-returns
 returns c = refused-six _ _ _ (sym (c .before .has-kind .ensures) ∙ not-true _ (c .if1 .taken))
@@ -16,9 +14,6 @@ returns c = refused-six _ _ _ (sym (c .before .has-kind .ensures) ∙ not-true _
 -- past question 6
 kinded : (c : tie.Else1) → hasKind (c .before .before .args .size) (c .before .before .args .kind) ≡ true
 kinded c = sym (c .before .has-kind .ensures) ∙ not-false _ (c .if1 .left)
-
-size-of-kind-requires : tie.Need-size-of-kind-requires
-size-of-kind-requires c κs = search needs
 
 returns-2 : tie.Need-returns-2
 returns-2 c = shaped _ _ _ _ (kinded (c .before .before)) (c .before .size-of-kind .ensures) (c .if2 .taken)
@@ -30,8 +25,8 @@ pub kind-refusal-spec : {M : Type 1} → statement M
 kind-refusal-spec =
     tie.close
     (tie.spec
-    has-kind-requires
+    (λ c κs. search needs)
     returns
-    size-of-kind-requires
+    (λ c κs. search needs)
     returns-2
     returns-3)

@@ -8,21 +8,9 @@ use Rattle.model.specs.Records.{reported}
 use Rattle.records.proofs.report_of.Statement.{statement}
 use Rattle.records.proofs.report_of.Tie as tie
 
-report-requires : tie.Need-report-requires
-report-requires c κs = search needs
-
 returns : tie.Need-returns
 unfolding reported
 returns c = rw (lt-ltb (c .before .before .args .x) 32768 (c .before .if1 .taken)) (c .report .ensures)
-
-sub-report : tie.Need-sub-report
-sub-report c = search needs
-
-add-report : tie.Need-add-report
-add-report c = search needs
-
-report-requires-2 : tie.Need-report-requires-2
-report-requires-2 c κs = search needs
 
 returns-2 : tie.Need-returns-2
 unfolding reported
@@ -30,4 +18,4 @@ returns-2 c = rw (le-ltb (c .before .before .args .x) 32768 (c .before .if1 .lef
 
 pub report-of-spec : {M : Type 1} → statement M
 report-of-spec =
-    tie.close (tie.spec report-requires returns sub-report add-report report-requires-2 returns-2)
+    tie.close (tie.spec (λ c κs. search needs) returns (λ c. search needs) (λ c. search needs) (λ c κs. search needs) returns-2)

@@ -10,17 +10,17 @@ use lib.Dec.{eqb}
 use borrow.Author.Count.{below-more}
 use borrow.Author.Needs.{needs}
 use Rattle.lists.proofs.Clipped.{below-past, any-found, any-none}
-use Rattle.model.specs.Tables.{capacity, noMessage, message}
+use Rattle.model.specs.Tables.{capacity, syncKind, noMessage, messageIn}
 use Rattle.model.specs.Delivery.{has}
 use Rattle.model.specs.Events.{finishes}
-use Rattle.totals.proofs.Weights.{member-past}
+use Rattle.totals.proofs.PastTheArray.{member-past}
 use Rattle.totals.proofs.finishes.Statement.{statement}
 use Rattle.totals.proofs.finishes.Tie as tie
 
 abbrev Inv-loop : tie.InvT-loop
 Inv-loop count c messages members s₀ s-end s =
     (s ≤ s-end)
-    × ((j : ℕ) → j < s → (has members j && (eqb (getD messages j noMessage .payload .kind) 2 && eqb (getD messages j noMessage .sender) c)) ≡ false)
+    × ((j : ℕ) → j < s → (has members j && (eqb (getD messages j noMessage .payload .kind) syncKind && eqb (getD messages j noMessage .sender) c)) ≡ false)
 
 abbrev μ-loop : tie.MeasureT-loop
 μ-loop count c messages members s₀ s-end s = s-end - s
@@ -32,42 +32,15 @@ entered c = c .before .before
 long : (c : tie.At-loop Inv-loop μ-loop) → length (entered c .args .t3) ≡ capacity
 long c = entered c .good .1 .1 .0 .1 .0 .1
 
-at-most-requires : tie.Need-at-most-requires Inv-loop μ-loop
-at-most-requires c κs = search needs
-
-loop-holds : tie.Need-loop-holds Inv-loop μ-loop
-loop-holds c = (omega arith, λ j h. absurd (not-suc-le-zero h))
-
-mul-kind : tie.Need-mul-kind Inv-loop μ-loop
-mul-kind c = search needs
-
-element-copy-out-kind : tie.Need-element-copy-out-kind Inv-loop μ-loop
-element-copy-out-kind c = search needs
-
-mul-sender : tie.Need-mul-sender Inv-loop μ-loop
-mul-sender c = search needs
-
-element-copy-out-sender : tie.Need-element-copy-out-sender Inv-loop μ-loop
-element-copy-out-sender c = search needs
-
-array-read-if1 : tie.Need-array-read-if1 Inv-loop μ-loop
-array-read-if1 c = search needs
-
 returns : tie.Need-returns Inv-loop μ-loop
-unfolding finishes message
+unfolding finishes messageIn
 returns c = any-found _ _ (c .before .before .loop .s) (omega arith) (c .if1 .taken)
-
-add-s : tie.Need-add-s Inv-loop μ-loop
-add-s c = search needs
-
-loop-less : tie.Need-loop-less Inv-loop μ-loop
-loop-less c = search needs
 
 loop-again : tie.Need-loop-again Inv-loop μ-loop
 loop-again c = (omega arith, below-more _ _ (c .before .before .loop .inv .1) (c .if1 .left))
 
 returns-2 : tie.Need-returns-2 Inv-loop μ-loop
-unfolding finishes message
+unfolding finishes messageIn
 returns-2 c =
     let k = c .before in
     any-none _ _
@@ -79,15 +52,15 @@ finishes-spec =
     (tie.spec
     Inv-loop
     μ-loop
-    at-most-requires
-    loop-holds
-    mul-kind
-    element-copy-out-kind
-    mul-sender
-    element-copy-out-sender
-    array-read-if1
+    (λ c κs. search needs)
+    (λ c. (omega arith, λ j h. absurd (not-suc-le-zero h)))
+    (λ c. search needs)
+    (λ c. search needs)
+    (λ c. search needs)
+    (λ c. search needs)
+    (λ c. search needs)
     returns
-    add-s
-    loop-less
+    (λ c. search needs)
+    (λ c. search needs)
     loop-again
     returns-2)

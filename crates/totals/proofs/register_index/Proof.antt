@@ -6,19 +6,13 @@ use Rattle.totals.specs.Shown.{indexOf}
 use Rattle.totals.proofs.register_index.Statement.{statement}
 use Rattle.totals.proofs.register_index.Tie as tie
 
-cast-reg : tie.Need-cast-reg
-cast-reg c = search needs
-
-index-requires : tie.Need-index-requires
-index-requires c κs = search needs
-
 returns : tie.Need-returns
 unfolding indexOf
-returns c = c .before .index .ensures ∙ sym (cond-true _ _ (c .if1 .taken))
+returns c = c .before .predecessor .ensures ∙ sym (cond-true _ _ (c .if1 .taken))
 
 returns-2 : tie.Need-returns-2
 unfolding indexOf
 returns-2 c = sym (cond-false _ _ (c .if1 .left))
 
 pub register-index-spec : {M : Type 1} → statement M
-register-index-spec = tie.close (tie.spec cast-reg index-requires returns returns-2)
+register-index-spec = tie.close (tie.spec (λ c. search needs) (λ c κs. search needs) returns returns-2)

@@ -6,7 +6,7 @@ use native.Mathlib.Omega.{arith}
 use lib.ListN.{length}
 use borrow.Author.Needs.{needs}
 use Rattle.model.specs.Tables.{capacity}
-use Rattle.totals.proofs.Passing.{Passed, passed-none, passed-more, passed-room, passed-all}
+use Rattle.totals.proofs.SumsSoFar.{Passed, passed-none, passed-more, passed-room, passed-all}
 use Rattle.totals.proofs.sums.Statement.{statement}
 use Rattle.totals.proofs.sums.Tie as tie
 
@@ -16,50 +16,23 @@ Inv-loop count messages applied sums₀ s₀ s-end sums s = (s ≤ s-end) × Pas
 abbrev μ-loop : tie.MeasureT-loop
 μ-loop count messages applied sums₀ s₀ s-end sums s = s-end - s
 
--- from a turn to the entry, and from behind its amount to the turn
+-- from a turn to the entry, and from after its amount to the turn
 abbrev entered : tie.At-loop Inv-loop μ-loop → tie.Start Inv-loop μ-loop
 entered c = c .before .before .before
 
-abbrev turn : tie.After-counted Inv-loop μ-loop → tie.At-loop Inv-loop μ-loop
+abbrev turn : tie.After-parts-of Inv-loop μ-loop → tie.At-loop Inv-loop μ-loop
 turn c = c .before .before .before
 
 long : (c : tie.At-loop Inv-loop μ-loop) → length (entered c .args .t3) ≡ capacity
 long c = entered c .good .1 .1 .0 .1 .0 .1
 
-zero-requires : tie.Need-zero-requires Inv-loop μ-loop
-zero-requires c κs = search needs
-
-at-most-requires : tie.Need-at-most-requires Inv-loop μ-loop
-at-most-requires c κs = search needs
-
-loop-holds : tie.Need-loop-holds Inv-loop μ-loop
-loop-holds c = (omega arith, rw (c .before .zero .ensures) (passed-none _ _))
-
-mul-m : tie.Need-mul-m Inv-loop μ-loop
-mul-m c = search needs
-
-array-copy-out-m : tie.Need-array-copy-out-m Inv-loop μ-loop
-array-copy-out-m c = search needs
-
-array-read-counted : tie.Need-array-read-counted Inv-loop μ-loop
-array-read-counted c = search needs
-
-counted-requires : tie.Need-counted-requires Inv-loop μ-loop
-counted-requires c κs = search needs
-
 plus-requires : tie.Need-plus-requires Inv-loop μ-loop
-plus-requires c κs = let k = turn c in (passed-room _ _ (k .loop .s) _ (omega arith) (k .loop .inv .1), c .counted .ensures .1)
-
-add-s : tie.Need-add-s Inv-loop μ-loop
-add-s c = search needs
-
-loop-less : tie.Need-loop-less Inv-loop μ-loop
-loop-less c = search needs
+plus-requires c κs = let k = turn c in (passed-room _ _ (k .loop .s) _ (omega arith) (k .loop .inv .1), c .parts-of .ensures .1)
 
 loop-again : tie.Need-loop-again Inv-loop μ-loop
 loop-again c =
     let a = c .before in
-    let k = turn a in (omega arith, passed-more _ _ _ _ _ _ (k .loop .inv .1) (a .counted .ensures .0) (a .counted .ensures .1) (c .plus .ensures))
+    let k = turn a in (omega arith, passed-more _ _ _ _ _ _ (k .loop .inv .1) (a .parts-of .ensures .0) (a .parts-of .ensures .1) (c .plus .ensures))
 
 returns : tie.Need-returns Inv-loop μ-loop
 returns c = let k = c .before in passed-all _ _ _ (k .loop .s) _ (long k) (omega arith) (k .loop .inv .1)
@@ -70,15 +43,15 @@ sums-spec =
     (tie.spec
     Inv-loop
     μ-loop
-    zero-requires
-    at-most-requires
-    loop-holds
-    mul-m
-    array-copy-out-m
-    array-read-counted
-    counted-requires
+    (λ c κs. search needs)
+    (λ c κs. search needs)
+    (λ c. (omega arith, rw (c .before .zero .ensures) (passed-none _ _)))
+    (λ c. search needs)
+    (λ c. search needs)
+    (λ c. search needs)
+    (λ c κs. search needs)
     plus-requires
-    add-s
-    loop-less
+    (λ c. search needs)
+    (λ c. search needs)
     loop-again
     returns)

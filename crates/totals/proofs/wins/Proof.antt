@@ -6,9 +6,6 @@ use Rattle.model.specs.Registers.{wins}
 use Rattle.totals.proofs.wins.Statement.{statement}
 use Rattle.totals.proofs.wins.Tie as tie
 
-exceeds-requires : tie.Need-exceeds-requires
-exceeds-requires c κs = search needs
-
 returns : tie.Need-returns
 unfolding wins
 returns c = sym (cond-true _ _ (sym (c .before .exceeds .ensures) ∙ c .if1 .taken))
@@ -18,4 +15,4 @@ unfolding wins
 returns-2 c = sym (cond-false _ _ (sym (c .before .exceeds .ensures) ∙ c .if1 .left))
 
 pub wins-spec : {M : Type 1} → statement M
-wins-spec = tie.close (tie.spec exceeds-requires returns returns-2)
+wins-spec = tie.close (tie.spec (λ c κs. search needs) returns returns-2)

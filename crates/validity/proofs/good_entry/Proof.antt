@@ -7,15 +7,16 @@ use borrow.Author.Tests.{lt-ltb, le-ltb}
 use Rattle.lists.specs.Below.{all}
 use Rattle.lists.specs.Build.{tabulate}
 use Rattle.lists.proofs.Loops.{all-start, all-turn, all-end}
+use Rattle.model.specs.Tables.{seats}
 use Rattle.model.specs.WellFormed.{goodMark}
-use Rattle.validity.specs.Flags.{goodEntry}
+use Rattle.validity.specs.Flags.{goodEntry, byteCount}
 use borrow.Author.Needs.{needs}
 use Rattle.validity.proofs.good_entry.Statement.{statement}
 use Rattle.validity.proofs.good_entry.Tie as tie
 
 abbrev Inv-loop : tie.InvT-loop
 Inv-loop n allowed held marks good₀ f₀ good f =
-    (f ≤ n) × (n ≤ 7) × (allowed ≡ tabulate 256 goodMark) × (good ≡ all f (λ x. goodMark ((getD marks x (record { 0 = 0 })) .0)))
+    (f ≤ n) × (n ≤ seats) × (allowed ≡ tabulate byteCount goodMark) × (good ≡ all f (λ x. goodMark ((getD marks x (record { 0 = 0 })) .0)))
 
 abbrev μ-loop : tie.MeasureT-loop
 μ-loop n allowed held marks good₀ f₀ good f = n - f
@@ -26,21 +27,6 @@ begun c = c .before .before .before .before
 returns : tie.Need-returns Inv-loop μ-loop
 unfolding goodEntry
 returns c = rw (le-ltb 0 (c .before .args .p .held) (omega arith))
-
-loop-holds : tie.Need-loop-holds Inv-loop μ-loop
-loop-holds c = (search needs, search needs, search needs, all-start _)
-
-element-copy-out-good-mark : tie.Need-element-copy-out-good-mark Inv-loop μ-loop
-element-copy-out-good-mark c = search needs
-
-good-mark-requires : tie.Need-good-mark-requires Inv-loop μ-loop
-good-mark-requires c κs = search needs
-
-add-f : tie.Need-add-f Inv-loop μ-loop
-add-f c = search needs
-
-loop-less : tie.Need-loop-less Inv-loop μ-loop
-loop-less c = search needs
 
 loop-again : tie.Need-loop-again Inv-loop μ-loop
 loop-again c = (search needs, search needs, search needs, all-turn _ _ _ _ (c .before .before .loop .inv .3) (c .good-mark .ensures))
@@ -56,10 +42,10 @@ good-entry-spec =
     Inv-loop
     μ-loop
     returns
-    loop-holds
-    element-copy-out-good-mark
-    good-mark-requires
-    add-f
-    loop-less
+    (λ c. (search needs, search needs, search needs, all-start _))
+    (λ c. search needs)
+    (λ c κs. search needs)
+    (λ c. search needs)
+    (λ c. search needs)
     loop-again
     returns-2)

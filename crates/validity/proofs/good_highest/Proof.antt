@@ -6,34 +6,16 @@ use Rattle.lists.specs.Below.{all}
 use Rattle.lists.proofs.Loops.{all-start, all-turn, all-end}
 use lib.ListN.{getD}
 use lib.Dec.{eqb}
-use Rattle.model.specs.Tables.{none}
+use Rattle.model.specs.Tables.{none, seats}
 use borrow.Author.Needs.{needs}
 use Rattle.validity.proofs.good_highest.Statement.{statement}
 use Rattle.validity.proofs.good_highest.Tie as tie
 
 abbrev Inv-loop : tie.InvT-loop
-Inv-loop n highest greatest good₀ x₀ good x = (x ≤ n) × (n ≤ 7) × (good ≡ all x (λ y. eqb (getD highest y none .0) (getD greatest (y + 1) 0)))
+Inv-loop n highest greatest good₀ x₀ good x = (x ≤ n) × (n ≤ seats) × (good ≡ all x (λ y. eqb (getD highest y none .0) (getD greatest (y + 1) 0)))
 
 abbrev μ-loop : tie.MeasureT-loop
 μ-loop n highest greatest good₀ x₀ good x = n - x
-
-loop-holds : tie.Need-loop-holds Inv-loop μ-loop
-loop-holds c = (search needs, search needs, all-start _)
-
-element-copy-out-stored : tie.Need-element-copy-out-stored Inv-loop μ-loop
-element-copy-out-stored c = search needs
-
-add-good : tie.Need-add-good Inv-loop μ-loop
-add-good c = search needs
-
-array-read-good : tie.Need-array-read-good Inv-loop μ-loop
-array-read-good c = search needs
-
-add-x : tie.Need-add-x Inv-loop μ-loop
-add-x c = search needs
-
-loop-less : tie.Need-loop-less Inv-loop μ-loop
-loop-less c = search needs
 
 loop-again : tie.Need-loop-again Inv-loop μ-loop
 loop-again c = (search needs, search needs, all-turn _ _ _ _ (c .before .loop .inv .2) refl)
@@ -47,11 +29,11 @@ good-highest-spec =
     (tie.spec
     Inv-loop
     μ-loop
-    loop-holds
-    element-copy-out-stored
-    add-good
-    array-read-good
-    add-x
-    loop-less
+    (λ c. (search needs, search needs, all-start _))
+    (λ c. search needs)
+    (λ c. search needs)
+    (λ c. search needs)
+    (λ c. search needs)
+    (λ c. search needs)
     loop-again
     returns)

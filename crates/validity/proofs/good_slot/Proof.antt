@@ -13,7 +13,7 @@ both-or-neither false false = refl
 
 returns : tie.Need-returns
 unfolding goodSlot
-returns c = let a = c .args in rw (both-or-neither (a .named) (a .held || a .done))
+returns c = let a = c .args in rw (both-or-neither (a .logged) (a .held || a .done))
 
 pub good-slot-spec : {M : Type 1} → statement M
 good-slot-spec = tie.close (tie.spec returns)

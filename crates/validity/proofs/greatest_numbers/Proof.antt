@@ -4,15 +4,15 @@ use Prim.Native.Nat.{_-_, _≤_}
 use native.Mathlib.Omega.{arith}
 use lib.ListN.{getD}
 use Rattle.lists.specs.Build.{tabulate}
-use Rattle.model.specs.Tables.{noName}
-use Rattle.validity.specs.Flags.{Seated, greatestOf}
-use Rattle.validity.proofs.Numbers.{none-passed, next-passed}
+use Rattle.model.specs.Tables.{noName, capacity, seats}
+use Rattle.validity.specs.Flags.{Seated, greatestOf, senderCount}
+use Rattle.validity.proofs.GreatestNumbers.{none-passed, next-passed}
 use borrow.Author.Needs.{needs}
 use Rattle.validity.proofs.greatest_numbers.Statement.{statement}
 use Rattle.validity.proofs.greatest_numbers.Tie as tie
 
 abbrev Inv-loop : tie.InvT-loop
-Inv-loop count names flags greatest₀ s₀ greatest s = (s ≤ count) × (count ≤ 64) × Seated count names × (greatest ≡ tabulate 8 (greatestOf s names flags))
+Inv-loop count names flags greatest₀ s₀ greatest s = (s ≤ count) × (count ≤ capacity) × Seated count names × (greatest ≡ tabulate senderCount (greatestOf s names flags))
 
 abbrev μ-loop : tie.MeasureT-loop
 μ-loop count names flags greatest₀ s₀ greatest s = count - s
@@ -21,41 +21,8 @@ abbrev μ-loop : tie.MeasureT-loop
 abbrev turn : tie.After-struct-known Inv-loop μ-loop → tie.At-loop Inv-loop μ-loop
 turn c = c .before .before .before
 
-seat : (c : tie.After-struct-known Inv-loop μ-loop) → getD (turn c .before .args .t2) (turn c .loop .s) noName .sender ≤ 7
+seat : (c : tie.After-struct-known Inv-loop μ-loop) → getD (turn c .before .args .t2) (turn c .loop .s) noName .sender ≤ seats
 seat c = turn c .loop .inv .2 _ (c .before .before .loop-test .taken)
-
-loop-holds : tie.Need-loop-holds Inv-loop μ-loop
-loop-holds c = (search needs, search needs, c .pre .1, none-passed _ _)
-
-mul-m : tie.Need-mul-m Inv-loop μ-loop
-mul-m c = search needs
-
-array-copy-out-m : tie.Need-array-copy-out-m Inv-loop μ-loop
-array-copy-out-m c = search needs
-
-cast-sender : tie.Need-cast-sender Inv-loop μ-loop
-cast-sender c = omega (arith, seat c)
-
-array-read-number-if : tie.Need-array-read-number-if Inv-loop μ-loop
-array-read-number-if c = search needs
-
-number-if-requires : tie.Need-number-if-requires Inv-loop μ-loop
-number-if-requires c κs = search needs
-
-array-read-greater : tie.Need-array-read-greater Inv-loop μ-loop
-array-read-greater c = omega (arith, seat (c .before))
-
-greater-requires : tie.Need-greater-requires Inv-loop μ-loop
-greater-requires c κs = search needs
-
-array-write-greatest : tie.Need-array-write-greatest Inv-loop μ-loop
-array-write-greatest c = omega (arith, seat (c .before .before))
-
-add-s : tie.Need-add-s Inv-loop μ-loop
-add-s c = search needs
-
-loop-less : tie.Need-loop-less Inv-loop μ-loop
-loop-less c = search needs
 
 loop-again : tie.Need-loop-again Inv-loop μ-loop
 loop-again c =
@@ -71,16 +38,16 @@ greatest-numbers-spec =
     (tie.spec
     Inv-loop
     μ-loop
-    loop-holds
-    mul-m
-    array-copy-out-m
-    cast-sender
-    array-read-number-if
-    number-if-requires
-    array-read-greater
-    greater-requires
-    array-write-greatest
-    add-s
-    loop-less
+    (λ c. (search needs, search needs, c .pre .1, none-passed _ _))
+    (λ c. search needs)
+    (λ c. search needs)
+    (λ c. omega (arith, seat c))
+    (λ c. search needs)
+    (λ c κs. search needs)
+    (λ c. omega (arith, seat (c .before)))
+    (λ c κs. search needs)
+    (λ c. omega (arith, seat (c .before .before)))
+    (λ c. search needs)
+    (λ c. search needs)
     loop-again
     returns)

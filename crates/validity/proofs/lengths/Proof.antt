@@ -5,37 +5,16 @@ use native.Mathlib.Omega.{arith}
 use lib.ListN.{length, getD, length-set}
 use Rattle.lists.specs.Build.{over}
 use Rattle.lists.proofs.Build.{over-none, over-more, over-end, over-tabulate}
-use Rattle.model.specs.Tables.{noController}
+use Rattle.model.specs.Tables.{noController, seats}
 use borrow.Author.Needs.{needs}
 use Rattle.validity.proofs.lengths.Statement.{statement}
 use Rattle.validity.proofs.lengths.Tie as tie
 
 abbrev Inv-loop : tie.InvT-loop
-Inv-loop controllers lengths₀ o₀ lengths o = (o ≤ 7) × (length lengths ≡ 7) × (lengths ≡ over (λ k. getD controllers k noController .length) o lengths₀)
+Inv-loop controllers lengths₀ o₀ lengths o = (o ≤ seats) × (length lengths ≡ seats) × (lengths ≡ over (λ k. getD controllers k noController .length) o lengths₀)
 
 abbrev μ-loop : tie.MeasureT-loop
-μ-loop controllers lengths₀ o₀ lengths o = 7 - o
-
-loop-holds : tie.Need-loop-holds Inv-loop μ-loop
-loop-holds c = (search needs, refl, sym (over-none _ _))
-
-mul-c : tie.Need-mul-c Inv-loop μ-loop
-mul-c c = search needs
-
-array-copy-out-c : tie.Need-array-copy-out-c Inv-loop μ-loop
-array-copy-out-c c = search needs
-
-mul-lengths : tie.Need-mul-lengths Inv-loop μ-loop
-mul-lengths c = search needs
-
-array-write-lengths : tie.Need-array-write-lengths Inv-loop μ-loop
-array-write-lengths c = search needs
-
-add-o : tie.Need-add-o Inv-loop μ-loop
-add-o c = search needs
-
-loop-less : tie.Need-loop-less Inv-loop μ-loop
-loop-less c = search needs
+μ-loop controllers lengths₀ o₀ lengths o = seats - o
 
 loop-again : tie.Need-loop-again Inv-loop μ-loop
 loop-again c = (search needs, simp length-set (omega arith), over-more _ _ _ _ _ (c .before .before .loop .inv .2) refl)
@@ -49,12 +28,12 @@ lengths-spec =
     (tie.spec
     Inv-loop
     μ-loop
-    loop-holds
-    mul-c
-    array-copy-out-c
-    mul-lengths
-    array-write-lengths
-    add-o
-    loop-less
+    (λ c. (search needs, refl, sym (over-none _ _)))
+    (λ c. search needs)
+    (λ c. search needs)
+    (λ c. search needs)
+    (λ c. search needs)
+    (λ c. search needs)
+    (λ c. search needs)
     loop-again
     returns)

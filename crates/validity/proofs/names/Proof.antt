@@ -5,7 +5,7 @@ use native.Mathlib.Omega.{arith}
 use lib.ListN.{length, getD, length-set}
 use Rattle.lists.specs.Build.{over}
 use Rattle.lists.proofs.Build.{over-none, over-more, over-end, getD-over}
-use Rattle.model.specs.Tables.{noName, noMessage}
+use Rattle.model.specs.Tables.{noName, noMessage, capacity}
 use Rattle.model.specs.Events.{nameOf}
 use borrow.Author.Needs.{needs}
 use Rattle.validity.proofs.names.Statement.{statement}
@@ -13,31 +13,10 @@ use Rattle.validity.proofs.names.Tie as tie
 
 abbrev Inv-loop : tie.InvT-loop
 Inv-loop count messages names₀ s₀ names s =
-    (s ≤ count) × (count ≤ 64) × (length names ≡ 64) × (names ≡ over (λ k. nameOf (getD messages k noMessage)) s names₀)
+    (s ≤ count) × (count ≤ capacity) × (length names ≡ capacity) × (names ≡ over (λ k. nameOf (getD messages k noMessage)) s names₀)
 
 abbrev μ-loop : tie.MeasureT-loop
 μ-loop count messages names₀ s₀ names s = count - s
-
-loop-holds : tie.Need-loop-holds Inv-loop μ-loop
-loop-holds c = (search needs, search needs, refl, sym (over-none _ _))
-
-mul-m : tie.Need-mul-m Inv-loop μ-loop
-mul-m c = search needs
-
-array-copy-out-m : tie.Need-array-copy-out-m Inv-loop μ-loop
-array-copy-out-m c = search needs
-
-mul-names : tie.Need-mul-names Inv-loop μ-loop
-mul-names c = search needs
-
-array-set-from-names : tie.Need-array-set-from-names Inv-loop μ-loop
-array-set-from-names c = search needs
-
-add-s : tie.Need-add-s Inv-loop μ-loop
-add-s c = search needs
-
-loop-less : tie.Need-loop-less Inv-loop μ-loop
-loop-less c = search needs
 
 loop-again : tie.Need-loop-again Inv-loop μ-loop
 loop-again c = (search needs, search needs, simp length-set (omega arith), over-more _ _ _ _ _ (c .before .before .before .loop .inv .3) refl)
@@ -51,12 +30,12 @@ names-spec =
     (tie.spec
     Inv-loop
     μ-loop
-    loop-holds
-    mul-m
-    array-copy-out-m
-    mul-names
-    array-set-from-names
-    add-s
-    loop-less
+    (λ c. (search needs, search needs, refl, sym (over-none _ _)))
+    (λ c. search needs)
+    (λ c. search needs)
+    (λ c. search needs)
+    (λ c. search needs)
+    (λ c. search needs)
+    (λ c. search needs)
     loop-again
     returns)

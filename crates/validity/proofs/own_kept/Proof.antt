@@ -4,37 +4,17 @@ use Prim.Native.Nat.{_-_, _≤_}
 use native.Mathlib.Omega.{arith}
 use Rattle.lists.specs.Below.{all}
 use Rattle.lists.proofs.Loops.{all-start, all-turn, all-end}
+use Rattle.model.specs.Tables.{capacity}
 use Rattle.validity.specs.Flags.{ownTest}
 use borrow.Author.Needs.{needs}
 use Rattle.validity.proofs.own_kept.Statement.{statement}
 use Rattle.validity.proofs.own_kept.Tie as tie
 
 abbrev Inv-loop : tie.InvT-loop
-Inv-loop who running held applied end senders good₀ s₀ good s = (s ≤ end) × (end ≤ 64) × (good ≡ all s (ownTest senders who running held applied))
+Inv-loop who running held applied end senders good₀ s₀ good s = (s ≤ end) × (end ≤ capacity) × (good ≡ all s (ownTest senders who running held applied))
 
 abbrev μ-loop : tie.MeasureT-loop
 μ-loop who running held applied end senders good₀ s₀ good s = end - s
-
-loop-holds : tie.Need-loop-holds Inv-loop μ-loop
-loop-holds c = (search needs, search needs, all-start _)
-
-array-read-own : tie.Need-array-read-own Inv-loop μ-loop
-array-read-own c = search needs
-
-cast-own : tie.Need-cast-own Inv-loop μ-loop
-cast-own c = search needs
-
-array-read-known : tie.Need-array-read-known Inv-loop μ-loop
-array-read-known c = search needs
-
-array-read-known-2 : tie.Need-array-read-known-2 Inv-loop μ-loop
-array-read-known-2 c = search needs
-
-add-s : tie.Need-add-s Inv-loop μ-loop
-add-s c = search needs
-
-loop-less : tie.Need-loop-less Inv-loop μ-loop
-loop-less c = search needs
 
 loop-again : tie.Need-loop-again Inv-loop μ-loop
 loop-again c = (search needs, search needs, all-turn _ _ _ _ (c .before .loop .inv .2) refl)
@@ -48,12 +28,12 @@ own-kept-spec =
     (tie.spec
     Inv-loop
     μ-loop
-    loop-holds
-    array-read-own
-    cast-own
-    array-read-known
-    array-read-known-2
-    add-s
-    loop-less
+    (λ c. (search needs, search needs, all-start _))
+    (λ c. search needs)
+    (λ c. search needs)
+    (λ c. search needs)
+    (λ c. search needs)
+    (λ c. search needs)
+    (λ c. search needs)
     loop-again
     returns)

@@ -7,45 +7,24 @@ use Rattle.lists.specs.Build.{tabulate, over}
 use Rattle.lists.proofs.Loops.{all-start, all-turn, all-end}
 use Rattle.lists.proofs.Build.{over-none, over-more, over-end, over-tabulate}
 use mathlib.Core.Bool.{false}
-use Rattle.model.specs.Tables.{yes?, entry}
+use Rattle.model.specs.Tables.{yes?, entry, capacity, seats}
 use Rattle.model.specs.WellFormed.{goodMark}
-use Rattle.validity.specs.Flags.{goodEntry}
+use Rattle.validity.specs.Flags.{goodEntry, byteCount}
 use borrow.Author.Needs.{needs}
 use Rattle.validity.proofs.read_buffer.Statement.{statement}
 use Rattle.validity.proofs.read_buffer.Tie as tie
 
 abbrev Inv-loop : tie.InvT-loop
 Inv-loop n allowed pending held₀ good₀ s₀ held good s =
-    (s ≤ 64) × (n ≤ 7) × (allowed ≡ tabulate 256 goodMark) × (held ≡ over (λ x. yes? (entry pending x .held)) s held₀)
+    (s ≤ capacity) × (n ≤ seats) × (allowed ≡ tabulate byteCount goodMark) × (held ≡ over (λ x. yes? (entry pending x .held)) s held₀)
     × (good ≡ all s (λ x. goodEntry n (entry pending x)))
 
 abbrev μ-loop : tie.MeasureT-loop
-μ-loop n allowed pending held₀ good₀ s₀ held good s = 64 - s
+μ-loop n allowed pending held₀ good₀ s₀ held good s = capacity - s
 
 -- where the turn began
 abbrev turn : tie.After-good-entry Inv-loop μ-loop → tie.At-loop Inv-loop μ-loop
 turn c = c .before .before .before .before
-
-loop-holds : tie.Need-loop-holds Inv-loop μ-loop
-loop-holds c = (search needs, search needs, search needs, sym (over-none _ _), all-start _)
-
-mul-entry : tie.Need-mul-entry Inv-loop μ-loop
-mul-entry c = search needs
-
-array-copy-out-entry : tie.Need-array-copy-out-entry Inv-loop μ-loop
-array-copy-out-entry c = search needs
-
-array-write-held : tie.Need-array-write-held Inv-loop μ-loop
-array-write-held c = search needs
-
-good-entry-requires : tie.Need-good-entry-requires Inv-loop μ-loop
-good-entry-requires c κs = search needs
-
-add-s : tie.Need-add-s Inv-loop μ-loop
-add-s c = search needs
-
-loop-less : tie.Need-loop-less Inv-loop μ-loop
-loop-less c = search needs
 
 loop-again : tie.Need-loop-again Inv-loop μ-loop
 loop-again c = let t = turn c in (search needs, search needs, search needs, over-more _ _ _ _ _ (t .loop .inv .3) refl, all-turn _ _ _ _ (t .loop .inv .4) (c .good-entry .ensures))
@@ -62,12 +41,12 @@ read-buffer-spec =
     (tie.spec
     Inv-loop
     μ-loop
-    loop-holds
-    mul-entry
-    array-copy-out-entry
-    array-write-held
-    good-entry-requires
-    add-s
-    loop-less
+    (λ c. (search needs, search needs, search needs, sym (over-none _ _), all-start _))
+    (λ c. search needs)
+    (λ c. search needs)
+    (λ c. search needs)
+    (λ c κs. search needs)
+    (λ c. search needs)
+    (λ c. search needs)
     loop-again
     returns)

@@ -3,51 +3,25 @@ use mathlib.Core.Path.{_≡_, refl}
 use Prim.Native.Nat.{_-_, _≤_}
 use native.Mathlib.Omega.{arith}
 use lib.ListN.{length, length-set}
+use Rattle.model.specs.Tables.{capacity}
 use Rattle.validity.specs.Flags.{Wrote}
-use Rattle.validity.proofs.Writes.{none-wrote, other-wrote, write-wrote, no-writes}
+use Rattle.validity.proofs.WriteStamps.{none-wrote, other-wrote, write-wrote, no-writes}
 use borrow.Author.Needs.{needs}
 use Rattle.validity.proofs.read_writes.Statement.{statement}
 use Rattle.validity.proofs.read_writes.Tie as tie
 
 abbrev Inv-loop : tie.InvT-loop
-Inv-loop count messages senders₀ end₀ s₀ senders end s = (s ≤ count) × (count ≤ 64) × (length senders ≡ 64) × Wrote s messages end senders
+Inv-loop count messages senders₀ end₀ s₀ senders end s = (s ≤ count) × (count ≤ capacity) × (length senders ≡ capacity) × Wrote s messages end senders
 
 abbrev μ-loop : tie.MeasureT-loop
 μ-loop count messages senders₀ end₀ s₀ senders end s = count - s
 
--- from behind the message that a turn reads to the turn
+-- from after the message that a turn reads to the turn
 abbrev turn : tie.After-m Inv-loop μ-loop → tie.At-loop Inv-loop μ-loop
 turn c = c .before .before
 
-loop-holds : tie.Need-loop-holds Inv-loop μ-loop
-loop-holds c = (search needs, search needs, refl, none-wrote _)
-
-mul-m : tie.Need-mul-m Inv-loop μ-loop
-mul-m c = search needs
-
-array-copy-out-m : tie.Need-array-copy-out-m Inv-loop μ-loop
-array-copy-out-m c = search needs
-
-add-s : tie.Need-add-s Inv-loop μ-loop
-add-s c = search needs
-
-loop-less : tie.Need-loop-less Inv-loop μ-loop
-loop-less c = search needs
-
 loop-again : tie.Need-loop-again Inv-loop μ-loop
 loop-again c = let t = turn (c .before) .loop .inv in (search needs, search needs, t .2, other-wrote _ _ _ _ (search needs) (t .3) (c .if1 .taken))
-
-array-write-senders : tie.Need-array-write-senders Inv-loop μ-loop
-array-write-senders c = search needs
-
-add-end : tie.Need-add-end Inv-loop μ-loop
-add-end c = search needs
-
-add-s-2 : tie.Need-add-s-2 Inv-loop μ-loop
-add-s-2 c = search needs
-
-loop-less-2 : tie.Need-loop-less-2 Inv-loop μ-loop
-loop-less-2 c = search needs
 
 loop-again-2 : tie.Need-loop-again-2 Inv-loop μ-loop
 loop-again-2 c =
@@ -76,16 +50,16 @@ read-writes-spec =
     (tie.spec
     Inv-loop
     μ-loop
-    loop-holds
-    mul-m
-    array-copy-out-m
-    add-s
-    loop-less
+    (λ c. (search needs, search needs, refl, none-wrote _))
+    (λ c. search needs)
+    (λ c. search needs)
+    (λ c. search needs)
+    (λ c. search needs)
     loop-again
-    array-write-senders
-    add-end
-    add-s-2
-    loop-less-2
+    (λ c. search needs)
+    (λ c. search needs)
+    (λ c. search needs)
+    (λ c. search needs)
     loop-again-2
     returns
     each-write-requires

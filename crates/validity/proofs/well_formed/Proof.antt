@@ -4,16 +4,16 @@ use mathlib.Core.Bool.{true, false, not}
 use native.Mathlib.Omega.{arith}
 use borrow.Author.Needs.{needs}
 use borrow.Author.Tests.{not-true, not-false}
+use Rattle.model.specs.Tables.{messagesOf}
 use Rattle.model.specs.WellFormed.{goodMessages}
 use Rattle.model.specs.declared.Table.{Table}
-use Rattle.model.specs.Parts.{part}
 use Rattle.validity.specs.Flags.{AllBounded}
-use Rattle.validity.proofs.Messages.{all-bounded}
-use Rattle.validity.proofs.Controllers.{inBounds, out-of-range, few, fits, bad-messages, bad-writes, tested}
+use Rattle.validity.proofs.DistinctNames.{all-bounded}
+use Rattle.validity.proofs.ControllerTests.{inBounds, out-of-range, few, fits, bad-messages, bad-writes, tested}
 use Rattle.validity.proofs.well_formed.Statement.{statement}
 use Rattle.validity.proofs.well_formed.Tie as tie
 
--- from behind the test of the messages to the messages, and from behind that of the writes to where these were read
+-- from after the test of the messages to the messages, and from after that of the writes to where these were read
 abbrev read : tie.Else2 → tie.After-messages
 read c = c .before .before
 
@@ -27,14 +27,11 @@ table c = c .before .before .before .args .t
 ranged : (c : tie.After-messages) → not (inBounds (table c)) ≡ false
 ranged c = rw (c .before .before .known .ensures) at (c .before .if1 .left)
 
-good : (c : tie.Else2) → let t = table (read c) in goodMessages (part (t .version) (t .n) (t .count) (t .messages)) ≡ true
+good : (c : tie.Else2) → let t = table (read c) in goodMessages (t .version) (t .n) (messagesOf t) ≡ true
 good c = sym (c .before .good-messages .ensures) ∙ not-false _ (c .if2 .left)
 
 bounded : (c : tie.Else2) → AllBounded (table (read c) .count) (table (read c) .messages)
 bounded c = let r = ranged (read c) in all-bounded _ _ _ _ (few (table (read c)) r) (fits (table (read c)) r) (good c)
-
-known-requires : tie.Need-known-requires
-known-requires c κs = search needs
 
 returns : tie.Need-returns
 returns c = out-of-range _ (rw (c .before .known .ensures) at (c .if1 .taken))
@@ -70,7 +67,7 @@ pub well-formed-spec : {M : Type 1} → statement M
 well-formed-spec =
     tie.close
     (tie.spec
-    known-requires
+    (λ c κs. search needs)
     returns
     good-messages-requires
     returns-2

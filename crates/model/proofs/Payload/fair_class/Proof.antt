@@ -1,7 +1,7 @@
 -- `Payload::fair_class` is the rule of question 17 for a report of version 2, and of every other message. Assumes nothing.
 use mathlib.Core.Path.{sym}
 use Rattle.lists.proofs.Tests.{cond-true, cond-false}
-use Rattle.model.specs.WellFormed.{fairClass}
+use Rattle.model.specs.Fair.{fairClass}
 use Rattle.model.proofs.Payload.fair_class.Statement.{statement}
 use Rattle.model.proofs.Payload.fair_class.Tie as tie
 

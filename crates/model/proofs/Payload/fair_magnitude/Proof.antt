@@ -1,6 +1,6 @@
 -- `Payload::fair_magnitude` is the test of one magnitude. Assumes nothing.
 use mathlib.Core.Path.{refl}
-use Rattle.model.specs.WellFormed.{fairMagnitude}
+use Rattle.model.specs.Fair.{fairMagnitude}
 use Rattle.model.proofs.Payload.fair_magnitude.Statement.{statement}
 use Rattle.model.proofs.Payload.fair_magnitude.Tie as tie
 

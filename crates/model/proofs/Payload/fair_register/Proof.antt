@@ -2,7 +2,7 @@
 use mathlib.Core.Path.{sym}
 use borrow.Author.Tests.{eq-eqb, ne-eqb}
 use Rattle.lists.proofs.Tests.{cond-true, cond-false}
-use Rattle.model.specs.WellFormed.{fairRegister}
+use Rattle.model.specs.Fair.{fairRegister}
 use Rattle.model.proofs.Payload.fair_register.Statement.{statement}
 use Rattle.model.proofs.Payload.fair_register.Tie as tie
 

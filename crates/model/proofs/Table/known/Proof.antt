@@ -1,6 +1,6 @@
 -- `Table::known` is the test of a version. Assumes nothing.
 use mathlib.Core.Path.{refl}
-use Rattle.model.specs.WellFormed.{known}
+use Rattle.model.specs.Fair.{known}
 use Rattle.model.proofs.Table.known.Statement.{statement}
 use Rattle.model.proofs.Table.known.Tie as tie
 

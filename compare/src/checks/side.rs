@@ -1,0 +1,64 @@
+//! One side of a comparison: an engine, the table that it goes on with, and memory that is lent to it. And what it
+//! answers in plain numbers.
+
+use super::demand3;
+use crate::engines::library::DIRTY_SUMS;
+use crate::engines::Engine;
+use furnacejade::{Answer, MessageNumber, Name, Refusal, Register, Sums, Table};
+
+const GUARD: usize = 64;
+
+/// Lent memory: dirty at first, with a guard on either side.
+pub struct Lent {
+    pub memory: Vec<u8>,
+    length: usize,
+}
+
+impl Lent {
+    pub fn new(length: usize) -> Lent {
+        let dirt = |i: usize| (i.wrapping_mul(37) as u8) | 1;
+        Lent { memory: (0..length + 2 * GUARD).map(dirt).collect(), length }
+    }
+    pub fn lent(&mut self) -> &mut [u8] {
+        &mut self.memory[GUARD..GUARD + self.length]
+    }
+}
+
+fn dirty_answer() -> Answer {
+    let name = Name { sender: 0xA5, number: MessageNumber(0xA5) };
+    Answer { number: Refusal::from(0xA5), finished: 0xA5, sums: DIRTY_SUMS, size: 77, names: [name; 64] }
+}
+
+/// An engine, and the table that it goes on with.
+pub struct Side<'a> {
+    pub engine: &'a dyn Engine,
+    pub table: Table,
+}
+
+/// What an event call leaves but for the table.
+pub struct EventLeft {
+    pub answer: Answer,
+    pub bytes: usize,
+    pub scratch: Vec<u8>,
+}
+
+impl Side<'_> {
+    pub fn event(&mut self, bytes: &[u8], scratch: usize) -> EventLeft {
+        let (mut scratch, mut answer) = (Lent::new(scratch), dirty_answer());
+        let bytes = self.engine.event(&mut self.table, bytes, scratch.lent(), &mut answer);
+        EventLeft { answer, bytes, scratch: scratch.memory }
+    }
+}
+
+/// The names of the set, however wrong its size is.
+pub fn set(answer: &Answer) -> Vec<demand3::Name> {
+    answer.names[..answer.size.min(64)].iter().map(|x| (x.sender as usize, x.number.0 as usize)).collect()
+}
+
+pub fn sums(sums: Sums) -> demand3::Sums {
+    (sums.added as usize, sums.withdrawn as usize)
+}
+
+pub fn register(Register { value, stamp }: Register) -> demand3::Register {
+    ((stamp.date as usize, stamp.writer as usize), value)
+}

@@ -1,0 +1,202 @@
+//! Lists of calls with answers: those that every engine gives, from `cases/answers/lists.txt`, and those that no engine
+//! gives, from `cases/answers/wrong-lists.txt`, with what the checker of demand 3 must say of them.
+
+use super::script::{expect, Script};
+use crate::cases::records::{classed_report, file_of, handover, local_read, report, stop, sync, write};
+use crate::cases::text::head_of;
+use crate::cases::Head;
+use crate::checks::demand3::{Figures, Ledger, Name, Register, Sums};
+use crate::checks::side;
+use crate::engines::Engine;
+use crate::reference::{LISTING, SCRATCH};
+use furnacejade::LookAnswer;
+
+/// A list from a fresh table: what it is about, and its calls. If no engine gives its answers, what the checker says.
+#[derive(Default)]
+struct List {
+    what: String,
+    version: usize,
+    n: usize,
+    calls: Vec<Said>,
+    wrong: Option<String>,
+}
+
+/// A call with its answer; of a handover the sums are those of its line.
+enum Said {
+    Event { record: Vec<u8>, set: Vec<Name>, finished: u8, sums: Sums },
+    Look { c: usize, shown: Box<Shown> },
+}
+
+struct Shown {
+    sums: Sums,
+    classes: [Sums; 5],
+    registers: [Register; 8],
+}
+
+fn numbers(text: &str) -> Vec<i64> {
+    text.split_whitespace().filter_map(|word| word.parse().ok()).collect()
+}
+
+fn sums_in(text: &str) -> Sums {
+    let found = numbers(text);
+    (found.first().map_or(0, |x| *x as usize), found.get(1).map_or(0, |x| *x as usize))
+}
+
+fn names_in(text: &str) -> Vec<Name> {
+    let name = |word: &str| word.split_once('.').map(|(s, k)| (s.parse().unwrap(), k.parse().unwrap()));
+    text.split_whitespace().filter_map(name).collect()
+}
+
+/// In version 1 the sums are those of class 0.
+fn look_in(version: usize, c: usize, answer: &str) -> Said {
+    let (mut classes, mut registers) = ([(0, 0); 5], [((0, 0), 0); 8]);
+    let mut parts = answer.split(';');
+    let sums = sums_in(parts.next().unwrap_or_default());
+    if version == 1 {
+        classes[0] = sums;
+    }
+    for part in parts {
+        match numbers(part)[..] {
+            [class, added, withdrawn] => classes[class as usize] = (added as usize, withdrawn as usize),
+            [register, value, date, writer] => {
+                registers[register as usize - 1] = ((date as usize, writer as usize), value as u32)
+            }
+            _ => panic!("no class and no register: {part}"),
+        }
+    }
+    Said::Look { c, shown: Box::new(Shown { sums, classes, registers }) }
+}
+
+fn said(version: usize, line: &str) -> Said {
+    let (call, answer) = line.split_once(':').unwrap_or((line, ""));
+    let (word, of) = (call.split_whitespace().next().unwrap_or_default(), numbers(call));
+    let c = of[0] as usize;
+    let record = match (word, &of[1..]) {
+        ("report", [amount]) => report(c, *amount as i16),
+        ("report", [amount, class]) => classed_report(c, *amount as i16, *class as u8),
+        ("sync", []) => sync(c),
+        ("write", [register, value]) => write(c, *register as usize, *value as u32),
+        ("stop", [kept]) => stop(c, *kept as usize),
+        ("read", []) => local_read(c),
+        ("look", []) => return look_in(version, c, answer),
+        (_, [owner]) if call.contains(" from ") => handover(c, *owner as usize),
+        _ => panic!("no call: {line}"),
+    };
+    let finished = answer.contains("finished") as u8;
+    Said::Event { record, set: names_in(answer), finished, sums: sums_in(answer) }
+}
+
+/// What the event call answers besides its set: a handover that finishes no sync has no sums.
+fn figures(set: &[Name], finished: u8, sums: Sums) -> Figures {
+    Figures { finished, sums: if set.is_empty() || finished == 1 { sums } else { (0, 0) } }
+}
+
+/// The events of a list as records, and their listing; looks are left out.
+fn records_and_listing(calls: &[Said]) -> (Vec<Vec<u8>>, String) {
+    let (mut records, mut listing) = (vec![], String::new());
+    for call in calls {
+        let Said::Event { record, set, sums, .. } = call else { continue };
+        records.push(record.clone());
+        if !set.is_empty() {
+            let names: String = set.iter().map(|(sender, number)| format!(" {sender}.{number}")).collect();
+            listing += &format!("{} {} {} {}{names}\n", records.len(), record[2], sums.0, sums.1);
+        }
+    }
+    (records, listing)
+}
+
+impl List {
+    /// The lists of a text. Lines that start with # are comments.
+    fn all_of(text: &str) -> Vec<List> {
+        let mut lists: Vec<List> = vec![];
+        for line in text.lines().filter(|line| !line.is_empty() && !line.starts_with('#')) {
+            match line.strip_prefix("list: ") {
+                Some(what) => lists.push(List { what: what.into(), ..List::default() }),
+                None => lists.last_mut().expect("a list").add(line),
+            }
+        }
+        lists
+    }
+
+    fn add(&mut self, line: &str) {
+        if let Some(Head::Fresh { version, n }) = head_of(line) {
+            (self.version, self.n) = (version, n);
+        } else if let Some(wrong) = line.strip_prefix("wrong: ") {
+            self.wrong = Some(wrong.into());
+        } else {
+            self.calls.push(said(self.version, line));
+        }
+    }
+
+    /// What the checker says of the first calls of the list, of which some are a file.
+    fn told(&self, calls: usize, in_file: usize) -> Option<String> {
+        let (head, after) = self.calls[..calls].split_at(in_file);
+        let mut ledger = Ledger::new(self.version, self.n);
+        if in_file > 0 {
+            let (records, listing) = records_and_listing(head);
+            ledger = Ledger::file(&file_of(self.version, self.n, &records), in_file, listing.as_bytes());
+        }
+        for call in after {
+            match call {
+                Said::Event { record, set, finished, sums } => {
+                    ledger.event(record, 0, set, Some(figures(set, *finished, *sums)));
+                }
+                Said::Look { c, shown } => ledger.look(*c, 0, shown.sums, shown.classes, shown.registers),
+            }
+        }
+        ledger.broken().map(String::from)
+    }
+
+    /// The checker says what is wrong with the whole list, and nothing of what goes before its last call: call by call,
+    /// and with every first part of it as a file.
+    fn check_told(&self) -> Result<(), String> {
+        let (all, is_event) = (self.calls.len(), |call: &&Said| matches!(call, Said::Event { .. }));
+        for in_file in 0..=self.calls.iter().take_while(is_event).count() {
+            let told = self.told(all, in_file);
+            let edge = format!("{}, with {in_file} calls in a file: the checker says {told:?}", self.what);
+            expect(told == self.wrong, &edge)?;
+            let early = self.told(all - 1, in_file.min(all - 1));
+            expect(early.is_none(), &format!("{}: the checker says too early {early:?}", self.what))?;
+        }
+        Ok(())
+    }
+
+    /// An engine gives these answers, and this listing.
+    fn check_given(&self, engine: &dyn Engine) -> Result<(), String> {
+        let mut script = Script::fresh(engine, self.version, self.n);
+        for (place, call) in self.calls.iter().enumerate() {
+            expect(gives(&mut script, call), &format!("{}: call {}", self.what, place + 1))?;
+        }
+        let ((records, lines), mut listing) = (records_and_listing(&self.calls), vec![7; LISTING]);
+        let run = engine.run(&file_of(self.version, self.n, &records), &mut listing, &mut [7; SCRATCH]);
+        let right = run.number.number() == 0 && listing[..run.written] == *lines.as_bytes();
+        expect(right, &format!("{}: its listing", self.what))
+    }
+}
+
+/// Whether a call is accepted and answers this.
+fn gives(script: &mut Script, call: &Said) -> bool {
+    match call {
+        Said::Event { record, set, finished, sums } => {
+            let (answer, right) = (script.answer(record, SCRATCH), figures(set, *finished, *sums));
+            let found = (answer.number.number(), side::set(&answer), answer.finished, side::sums(answer.sums));
+            found == (0, set.clone(), right.finished, right.sums)
+        }
+        Said::Look { c, shown } => {
+            let LookAnswer { number, panel } = script.engine.look(&script.table, *c);
+            let (classes, registers) = (panel.classes.map(side::sums), panel.registers.map(side::register));
+            let found = (number.number(), side::sums(panel.sums), classes, registers);
+            found == (0, shown.sums, shown.classes, shown.registers)
+        }
+    }
+}
+
+pub fn check(engine: &dyn Engine) -> Result<(), String> {
+    for list in List::all_of(include_str!("../../cases/answers/lists.txt")) {
+        list.check_given(engine)?;
+        list.check_told()?;
+    }
+    let wrong = List::all_of(include_str!("../../cases/answers/wrong-lists.txt"));
+    expect(wrong.iter().all(|list| list.wrong.is_some()), "a list that no engine gives names what is wrong with it")?;
+    wrong.iter().try_for_each(List::check_told)
+}

@@ -1,0 +1,68 @@
+//! Short scripts of calls on one table, for the edges: an engine with a table, panels by their sums, and what an edge
+//! expects.
+
+use crate::cases::records::handover;
+use crate::engines::Engine;
+use crate::reference::SCRATCH;
+use furnacejade::{Answer, Panel, Sums, Table};
+
+/// An engine with a table, for short scripts.
+pub struct Script<'a> {
+    pub engine: &'a dyn Engine,
+    pub table: Table,
+}
+
+impl Script<'_> {
+    pub fn fresh(engine: &dyn Engine, version: usize, n: usize) -> Script<'_> {
+        Script { engine, table: engine.fresh(version, n).table }
+    }
+
+    pub fn answer(&mut self, bytes: &[u8], scratch: usize) -> Answer {
+        let mut answer = Answer::BLANK;
+        self.engine.event(&mut self.table, bytes, &mut vec![1; scratch], &mut answer);
+        answer
+    }
+
+    /// The number, and the names of the set.
+    pub fn event(&mut self, bytes: Vec<u8>) -> (u8, Vec<(u8, u8)>) {
+        let answer = self.answer(&bytes, SCRATCH);
+        (answer.number.number(), answer.applied().iter().map(|x| (x.sender, x.number.0)).collect())
+    }
+
+    pub fn number(&mut self, bytes: Vec<u8>) -> u8 {
+        self.event(bytes).0
+    }
+
+    /// Every handover that is accepted, until none is.
+    pub fn hand_over_all(&mut self) {
+        let n = self.table.n;
+        let mut pair = |r: usize| (1..=n).filter(|o| self.number(handover(r, *o)) == 0).count();
+        while (1..=n).map(&mut pair).sum::<usize>() > 0 {}
+    }
+}
+
+/// What was added and what was withdrawn.
+pub type Both = (u32, u32);
+
+pub fn sums((added, withdrawn): Both) -> Sums {
+    Sums { added, withdrawn }
+}
+
+/// A panel by its sums and those of each class.
+pub fn panel(whole: Both, classes: [Both; 5]) -> Panel {
+    Panel { sums: sums(whole), classes: classes.map(sums), ..Panel::BLANK }
+}
+
+/// A panel that shows something of one class alone.
+pub fn panel_of(class: usize, whole: Both) -> Panel {
+    panel(whole, std::array::from_fn(|k| if k == class { whole } else { (0, 0) }))
+}
+
+/// Whether an edge is as it must be.
+pub fn expect(holds: bool, edge: &str) -> Result<(), String> {
+    if holds {
+        Ok(())
+    } else {
+        Err(format!("edge: {edge}"))
+    }
+}

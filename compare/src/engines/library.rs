@@ -1,0 +1,114 @@
+//! The library through its Rust package. Its places for answers are dirty before each call, and each call can be made
+//! twice, the second time on a stack that held something else.
+
+use super::stack::on_painted;
+use super::Engine;
+use crate::cases::Asked;
+use furnacejade::{
+    calls, Answer, CountAnswer, FreshAnswer, LookAnswer, Panel, Refusal, Register, RunAnswer, Stamp, Sums, Table,
+};
+use furnacejade::{CLASSES, REGISTERS};
+use std::mem::size_of;
+
+/// Sums that no table gives.
+pub const DIRTY_SUMS: Sums = Sums { added: 0xA5A5_A5A5, withdrawn: 0xA5A5_A5A5 };
+
+/// A register that no panel shows.
+const DIRTY_REGISTER: Register = Register { value: 0xA5A5_A5A5, stamp: Stamp { date: 0xA5A5, writer: 0xA5A5 } };
+
+/// A count that no table gives.
+const DIRTY_COUNT: usize = 0xA5A5_A5A5_A5A5_A5A5;
+
+/// A table in which every byte is dirt.
+fn dirty_table() -> Table {
+    Table::from_bytes(&[0xA5; size_of::<Table>()])
+}
+
+/// The library. Its places for answers are dirty, so that a field that it leaves unwritten is seen. If `twice`, each
+/// call is made again as users make it, on a stack that held something else: it must answer the same and leave the same
+/// bytes.
+pub struct Library {
+    pub twice: bool,
+}
+
+/// What the stack holds before the first and the second of two equal calls.
+const PAINTS: [u8; 2] = [0xA5, 0x5A];
+
+impl Library {
+    fn event_again(&self, t: &mut Table, bytes: &[u8], scratch: &mut [u8], answer: &mut Answer) -> usize {
+        let (mut table, mut area, mut left) = (t.clone(), scratch.to_vec(), 0);
+        on_painted(PAINTS[0], || left = calls::event(t, bytes, scratch, answer));
+        let mut again = Err(Refusal::ACCEPTED);
+        on_painted(PAINTS[1], || again = furnacejade::event(&mut table, bytes, &mut area));
+        let first = answer.number.check().map(|()| (answer.clone(), &bytes[bytes.len() - left..]));
+        assert!(first == again, "two equal events answer differently");
+        assert!(t.as_bytes() == table.as_bytes() && scratch == area, "two equal events leave other bytes");
+        left
+    }
+
+    fn count_before(&self, t: &Table, Asked { controller, first, second }: Asked) -> CountAnswer {
+        let mut answer = CountAnswer { number: Refusal::from(0xA5), count: DIRTY_COUNT };
+        calls::count_before(t, controller, &first, &second, &mut answer);
+        if self.twice {
+            let mut again = Err(Refusal::ACCEPTED);
+            on_painted(PAINTS[1], || again = furnacejade::count_before(t, controller, first, second));
+            let once = answer.number.check().map(|()| answer.count);
+            assert!(once == again, "two equal counts answer differently");
+        }
+        answer
+    }
+
+    fn run_again(&self, bytes: &[u8], listing: &mut [u8], scratch: &mut [u8], answer: &mut RunAnswer) {
+        let (mut lines, mut area) = (listing.to_vec(), scratch.to_vec());
+        on_painted(PAINTS[0], || calls::run(bytes, listing, scratch, answer));
+        let mut again = RunAnswer::BLANK;
+        on_painted(PAINTS[1], || again = furnacejade::run(bytes, &mut lines, &mut area));
+        assert!(*answer == again, "two equal runs answer differently");
+        assert!(answer.table.as_bytes() == again.table.as_bytes(), "two equal runs leave other bytes in the table");
+        assert!(listing == lines && scratch == area, "two equal runs leave other bytes");
+    }
+}
+
+impl Engine for Library {
+    fn event(&self, t: &mut Table, bytes: &[u8], scratch: &mut [u8], answer: &mut Answer) -> usize {
+        match self.twice {
+            true => self.event_again(t, bytes, scratch, answer),
+            false => calls::event(t, bytes, scratch, answer),
+        }
+    }
+    fn look(&self, t: &Table, c: usize) -> LookAnswer {
+        let registers = [DIRTY_REGISTER; REGISTERS];
+        let panel = Panel { sums: DIRTY_SUMS, classes: [DIRTY_SUMS; CLASSES], registers };
+        let mut answer = LookAnswer { number: Refusal::from(0xA5), panel };
+        calls::look(t, c, &mut answer);
+        if self.twice {
+            let mut again = Err(Refusal::ACCEPTED);
+            on_painted(PAINTS[1], || again = furnacejade::look(t, c));
+            let first = answer.number.check().map(|()| answer.panel.clone());
+            assert!(first == again, "two equal looks answer differently");
+        }
+        answer
+    }
+    fn counts_before(&self, t: &mut Table, asked: &[Asked]) -> Vec<CountAnswer> {
+        asked.iter().map(|asked| self.count_before(t, *asked)).collect()
+    }
+    fn fresh(&self, version: usize, n: usize) -> FreshAnswer {
+        let mut answer = FreshAnswer { number: Refusal::from(0xA5), table: dirty_table() };
+        calls::fresh(version, n, &mut answer);
+        if self.twice {
+            let mut again = Err(Refusal::ACCEPTED);
+            on_painted(PAINTS[1], || again = furnacejade::fresh(version, n));
+            let first = answer.number.check().map(|()| *answer.table.as_bytes());
+            assert!(first == again.map(|t| *t.as_bytes()), "two equal requests for a fresh table answer other bytes");
+        }
+        answer
+    }
+    fn run(&self, bytes: &[u8], listing: &mut [u8], scratch: &mut [u8]) -> RunAnswer {
+        let mut answer = RunAnswer { number: Refusal::from(0xA5), events: 77, written: 77, table: dirty_table() };
+        match self.twice {
+            true => self.run_again(bytes, listing, scratch, &mut answer),
+            false => calls::run(bytes, listing, scratch, &mut answer),
+        }
+        answer
+    }
+}

@@ -1,0 +1,40 @@
+//! What is compared: the calls as a trait, and the reference as an engine. The library and the reference with a fault
+//! have files of their own.
+
+pub mod faults;
+pub mod library;
+pub mod stack;
+
+use crate::cases::Asked;
+use crate::reference::calls;
+use furnacejade::{Answer, CountAnswer, FreshAnswer, LookAnswer, RunAnswer, Table};
+
+pub trait Engine {
+    /// Answers how many bytes are left.
+    fn event(&self, t: &mut Table, bytes: &[u8], scratch: &mut [u8], answer: &mut Answer) -> usize;
+    fn look(&self, t: &Table, c: usize) -> LookAnswer;
+    /// Each is a call of its own. A table that is written to is seen, since it may be.
+    fn counts_before(&self, t: &mut Table, asked: &[Asked]) -> Vec<CountAnswer>;
+    fn fresh(&self, version: usize, n: usize) -> FreshAnswer;
+    fn run(&self, bytes: &[u8], listing: &mut [u8], scratch: &mut [u8]) -> RunAnswer;
+}
+
+pub struct Reference;
+
+impl Engine for Reference {
+    fn event(&self, t: &mut Table, bytes: &[u8], scratch: &mut [u8], answer: &mut Answer) -> usize {
+        calls::event(t, bytes, scratch, answer)
+    }
+    fn look(&self, t: &Table, c: usize) -> LookAnswer {
+        calls::look(t, c)
+    }
+    fn counts_before(&self, t: &mut Table, asked: &[Asked]) -> Vec<CountAnswer> {
+        calls::counts_before(t, asked)
+    }
+    fn fresh(&self, version: usize, n: usize) -> FreshAnswer {
+        calls::fresh(version, n)
+    }
+    fn run(&self, bytes: &[u8], listing: &mut [u8], scratch: &mut [u8]) -> RunAnswer {
+        calls::run(bytes, listing, scratch)
+    }
+}

@@ -1,0 +1,217 @@
+//! The mode `count`: how often each answer comes in random cases, to see what these reach. The reference alone answers,
+//! and the checker of demand 3 says how often it had something to check.
+
+use crate::cases::{asked_in, Asked, Call, Case, Head};
+use crate::checks::counts::pending;
+use crate::checks::never_stale::Tally;
+use crate::checks::replay::ledger_of;
+use crate::engines::Reference;
+use crate::generate;
+use crate::reference::{calls, to_state, well_formed, MAX_MESSAGES};
+use furnacejade::{Answer, Controller, Message, Payload, Refusal, Stamp, Sums, Table};
+
+/// Refusal numbers are below it.
+const NUMBERS: usize = Refusal::ALL.len();
+
+/// How often each answer came, by number and by the size of its set.
+struct Counts {
+    events: [usize; NUMBERS],
+    looks: [usize; NUMBERS],
+    asked: [usize; NUMBERS],
+    files: [usize; NUMBERS],
+    before: Before,
+    /// Of accepted events by how many messages they apply.
+    sizes: [usize; MAX_MESSAGES + 1],
+    most_pending: usize,
+    kept_pending: usize,
+    most_own: usize,
+    local_reads: usize,
+    both: BothSums,
+    set: SetPoints,
+    readings: Tally,
+}
+
+/// How many writes were accepted, and how many of them with a date that another write of the register has; how many
+/// looks show a register, several, and one that was written again.
+#[derive(Default)]
+struct SetPoints {
+    writes: usize,
+    rivals: usize,
+    looks: usize,
+    several: usize,
+    again: usize,
+}
+
+/// How many counts of "goes before" were of two messages that are pending there, by their count, and how many of those
+/// at a stopped controller; how many were of one that is pending and one that is not, and of none.
+#[derive(Default)]
+struct Before {
+    both: [usize; 8],
+    stopped: usize,
+    one: usize,
+    none: usize,
+}
+
+/// How often both sums were above 0.
+#[derive(Default)]
+struct BothSums {
+    syncs: usize,
+    local_reads: usize,
+    looks: usize,
+    classes: usize,
+}
+
+/// 1 if both sums are above 0, and else 0.
+fn has_both(sums: Sums) -> usize {
+    (sums.added > 0 && sums.withdrawn > 0) as usize
+}
+
+impl Counts {
+    fn new() -> Counts {
+        let zero = [0; NUMBERS];
+        Counts {
+            events: zero,
+            looks: zero,
+            asked: zero,
+            files: zero,
+            before: Before::default(),
+            sizes: [0; MAX_MESSAGES + 1],
+            most_pending: 0,
+            kept_pending: 0,
+            most_own: 0,
+            local_reads: 0,
+            both: BothSums::default(),
+            set: SetPoints::default(),
+            readings: Tally::default(),
+        }
+    }
+
+    fn case(&mut self, case: &Case) {
+        self.readings(case);
+        let mut table = self.head(&case.head);
+        for calls in case.counts_together() {
+            match &calls[0] {
+                Call::Look(c) => self.look(&table, *c),
+                Call::Event { bytes, scratch } => self.event(&mut table, bytes, *scratch),
+                Call::CountBefore(_) => self.goes_before(&mut table, &asked_in(calls)),
+            }
+        }
+    }
+
+    /// What a list had to find of what was finished.
+    fn readings(&mut self, case: &Case) {
+        if let Some(ledger) = ledger_of(case, &Reference) {
+            self.readings.add(&ledger.readings.tally);
+        }
+    }
+
+    fn head(&mut self, head: &Head) -> Table {
+        match head {
+            Head::Table(t) => (**t).clone(),
+            Head::Fresh { version, n } => calls::fresh(*version, *n).table,
+            Head::File { bytes, listing, scratch } => {
+                let run = calls::run(bytes, &mut vec![0; *listing], &mut vec![0; *scratch]);
+                self.files[run.number.number() as usize] += 1;
+                run.table
+            }
+        }
+    }
+
+    fn event(&mut self, table: &mut Table, bytes: &[u8], scratch: usize) {
+        let mut answer = Answer::BLANK;
+        calls::event(table, bytes, &mut vec![0; scratch], &mut answer);
+        self.events[answer.number.number() as usize] += 1;
+        self.sizes[answer.size] += 1;
+        let pending = |c: &Controller| c.pending.iter().filter(|p| p.held != 0).count();
+        self.both.syncs += answer.sync_answer().map_or(0, has_both);
+        if answer.number == Refusal::ACCEPTED {
+            if bytes[1] == Payload::WRITE {
+                self.write(table);
+            }
+            let own = |c: usize, slot: usize| table.messages[slot].sender as usize == c + 1;
+            let waits = |c: usize, slot: usize| own(c, slot) && table.controllers[c].pending[slot].held != 0;
+            let own_at = |c: usize| (0..table.count).filter(|slot| waits(c, *slot)).count();
+            self.most_own = (0..table.n).map(own_at).fold(self.most_own, usize::max);
+            if bytes[1] == calls::LOCAL_READ {
+                self.local_reads += 1;
+                self.both.local_reads += has_both(answer.sums);
+            }
+        }
+        if answer.size > 0 {
+            let left = pending(&table.controllers[bytes[2] as usize - 1]);
+            self.most_pending = self.most_pending.max(left + answer.size);
+            self.kept_pending += (left > 0) as usize;
+        }
+    }
+
+    /// A write that was accepted is the table's last message.
+    fn write(&mut self, table: &Table) {
+        let Some((last, before)) = table.messages[..table.count].split_last() else { return };
+        let rivals = |m: &Message| (m.payload.reg, m.date) == (last.payload.reg, last.date);
+        self.set.writes += 1;
+        self.set.rivals += before.iter().any(rivals) as usize;
+    }
+
+    fn goes_before(&mut self, table: &mut Table, asked: &[Asked]) {
+        let state = well_formed(table).then(|| to_state(table));
+        for (asked, answer) in asked.iter().zip(calls::counts_before(table, asked)) {
+            self.asked[answer.number.number() as usize] += 1;
+            let (Some(state), Refusal::ACCEPTED) = (&state, answer.number) else { continue };
+            let is_pending = |name| pending(state, asked.controller, name).is_some();
+            match (is_pending(&asked.first), is_pending(&asked.second)) {
+                (true, true) => {
+                    self.before.both[answer.count] += 1;
+                    self.before.stopped += !state.controllers[asked.controller - 1].running as usize;
+                }
+                (false, false) => self.before.none += 1,
+                _ => self.before.one += 1,
+            }
+        }
+    }
+
+    fn look(&mut self, table: &Table, c: usize) {
+        let answer = calls::look(table, c);
+        self.looks[answer.number.number() as usize] += 1;
+        self.both.looks += has_both(answer.panel.sums);
+        let written = |from: Stamp| answer.panel.registers.iter().filter(move |x| x.stamp > from).count();
+        let (any, again) = (written(Stamp::BLANK), written(Stamp { date: 1, writer: u16::MAX }));
+        self.set.looks += (any > 0) as usize;
+        self.set.several += (any > 1) as usize;
+        self.set.again += (again > 0) as usize;
+        self.both.classes += answer.panel.classes[1..].iter().map(|sums| has_both(*sums)).sum::<usize>();
+    }
+
+    fn print(&self) {
+        let Counts { events, looks, files, sizes, most_pending, kept_pending, most_own, local_reads, .. } = self;
+        println!("events by number {events:?}\nlooks by number {looks:?}\nfiles by number {files:?}");
+        println!("sets by size {sizes:?}");
+        println!("most pending at a set {most_pending}; sets that left others pending {kept_pending}");
+        println!("most of a sender's own pending {most_own}; local reads accepted {local_reads}");
+        self.print_subjects();
+    }
+
+    fn print_subjects(&self) {
+        let BothSums { syncs, local_reads, looks, classes } = self.both;
+        println!(
+            "both sums above 0: finished syncs {syncs}, local reads {local_reads}, looks {looks}, weight classes {classes}"
+        );
+        let (asked, Before { both, stopped, one, none }) = (&self.asked, &self.before);
+        println!("counts of goes before by number {asked:?}; of two pending messages by count {both:?}");
+        println!("of these at a stopped controller {stopped}; counts of one pending message {one}, of none {none}");
+        let SetPoints { writes, rivals, looks, several, again } = self.set;
+        println!("writes accepted {writes}, of them with the date of a rival {rivals}");
+        println!("looks that show a register {looks}, several {several}, one that was written again {again}");
+        let Tally { syncs, lacking, second_syncs, looks, stale_reads } = self.readings;
+        println!(
+            "syncs finished that were begun after another's message was {syncs}, after another's sync {second_syncs}"
+        );
+        println!("syncs finished whose sender lacked something finished when they were begun {lacking}");
+        println!("looks that must find a finished write of another {looks}; stale local reads {stale_reads}");
+    }
+}
+
+pub fn print(cases: usize, seed: u64) {
+    let mut counts = Counts::new();
+    (0..cases).for_each(|index| counts.case(&generate::case(seed, index).1));
+    counts.print();
+}

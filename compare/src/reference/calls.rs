@@ -1,0 +1,89 @@
+//! The calls on a table as it lies in memory, as the library has them: question 4 first, then the reference's state of
+//! that table, and what an accepted event stores.
+
+use super::{self as reference, *};
+use crate::cases::Asked;
+use furnacejade::{
+    Answer, CountAnswer, FreshAnswer, LookAnswer, MessageNumber, Name, Panel, Refusal, Register, RunAnswer, Stamp,
+    Sums, Table,
+};
+
+/// The kind of a record that leaves the table as it is.
+pub const LOCAL_READ: u8 = 5;
+
+fn sums_of(sums: reference::Sums) -> Sums {
+    Sums { added: sums.added, withdrawn: sums.withdrawn }
+}
+
+fn register_of(register: reference::Register) -> Register {
+    let reference::Stamp { date, writer } = register.stamp;
+    Register { value: register.value, stamp: Stamp { date: date as u16, writer: writer as u16 } }
+}
+
+/// The single-event call: question 4 first. Answers how many bytes are left.
+pub fn event(t: &mut Table, bytes: &[u8], scratch: &mut [u8], answer: &mut Answer) -> usize {
+    *answer = Answer::BLANK;
+    if !well_formed(t) {
+        answer.number = Refusal::from(4);
+        return bytes.len();
+    }
+    let mut state = to_state(t);
+    let (given, rest) = state.event(bytes, scratch);
+    answer.number = Refusal::from(given.number);
+    if given.number == 0 {
+        // A local read leaves every byte as it is, also where other bytes would mean the same.
+        if bytes[1] != LOCAL_READ {
+            store(&state, t);
+        }
+        answer.finished = given.finished as u8;
+        answer.sums = sums_of(given.sums);
+        answer.size = given.set.len();
+        for (to, x) in answer.names.iter_mut().zip(&given.set) {
+            *to = Name { sender: x.sender as u8, number: MessageNumber(x.number as u8) };
+        }
+    }
+    rest.len()
+}
+
+pub fn look(t: &Table, c: usize) -> LookAnswer {
+    let shown = if well_formed(t) { to_state(t).look(c) } else { Err(4) };
+    match shown {
+        Ok(Shown { sums, classes, registers }) => {
+            let (classes, registers) = (classes.map(sums_of), registers.map(register_of));
+            LookAnswer { number: Refusal::from(0), panel: Panel { sums: sums_of(sums), classes, registers } }
+        }
+        Err(number) => LookAnswer { number: Refusal::from(number), panel: Panel::BLANK },
+    }
+}
+
+/// The name that a call gives a message: any two bytes.
+fn called(name: Name) -> reference::Name {
+    reference::Name { sender: name.sender as usize, number: name.number.0 as usize }
+}
+
+/// Counts of "goes before" on one table, each a call of its own: question 4 first, whose answer they have in common.
+pub fn counts_before(t: &mut Table, asked: &[Asked]) -> Vec<CountAnswer> {
+    let state = well_formed(t).then(|| to_state(t));
+    let count = |x: &Asked| match &state {
+        Some(state) => state.count_before(x.controller, &called(x.first), &called(x.second)),
+        None => Err(4),
+    };
+    let answer = |x: &Asked| match count(x) {
+        Ok(count) => CountAnswer { number: Refusal::from(0), count },
+        Err(number) => CountAnswer { number: Refusal::from(number), count: 0 },
+    };
+    asked.iter().map(answer).collect()
+}
+
+pub fn fresh(version: usize, n: usize) -> FreshAnswer {
+    match reference::questions_2_and_3(version, n) {
+        Ok(()) => FreshAnswer { number: Refusal::from(0), table: to_table(&State::fresh(version, n)) },
+        Err(number) => FreshAnswer { number: Refusal::from(number), table: Table::BLANK },
+    }
+}
+
+pub fn run(bytes: &[u8], listing: &mut [u8], scratch: &mut [u8]) -> RunAnswer {
+    let run = reference::run_file(bytes, listing, scratch);
+    let table = run.state.as_ref().map_or(Table::BLANK, to_table);
+    RunAnswer { number: Refusal::from(run.number), events: run.events, written: run.written, table }
+}

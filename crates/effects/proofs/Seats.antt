@@ -1,0 +1,47 @@
+-- The controllers that an event reads, taken out of the table: they are the definition's. Assumes nothing.
+use mathlib.Core.Path.{_≡_, refl, ap}
+use Prim.Native.Nat.{ℕ, _-_, _<_}
+use native.Mathlib.Omega.{arith}
+use lib.ListN.{getD}
+use Rattle.model.specs.Tables.{seats, noController, controllerIn, at}
+use Rattle.model.specs.Events.{subject}
+use Rattle.model.specs.declared.Table.{Table}
+use Rattle.model.specs.declared.Event.{Event}
+use Rattle.model.specs.declared.Event.the-variants.{Send, Handover, Stop}
+use Rattle.model.specs.Facts.{Among}
+use Rattle.effects.specs.declared.Parties.{Parties as Both}
+use Rattle.effects.specs.Conditions.{Accepted}
+use Rattle.effects.specs.Parties.{ownerOf, seatOf, partiesOf, Allowed}
+use Rattle.effects.proofs.Room.{subject-seated, readable}
+
+pub seat-is : (c i : ℕ) → i ≡ seatOf c → Among seats c → i ≡ c - 1
+unfolding seatOf
+seat-is c i e h = omega (arith, e, h .low, h .high)
+
+pub seat-low : (c i : ℕ) → i ≡ seatOf c → i < seats
+unfolding seatOf
+seat-low c i e = omega (arith, e)
+
+module _ (t : Table) where
+  owner-seated : (e : Event) → Accepted t e → Among seats (ownerOf e)
+  unfolding ownerOf subject
+  owner-seated (Send c p) q = subject-seated t (Send c p) q
+  owner-seated (Handover r o) q = readable t r o q .owner
+  owner-seated (Stop c k) q = subject-seated t (Stop c k) q
+
+  pub at-seat : (c i : ℕ) → i ≡ seatOf c → Among seats c → getD (t .controllers) i noController ≡ at t c
+  unfolding controllerIn
+  at-seat c i e h = ap (λ (k : ℕ). getD (t .controllers) k noController) (seat-is c i e h)
+
+  module _ (e : Event) (q : Accepted t e) where
+    pub allowed-at : (i j : ℕ) → i ≡ seatOf (subject e) → j ≡ seatOf (ownerOf e)
+        → Allowed t e (getD (t .controllers) i noController) (getD (t .controllers) j noController)
+    allowed-at i j ei ej = record {
+      accepted = q;
+      subject-is = at-seat (subject e) i ei (subject-seated t e q);
+      owner-is = at-seat (ownerOf e) j ej (owner-seated e q);
+    }
+
+    pub allowed-parties : (p : Both) → p ≡ partiesOf t e → Allowed t e (p .subject) (p .owner)
+    unfolding partiesOf
+    allowed-parties p is = rw is (allowed-at _ _ refl refl)

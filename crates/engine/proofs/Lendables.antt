@@ -1,0 +1,32 @@
+-- The structs that the exported calls lend or store, with their laws. Assumes nothing.
+use Rattle.walks.proofs.Parameters.{Lendable}
+use Rattle.model.proofs.Table as TableT
+use Rattle.model.proofs.Table.Laws as TableT′
+use Rattle.model.proofs.Name as NameT
+use Rattle.model.proofs.Name.Laws as NameT′
+use Rattle.model.proofs.LookAnswer as LookAnswerT
+use Rattle.model.proofs.LookAnswer.Laws as LookAnswerT′
+use Rattle.model.proofs.CountAnswer as CountAnswerT
+use Rattle.model.proofs.CountAnswer.Laws as CountAnswerT′
+use Rattle.model.proofs.FreshAnswer as FreshAnswerT
+use Rattle.model.proofs.FreshAnswer.Laws as FreshAnswerT′
+use Rattle.model.proofs.RunAnswer as RunAnswerT
+use Rattle.model.proofs.RunAnswer.Laws as RunAnswerT′
+
+abbrev pub table : Lendable
+table = record { decl = TableT.the-type; laws = TableT′.the-laws; copies = TableT′.the-copy; pure = TableT′.the-plain }
+
+abbrev pub message-name : Lendable
+message-name = record { decl = NameT.the-type; laws = NameT′.the-laws; copies = NameT′.the-copy; pure = NameT′.the-plain }
+
+abbrev pub look-answer : Lendable
+look-answer = record { decl = LookAnswerT.the-type; laws = LookAnswerT′.the-laws; copies = LookAnswerT′.the-copy; pure = LookAnswerT′.the-plain }
+
+abbrev pub count-answer : Lendable
+count-answer = record { decl = CountAnswerT.the-type; laws = CountAnswerT′.the-laws; copies = CountAnswerT′.the-copy; pure = CountAnswerT′.the-plain }
+
+abbrev pub fresh-answer : Lendable
+fresh-answer = record { decl = FreshAnswerT.the-type; laws = FreshAnswerT′.the-laws; copies = FreshAnswerT′.the-copy; pure = FreshAnswerT′.the-plain }
+
+abbrev pub run-answer : Lendable
+run-answer = record { decl = RunAnswerT.the-type; laws = RunAnswerT′.the-laws; copies = RunAnswerT′.the-copy; pure = RunAnswerT′.the-plain }

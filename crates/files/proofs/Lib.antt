@@ -1,0 +1,4 @@
+pub mod FileQuestions
+pub mod OneRecord
+pub mod StoredRecord
+pub mod RecordLoop

@@ -1,0 +1,2 @@
+pub mod FileRun
+pub mod Turns
