@@ -71,7 +71,7 @@ pub struct Controller {
 }
 
 // The whole machine: the version that its records are read in, how many controllers and messages there are, the messages in
-// the order sent, the controllers. No field of a table, or of what stands in it, has padding before or behind it.
+// the order sent, the controllers. No field of a table, or of what stands in it, has padding before or after it.
 #[repr(C)]
 pub struct Table {
     pub version: usize,
@@ -113,7 +113,7 @@ pub struct Panel {
 
 // What the single-event call answers: the refusal number, 0 if accepted; whether a sync of the receiver's own is in the
 // set applied, and then its answer, the sums after the set; or the sums that a local read gives; how many messages are in
-// the set, and their names, zeros behind them.
+// the set, and their names, zeros after them.
 #[repr(C)]
 pub struct Answer {
     pub number: u8,
