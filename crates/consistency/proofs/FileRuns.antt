@@ -35,7 +35,7 @@ entries-same zero e s ls ms h = refl
 entries-same (suc k) e s ls ms h =
     ap₂ (λ (x : Line) (xs : List Entry). listed s x ∷ xs) (h e (omega arith)) (entries-same k (e + 1) (behind s) ls ms (λ n l. h n (omega arith)))
 
--- Behind p the run q has accepted so many of the records of s, and its lines behind those of p are legal steps when read back.
+-- After p the run q has accepted the first `many` of the records of s, and its lines after those of p are legal steps when read back.
 record Done (p : Progress) (s : List ℕ) (q : Progress) : Type 0 where
   many : ℕ
   tail : List ℕ

@@ -1,4 +1,4 @@
--- The part of the caller's bytes behind those used is the rest that the event call answers: all of them where it is refused.
+-- The part of the caller's bytes after those used is the rest that the event call answers: all of them where it is refused.
 -- Assumes nothing.
 use mathlib.Core.Path.{_≡_, refl}
 use mathlib.Core.List.{List, _∷_}

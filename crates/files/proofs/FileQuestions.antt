@@ -1,4 +1,4 @@
--- Questions 1 to 3 from the tests that the code makes, and the file run behind them. Assumes nothing.
+-- Questions 1 to 3 from the tests that the code makes, and the file run after them. Assumes nothing.
 use mathlib.Core.Path.{_≡_, refl, sym, ap, _∙_}
 use mathlib.Core.Logic.{_≢_}
 use mathlib.Core.Bool.{true, false, _&&_}

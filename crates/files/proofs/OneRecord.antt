@@ -60,7 +60,7 @@ fit : (a c : ℕ) → firstNo (lineFits a c ∷ []) ≡ 0 → leb a c ≡ true
 unfolding lineFits
 fit a c e = no-no 15 (leb a c) [] e .0
 
--- a list written behind the first n bytes of another
+-- a list written after the first n bytes of another
 overlay-behind : (n : ℕ) (x l : List ℕ) → n ≤ length l → take n l ++ overlay x (drop n l) ≡ overlay (take n l ++ x) l
 unfolding overlay
 overlay-behind n x l h =

@@ -62,7 +62,7 @@ data Call : Type 0 where
 data Case : Type 0 where
   events : ℕ → ℕ → List (List ℕ) → Call → Case
   -- the count of "goes before" at each of n controllers, of one message and another and then of the other and the one: at the start and
-  -- behind each of the events
+  -- after each of the events
   counts : ℕ → List (List ℕ) → ℕ → ℕ → Case
   -- a look at controller 1 of two, in a fresh table but for its read position in its own log, which passes that log's end
   astray : Case

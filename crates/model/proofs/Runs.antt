@@ -49,7 +49,7 @@ module _ (p : Progress) (s : List ℕ) (room space : ℕ) where
   pub advance-ended : verdict p s room space ≢ 0 → advance p s room space ≡ ended
   advance-ended n = advance-case (λ q. q ≡ ended) (λ e. absurd (n e)) (λ _. refl)
 
--- a run goes on behind an accepted record, and a refusal ends it
+-- a run goes on after an accepted record, and a refusal ends it
 pub records-on : (f : ℕ) (p : Progress) (b : ℕ) (s : List ℕ) (room space : ℕ) → verdict p (b ∷ s) room space ≡ 0
     → records (suc f) p (b ∷ s) room space ≡ records f (gone p (b ∷ s) room space) (behind (b ∷ s)) room space
 unfolding records
@@ -99,7 +99,7 @@ left-behind : (s : List ℕ) → drop (size s + 1) s ≡ behind s
 unfolding behind
 left-behind s = refl
 
--- What is left behind a record: what stands behind it, or nothing where it is refused. From there the run goes on as it was to go.
+-- What is left after a record: the bytes after it, or none where it is refused. From there the run goes on as it would have gone.
 pub records-turn : (p : Progress) (s : List ℕ) (room space : ℕ) → 0 < length s
     → (l : List ℕ) → l ≡ drop (cond (eqb (advance p s room space .refusal) 0) (size s + 1) (length s)) s
     → records (length s) p s room space ≡ records (length l) (advance p s room space) l room space

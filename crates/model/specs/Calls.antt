@@ -39,7 +39,7 @@ pub record Outcome : Type 0 where
   pub answer : EventAnswer
   pub table : Table
 
--- what is answered to a record that is accepted, with r behind it
+-- what is answered to a record that is accepted, with r after it
 unfoldable pub answering : Table → Command → List ℕ → EventAnswer
 answering t (Act e) r =
     let S = appliedBy t e in
@@ -58,7 +58,7 @@ refused t s k = record { answer = record { refusal = k; names = []; finished = f
 unfoldable pub settled : Table → List ℕ → ℕ → Outcome
 settled t s k = let a = accepted t s in cond (eqb k 0) a (refused t s k)
 
--- an event of a file run, whose own table is not put to question 4; the scratch area has so many bytes
+-- an event of a file run, whose own table is not put to question 4; the scratch area has `room` bytes
 unfoldable pub step : Table → List ℕ → ℕ → Outcome
 step t s room = settled t s (firstNo (stepQuestions t s room))
 
@@ -74,7 +74,7 @@ cleared s = over (λ i. 0) scratchSize s
 unfoldable pub scratchAfter : ℕ → List ℕ → List ℕ
 scratchAfter k s = cond (eqb k 0) (cleared s) s
 
--- the answer as the caller gets it: the names in the first of 64 places, zeros behind them
+-- the answer as the caller gets it: the names in the first of 64 places, zeros after them
 unfoldable pub answerOf : EventAnswer → Answer
 answerOf a = record {
   refusal = a .refusal;

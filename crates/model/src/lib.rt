@@ -71,7 +71,7 @@ pub struct Controller {
 }
 
 // The whole machine: the version that its records are read in, how many controllers and messages there are, the messages in
-// the order sent, the controllers. No field of a table, or of what stands in it, has padding before or behind it.
+// the order sent, the controllers. No field of a table, or of what stands in it, has padding before or after it.
 #[repr(C)]
 pub struct Table {
     pub version: usize,

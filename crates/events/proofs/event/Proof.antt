@@ -23,7 +23,7 @@ use borrow.Author.Needs.{needs}
 use Rattle.events.proofs.event.Statement.{statement}
 use Rattle.events.proofs.event.Tie as tie
 
--- PLACES: from behind the controller to the effect, the controllers read, the command, the questions, the record and the start
+-- PLACES: from after the controller to the effect, the controllers read, the command, the questions, the record and the start
 abbrev carried : tie.After-controller → tie.After-carry-out
 carried c = c .before .before .before .before
 
@@ -33,7 +33,7 @@ both c = c .before .before .before .before
 abbrev commanded : tie.After-carry-out → tie.After-command
 commanded c = both c .before .before
 
--- and of a local read, from behind its answer
+-- and of a local read, from after its answer
 abbrev read : tie.After-read-answer → tie.After-command2
 read c = c .before .before .before
 

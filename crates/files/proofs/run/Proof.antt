@@ -9,7 +9,7 @@ use borrow.Author.Needs.{needs}
 use Rattle.files.proofs.run.Statement.{statement}
 use Rattle.files.proofs.run.Tie as tie
 
--- PLACES: from the end to behind the records, from there to the file's questions, and from these to the start
+-- PLACES: from the end to after the records, from there to the file's questions, and from these to the start
 abbrev records : tie.After-slice-known4 → tie.After-run-records
 records c = c .before .before .before .before
 

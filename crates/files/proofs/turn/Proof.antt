@@ -22,7 +22,7 @@ use borrow.Author.Needs.{needs}
 use Rattle.files.proofs.turn.Statement.{statement}
 use Rattle.files.proofs.turn.Tie as tie
 
--- PLACES: from behind the listing to the line, the effect, the command, the questions and the start
+-- PLACES: from after the listing to the line, the effect, the command, the questions and the start
 abbrev line : tie.After-slice-known5 → tie.After-list-line
 line c = c .before .before
 
@@ -50,7 +50,7 @@ bytes s = now (s .args .left)
 abbrev room : tie.Start → ℕ
 room s = length (now (s .args .scratch))
 
--- and of a local read, from behind the cleared scratch area to the questions
+-- and of a local read, from after the cleared scratch area to the questions
 abbrev told : tie.After-quiet → tie.After-enum-told
 told c = c .before .before
 
