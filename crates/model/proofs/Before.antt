@@ -124,7 +124,7 @@ module _ (t : Table) (c : ℕ) where
 
   -- ON EVERY TABLE
 
-  pub refusal-counts-none : (a b : Name) → countBefore t c a b .number ≢ 0 → countBefore t c a b .count ≡ 0
+  pub refusal-counts-none : (a b : Name) → countBefore t c a b .refusal ≢ 0 → countBefore t c a b .count ≡ 0
   unfolding countBefore
   refusal-counts-none a b d = cond-false _ 0 (ne-eqb _ 0 d)
 

@@ -22,8 +22,8 @@ events c = c .before .before
 abbrev start : tie.After-put-word-arg → tie.Start
 start c = c .before .before .before
 
-digits : (s : tie.Start) → (length (decimal (s .args .events)) ≤ 20) × (length (decimal (s .args .number)) ≤ 3)
-digits s = (decimal-bound 19 (s .args .events) (omega (arith, s .fits .events .fits)), decimal-bound 2 (s .args .number) (omega (arith, s .fits .number .fits)))
+digits : (s : tie.Start) → (length (decimal (s .args .events)) ≤ 20) × (length (decimal (s .args .refusal)) ≤ 3)
+digits s = (decimal-bound 19 (s .args .events) (omega (arith, s .fits .events .fits)), decimal-bound 2 (s .args .refusal) (omega (arith, s .fits .refusal .fits)))
 
 -- the end of the line has a place
 room : (c : tie.After-buffer5) → let put = number c .put-field in put .result < length (put .last .0)
