@@ -302,13 +302,13 @@ static int written(uint8_t version, uint8_t *out, size_t room, size_t *length) {
         int expected = fits && room - before >= bytes;
         fits = furnacejade_put_record(out, room, length, record_at(version, i));
         expect((uint8_t)fits, (uint8_t)expected, "record fits", i, room);
-        expect((uint8_t)(*length == (fits ? before + bytes : FURNACEJADE_NO_ROOM)), 1, "length", i, room);
+        expect((uint8_t)(*length == (fits ? before + bytes : 0)), 1, "length", i, room);
     }
     return fits;
 }
 
 /* The records and the two functions that put them into a file give that file, byte for byte. Into a place that is too small
- * they write what fits and nothing after it, and leave a length that the run of a file refuses without a look at its bytes. */
+ * they write what fits and nothing after it, and leave length 0, which the run of a file refuses. */
 static void files(uint8_t version, const uint8_t *file, size_t size) {
     static furnacejade_run_answer run;
     uint8_t out[sizeof classed + 1];
@@ -316,20 +316,28 @@ static void files(uint8_t version, const uint8_t *file, size_t size) {
     for (size_t room = 0; room <= size; room++) {
         memset(out, 0xA5, sizeof out);
         expect((uint8_t)written(version, out, room, &length), room == size, "file fits", version, room);
-        expect((uint8_t)(length == (room == size ? size : FURNACEJADE_NO_ROOM)), 1, "file's length", version, room);
+        expect((uint8_t)(length == (room == size ? size : 0)), 1, "file's length", version, room);
         for (size_t i = room; i < sizeof out; i++) expect(out[i], 0xA5, "bytes after the room", room, i);
     }
     expect((uint8_t)(memcmp(out, file, size) == 0), 1, "written", version, 0);
-    furnacejade_run(out, FURNACEJADE_NO_ROOM, scratch, 0, scratch, 0, &run);
+    expect((uint8_t)written(version, out, size - 1, &length), 0, "a file that does not fit", version, 0);
+    furnacejade_run(out, length, scratch, 0, scratch, 0, &run);
     expect(run.refusal, FURNACEJADE_REFUSED_FILE_LENGTH, "a file that did not fit", version, 0);
 }
 
-/* A record of a length that none has is not put, header and library are of one state, and the words of a number can be had. */
+/* A record is not put before the head, after the end of the room, or with a length that none has. Header and library are of
+ * one state, and the words of a number can be had. */
 static void words(void) {
     uint8_t out[16];
-    size_t length = 0;
     furnacejade_record odd = furnacejade_record_sync(1);
     memset(out, 0xA5, sizeof out);
+    for (size_t at = 0; at <= sizeof out + 1; at++) {
+        size_t length = at;
+        int fits = at >= FURNACEJADE_HEAD && at + 3 <= sizeof out;
+        expect((uint8_t)furnacejade_put_record(out, sizeof out, &length, furnacejade_record_sync(1)), (uint8_t)fits, "record at", at, 0);
+        expect((uint8_t)(length == (fits ? at + 3 : 0)), 1, "record at", at, 1);
+    }
+    size_t length = FURNACEJADE_HEAD;
     odd.length = FURNACEJADE_LONGEST_RECORD + 1;
     expect((uint8_t)furnacejade_put_record(out, sizeof out, &length, odd), 0, "odd record", 0, 0);
     expect(out[0], 0xA5, "odd record", 0, 1);

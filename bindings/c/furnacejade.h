@@ -51,12 +51,10 @@ enum {
     FURNACEJADE_REGISTERS = 8,      /* the registers that a panel shows */
     FURNACEJADE_SCRATCH = 4096,     /* the bytes of scratch that an event asks for */
     FURNACEJADE_LISTING = 16384,    /* more bytes of listing than any run file fills */
+    FURNACEJADE_HEAD = 2,           /* the bytes that a run file begins with: its version and the number of controllers */
     FURNACEJADE_LONGEST_RECORD = 8, /* the bytes of the longest record, a write */
     FURNACEJADE_ABSENT = 255        /* the mark of a controller that is not known to have forwarded a message */
 };
-
-/* The length of a run file that did not fit into its place. No file has it: furnacejade_run refuses it by question 1. */
-#define FURNACEJADE_NO_ROOM ((size_t)-1)
 
 /* Weight classes. A report of version 2 names one of the four; a report of version 1, and every sync and write, has none. */
 enum {
@@ -392,8 +390,9 @@ static inline furnacejade_record furnacejade_record_write(uint8_t sender, uint8_
 }
 
 /* RUN FILES. A file is written from its head on into a place with room for a given number of bytes, and *length counts what
- * has been written. Each function returns 1 if its bytes fit. Otherwise it writes nothing and returns 0, and *length becomes
- * FURNACEJADE_NO_ROOM and stays that, whatever is put after it. The compiler warns where the result is not looked at.
+ * has been written. Each function returns 1 if its bytes fit. Otherwise it writes nothing and returns 0, and *length becomes 0
+ * and stays that: a file without a head takes no record, and furnacejade_run refuses it by question 1. The compiler warns
+ * where the result is not looked at.
  *
  *     size_t length;
  *     if (!furnacejade_put_head(file, sizeof file, &length, 1, 3)
@@ -408,19 +407,19 @@ static inline furnacejade_record furnacejade_record_write(uint8_t sender, uint8_
 
 /* The two bytes that a run file begins with: its version, 1 or 2, and the number of controllers. It sets *length. */
 FURNACEJADE_USE_RESULT static inline int furnacejade_put_head(uint8_t *file, size_t room, size_t *length, uint8_t version, uint8_t n) {
-    *length = FURNACEJADE_NO_ROOM;
-    if (room < 2) return 0;
+    *length = 0;
+    if (room < FURNACEJADE_HEAD) return 0;
     file[0] = version;
     file[1] = n;
-    *length = 2;
+    *length = FURNACEJADE_HEAD;
     return 1;
 }
 
 /* One more record at the end of the file. */
 FURNACEJADE_USE_RESULT static inline int furnacejade_put_record(uint8_t *file, size_t room, size_t *length, furnacejade_record record) {
     size_t end = *length;
-    *length = FURNACEJADE_NO_ROOM;
-    if (end > room || record.length > sizeof record.bytes || room - end < record.length) return 0;
+    *length = 0;
+    if (end < FURNACEJADE_HEAD || end > room || record.length > sizeof record.bytes || room - end < record.length) return 0;
     for (size_t i = 0; i < record.length; i++) file[end + i] = record.bytes[i];
     *length = end + record.length;
     return 1;

@@ -9,7 +9,7 @@ use Rattle.model.specs.declared.Table.{Table}
 use Rattle.model.specs.declared.Answer.{Answer}
 
 -- It goes up whenever a struct, a constant, a refusal or a call changes that C or Rust see.
-pub interface : ℕ
+abbrev pub interface : ℕ
 interface = 1
 
 -- the event of the bytes s on the table t, with the scratch area w

@@ -110,7 +110,7 @@ deliveries-bound t w =
       sum-bound (t .n) (λ i. weigh (λ p. 1) (messagesOf t) (at t (suc i) .applied)) 64
           (λ i h. omega (
             arith,
-            w .counted,
+            w .fitting,
             sum-bound (t .count) (λ s. cond (applied (at t (suc i)) s) 1 0) 1
                 (λ s l. cond-case (λ x. x ≤ 1) (applied (at t (suc i)) s) 1 0 (λ _. omega arith) (λ _. omega arith)),
           )),

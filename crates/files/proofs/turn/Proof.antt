@@ -67,13 +67,13 @@ record-is s = s .pre .1 .record-is
 command-is : (s : tie.Start) → s .args .found .command ≡ decode (s .args .t .version) (bytes s)
 command-is s = command-read _ _ _ (record-is s)
 
-refusal-is : (c : tie.After-step-refusal) → let s = start c in c .step-refusal .result ≡ firstNo (stepQuestions (s .args .t) (bytes s) (room s))
-refusal-is c =
+first-no-is : (c : tie.After-step-refusal) → let s = start c in c .step-refusal .result ≡ firstNo (stepQuestions (s .args .t) (bytes s) (room s))
+first-no-is c =
     let s = start c in
     c .step-refusal .ensures ∙ (ap (λ (r : Record). refusalOf (s .args .t) r (room s)) (record-is s) ∙ refusal-is (s .args .t) (bytes s) (room s))
 
 passed : (c : tie.Else1) → let s = begin c in firstNo (stepQuestions (s .args .t) (bytes s) (room s)) ≡ 0
-passed c = sym (refusal-is (c .before)) ∙ c .if1 .left
+passed c = sym (first-no-is (c .before)) ∙ c .if1 .left
 
 -- the record asks for an event, which is allowed, or for a local read
 event-is : (c : tie.After-command) → let s = begin (asked c) in decode (s .args .t .version) (bytes s) ≡ Act (c .command .given .0 .0)
@@ -103,7 +103,7 @@ ended-requires c κs = search needs
 returns : tie.Need-returns
 returns c =
     let n = c .before .before in
-    turn-refused _ _ _ _ _ (start n .pre .0) _ (refusal-is n) (c .before .if1 .taken) _ _ (c .ended .ensures)
+    turn-refused _ _ _ _ _ (start n .pre .0) _ (first-no-is n) (c .before .if1 .taken) _ _ (c .ended .ensures)
 
 enum-known-command : tie.Need-enum-known-command
 enum-known-command c = search needs
