@@ -341,6 +341,12 @@ static void words(void) {
     odd.length = FURNACEJADE_LONGEST_RECORD + 1;
     expect((uint8_t)furnacejade_put_record(out, sizeof out, &length, odd), 0, "odd record", 0, 0);
     expect(out[0], 0xA5, "odd record", 0, 1);
+    furnacejade_answer answer;
+    furnacejade_table table = good;
+    odd = furnacejade_record_write(1, 1, 1);
+    odd.bytes[0] = 8; /* one byte more than a record has room for */
+    odd.length = (size_t)-1;
+    expect(play(&table, odd, &answer), FURNACEJADE_REFUSED_RECORD, "odd record", 0, 2);
     expect((uint8_t)(furnacejade_interface() == FURNACEJADE_INTERFACE), 1, "interface", 0, 0);
     expect((uint8_t)strcmp(furnacejade_question(FURNACEJADE_REFUSED_FULL), "Has the run fewer than 64 messages?"), 0, "question", 12, 0);
     expect((uint8_t)strcmp(furnacejade_question(FURNACEJADE_ACCEPTED), "none: accepted"), 0, "question", 0, 0);

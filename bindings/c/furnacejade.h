@@ -545,14 +545,15 @@ void furnacejade_fresh(size_t version, size_t n, furnacejade_fresh_answer *answe
  */
 size_t furnacejade_event(furnacejade_table *t, const uint8_t *bytes, size_t bytes_length, uint8_t *scratch, size_t scratch_length, furnacejade_answer *answer);
 
-/* One event, of a record. Returns its refusal number, 0 if accepted.
+/* One event, of a record. Returns its refusal number, 0 if accepted. Of a record with more than its 8 bytes, 8 are read.
  *
  *     furnacejade_play(table, furnacejade_record_classed_report(1, 30, FURNACEJADE_CLASS_XL), scratch, sizeof scratch, &answer);
  *     if (furnacejade_play(table, furnacejade_record_local_read(2), scratch, sizeof scratch, &answer) == FURNACEJADE_ACCEPTED)
  *         printf("2 reads %u %u\n", answer.sums.added, answer.sums.withdrawn);
  */
 static inline unsigned furnacejade_play(furnacejade_table *t, furnacejade_record record, uint8_t *scratch, size_t scratch_length, furnacejade_answer *answer) {
-    furnacejade_event(t, record.bytes, record.length, scratch, scratch_length, answer);
+    size_t length = record.length < sizeof record.bytes ? record.length : sizeof record.bytes;
+    furnacejade_event(t, record.bytes, length, scratch, scratch_length, answer);
     return answer->refusal;
 }
 
