@@ -226,8 +226,9 @@ impl<'a> Picture<'a> {
             *checked = others;
             let (expectation, wanted) = (first.expectation, both(first.expectation.sums));
             let (lane, place) = (expectation.panel as usize, expectation.place);
-            let Ok(shown) = first.shown else {
-                let text = format!("{place}: {wanted} is expected of panel {lane}, which is not there");
+            let Some(shown) = first.shown else {
+                let panels = words::panels(self.play.table.n);
+                let text = format!("{place}: {wanted} is expected of panel {lane}, which is not there: {panels}");
                 self.notes.push(Line::new(LEFT, text));
                 continue;
             };
@@ -260,7 +261,7 @@ impl<'a> Picture<'a> {
         let concerned = concerned.filter(|c| (1..=n).contains(c));
         let lines = vec![Line::new(PLAIN, "refused"), Line::new(BOLD, refused.number.number())];
         let mark = Mark::new(concerned.unwrap_or(n.div_ceil(2)), Shape::boxed(class::REFUSED, lines));
-        let title = format!("record {number} is refused with {}: {}", refused.number.number(), refused.number);
+        let title = format!("record {number} is {}", words::refused_by(refused.number));
         let mut column = Column::new(number, title, vec![mark]);
         column.across = concerned.is_none();
         self.add(column);
@@ -414,7 +415,7 @@ fn refusal(play: &Play, refused: &Refused) -> Vec<Line> {
     };
     let rest = if refused.bytes.len() > BYTES { " …" } else { "" };
     let bytes = hexadecimal(&refused.bytes[..refused.bytes.len().min(BYTES)]);
-    let mut lines = vec![format!("{what} is refused with {}: {}", refused.number.number(), refused.number)];
+    let mut lines = vec![format!("{what} is {}", words::refused_by(refused.number))];
     lines.extend(words::fact(play, refused).map(|fact| format!("because {fact}")));
     lines.push(format!("offset {}, bytes {bytes}{rest}", refused.offset));
     lines.into_iter().map(|line| Line::new(LEFT, line)).collect()

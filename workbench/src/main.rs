@@ -7,14 +7,16 @@ mod legend;
 mod play;
 mod report;
 mod source;
+mod spelling;
 mod svg;
 mod text;
 mod why;
 mod words;
 
-use furnacejade::{look, MessageNumber, Name};
+use furnacejade::{MessageNumber, Name};
 use play::Play;
 use source::{Form, Source};
+use spelling::did_you_mean;
 use std::io::{ErrorKind, Write};
 use std::process::ExitCode;
 
@@ -109,7 +111,7 @@ struct Command {
 
 const COMMANDS: [Command; 5] = [
     Command { name: "assemble", help: ASSEMBLE, words: 1, options: &["-o"], carry_out: assemble },
-    Command { name: "disassemble", help: DISASSEMBLE, words: 1, options: &["-o"], carry_out: disassemble },
+    Command { name: "disassemble", help: DISASSEMBLE, words: 1, options: &["-o", "--bytes"], carry_out: disassemble },
     Command { name: "run", help: RUN, words: 1, options: &["--text", "--bytes"], carry_out: run },
     Command { name: "why", help: WHY, words: 3, options: &["--after", "--text", "--bytes"], carry_out: why },
     Command { name: "draw", help: DRAW, words: 1, options: &["-o", "--text", "--bytes"], carry_out: draw },
@@ -117,7 +119,8 @@ const COMMANDS: [Command; 5] = [
 
 impl Command {
     fn failed(&self, what: &str) -> Failed {
-        format!("workbench {}: {what}; `workbench {} --help` says more\n", self.name, self.name)
+        let joint = if what.ends_with('?') { "" } else { ";" };
+        format!("workbench {}: {what}{joint} `workbench {} --help` says more\n", self.name, self.name)
     }
 
     /// The words and options of a command line; nothing if help is asked for.
@@ -129,7 +132,9 @@ impl Command {
             match word.as_str() {
                 "--help" | "-h" => return Ok(None),
                 option if option.len() > 1 && option.starts_with('-') && !self.options.contains(&option) => {
-                    return Err(self.failed(&format!("there is no option {option}")));
+                    let hint = did_you_mean(option, self.options.iter().copied().chain(["--help"]));
+                    let hint = hint.map_or(String::new(), |hint| format!("; {hint}"));
+                    return Err(self.failed(&format!("there is no option {option}{hint}")));
                 }
                 "-o" => asked.output = Some(value()?.clone()),
                 "--after" => asked.after = Some(self.number(value()?, "an event")?),
@@ -169,51 +174,64 @@ fn put(output: Option<&str>, bytes: &[u8]) -> Result<(), Failed> {
     }
 }
 
+/// The file that a command plays, whether it is a text or a run file.
+fn played(asked: &Asked) -> Result<Source, Failed> {
+    Source::load(&asked.words[0], asked.form, "use --bytes")
+}
+
 fn assemble(asked: &Asked) -> Result<bool, Failed> {
-    let source = Source::load(&asked.words[0], Form::Text)?;
+    let advice = "`workbench disassemble` gives its text, and `workbench run` plays it";
+    let source = Source::load(&asked.words[0], Form::Text, advice)?;
     put(asked.output.as_deref(), source.bytes()).map(|()| true)
 }
 
 fn disassemble(asked: &Asked) -> Result<bool, Failed> {
     let file = source::read(&asked.words[0])?;
+    if asked.form != Form::Bytes && source::is_text(&file) {
+        let name = source::shown(&asked.words[0]);
+        let advice = "`workbench assemble` makes a run file of it, and --bytes takes it for one";
+        return Err(format!("{name}: this looks like a text, and not like a run file; {advice}\n"));
+    }
     put(asked.output.as_deref(), disassemble::disassemble(&file).as_bytes()).map(|()| true)
 }
 
-fn run(asked: &Asked) -> Result<bool, Failed> {
-    let source = Source::load(&asked.words[0], asked.form)?;
+/// Plays a file, writes what a command makes of that, and says on standard error what failed.
+fn show(asked: &Asked, make: impl Fn(&Source, &Play) -> String) -> Result<bool, Failed> {
+    let source = played(asked)?;
     let play = play::play(source.bytes(), source.expectations(), usize::MAX);
-    put(asked.output.as_deref(), report::report(&source, &play).as_bytes())?;
-    Ok(report::succeeded(&play))
-}
-
-fn draw(asked: &Asked) -> Result<bool, Failed> {
-    let source = Source::load(&asked.words[0], asked.form)?;
-    let play = play::play(source.bytes(), source.expectations(), usize::MAX);
-    let path = std::path::Path::new(&source.name);
-    let title = path.file_name().map_or(source.name.as_str().into(), |name| name.to_string_lossy());
-    put(asked.output.as_deref(), draw::svg(&title, &play).as_bytes())?;
+    put(asked.output.as_deref(), make(&source, &play).as_bytes())?;
     complain(&report::complaints(&source, &play));
     Ok(report::succeeded(&play))
 }
 
+fn run(asked: &Asked) -> Result<bool, Failed> {
+    show(asked, report::report)
+}
+
+fn draw(asked: &Asked) -> Result<bool, Failed> {
+    show(asked, |source, play| {
+        let path = std::path::Path::new(&source.name);
+        let title = path.file_name().map_or(source.name.as_str().into(), |name| name.to_string_lossy());
+        draw::svg(&title, play)
+    })
+}
+
 fn why(asked: &Asked) -> Result<bool, Failed> {
     let (message, panel) = (&asked.words[1], &asked.words[2]);
-    let source = Source::load(&asked.words[0], asked.form)?;
+    let source = played(asked)?;
     let play = play::play(source.bytes(), &[], asked.after.unwrap_or(usize::MAX));
-    let refused = report::complaints(&source, &play);
+    let complaints = report::complaints(&source, &play);
     let answer = match asked.after.filter(|after| *after > play.steps.len() && play.table.n > 0) {
         Some(after) => Err(format!("event {after} is not reached: {} accepted\n", events(play.steps.len()))),
         None if play.table.n == 0 => Ok(String::new()),
         None => question(&play, message, panel),
     };
-    match answer {
-        Ok(answer) => {
-            let between = if answer.is_empty() || refused.is_empty() { "" } else { "\n" };
-            put(None, format!("{answer}{between}{refused}").as_bytes())?;
-            Ok(play.refused.is_none())
-        }
-        Err(wrong) => Err(format!("{refused}{wrong}")),
-    }
+    let answer = answer.map_err(|wrong| format!("{complaints}{wrong}"))?;
+    let refused = play.refused.as_ref().map_or(String::new(), |refused| report::refusal(&source, &play, refused));
+    let between = if answer.is_empty() || refused.is_empty() { "" } else { "\n" };
+    put(None, format!("{answer}{between}{refused}").as_bytes())?;
+    complain(&complaints);
+    Ok(report::succeeded(&play))
 }
 
 fn events(number: usize) -> String {
@@ -231,10 +249,10 @@ fn question(play: &Play, message: &str, panel: &str) -> Result<String, Failed> {
         let sent = if sent.is_empty() { "nothing".into() } else { words::list(&sent) };
         return Err(format!("{name} was not sent in {}; sent: {sent}\n", events(play.steps.len())));
     }
-    let Ok(panel) = panel.parse() else { return Err(format!("`{panel}` is not the number of a panel\n")) };
-    look(&play.table, panel)
-        .map_err(|refusal| format!("panel {panel} is refused with {}: {refusal}\n", refusal.number()))?;
-    Ok(why::Question { play, name, panel }.answer())
+    match panel.parse() {
+        Ok(panel) if (1..=play.table.n).contains(&panel) => Ok(why::Question { play, name, panel }.answer()),
+        _ => Err(format!("there is no panel {panel}: {}\n", words::panels(play.table.n))),
+    }
 }
 
 /// Writes to standard error; whoever reads complaints may be gone.
@@ -257,7 +275,11 @@ fn carry_out(line: &[String]) -> Result<bool, Failed> {
             None => help(command.help),
         },
         None if ["--help", "-h", "help"].contains(&first) => help(HELP),
-        None => Err(format!("workbench: there is no command {first}; `workbench --help` lists them\n")),
+        None => {
+            let hint = did_you_mean(first, COMMANDS.iter().map(|command| command.name).chain(["--help", "--version"]));
+            let hint = hint.map_or(String::new(), |hint| format!("{hint} "));
+            Err(format!("workbench: there is no command {first}; {hint}`workbench --help` lists them\n"))
+        }
     }
 }
 

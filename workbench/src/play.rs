@@ -71,12 +71,13 @@ pub struct Checked {
     pub expectation: Expectation,
     /// The events before it.
     pub events: usize,
-    pub shown: Result<Sums, Refusal>,
+    /// Nothing if there is no such panel.
+    pub shown: Option<Sums>,
 }
 
 impl Checked {
     pub fn holds(&self) -> bool {
-        self.shown == Ok(self.expectation.sums)
+        self.shown == Some(self.expectation.sums)
     }
 }
 
@@ -185,11 +186,8 @@ fn applied_by(answer: &Answer, table: &Table, c: usize) -> Option<Applied> {
 fn check(play: &mut Play, expectations: &mut &[Expectation], offset: usize) {
     while let Some((expectation, others)) = expectations.split_first().filter(|(first, _)| first.offset <= offset) {
         let (expectation, events) = (*expectation, play.steps.len());
-        play.checked.push(Checked {
-            expectation,
-            events,
-            shown: look(&play.table, expectation.panel as usize).map(|panel| panel.sums),
-        });
+        let shown = look(&play.table, expectation.panel as usize).ok().map(|panel| panel.sums);
+        play.checked.push(Checked { expectation, events, shown });
         *expectations = others;
     }
 }

@@ -51,29 +51,46 @@ fn events(text: &mut String, source: &Source, play: &Play) {
             }
         }
         while let Some(checked) = checked.next_if(|checked| checked.events == events) {
-            let _ = writeln!(text, "{:5}  {}", "", expectation(source, checked));
+            let _ = writeln!(text, "{:5}  {}", "", expectation(source, play, checked));
         }
     }
 }
 
 /// What came of an expectation.
-fn expectation(source: &Source, checked: &Checked) -> String {
+fn expectation(source: &Source, play: &Play, checked: &Checked) -> String {
     let (expected, panel) = (checked.expectation, checked.expectation.panel);
     let shown = match checked.shown {
-        Ok(shown) if shown == expected.sums => return format!("expect {panel} {}: so it is", expected.sums),
-        Ok(shown) => format!("panel {panel} shows {shown}"),
-        Err(refusal) => format!("panel {panel} is refused with {}: {refusal}", refusal.number()),
+        Some(shown) if shown == expected.sums => return format!("expect {panel} {}: so it is", expected.sums),
+        Some(shown) => format!("panel {panel} shows {shown}"),
+        None => format!("there is no panel {panel}: {}", words::panels(play.table.n)),
     };
-    let place = expected.place;
-    format!("{}:{}:{}: FAILED: expected {panel} {}, and {shown}", source.name, place.line, place.column, expected.sums)
+    format!("{}: FAILED: expected {panel} {}, and {shown}", source.place(expected.place), expected.sums)
 }
 
-/// What failed, for a command that shows something else: expectations, and the refusal.
+/// What failed, a line for each with its place: expectations, the refusal, and expectations that were not reached.
 pub fn complaints(source: &Source, play: &Play) -> String {
     let failed = play.checked.iter().filter(|checked| !checked.holds());
-    let failed = failed.map(|checked| expectation(source, checked) + "\n").collect::<String>();
-    let refused = play.refused.as_ref().map(|refused| refusal(source, play, refused));
-    failed + &refused.unwrap_or_default()
+    let mut lines: Vec<String> = failed.map(|checked| expectation(source, play, checked)).collect();
+    lines.extend(play.refused.as_ref().map(|refused| refusal_line(source, play, refused)));
+    if let Some(first) = source.expectations().iter().rev().take(play.unreached).last() {
+        let unreached =
+            count(play.unreached, "expectation was not reached", "expectations were not reached, this first");
+        lines.push(format!("{}: {unreached}", source.place(first.place)));
+    }
+    lines.iter().map(|line| format!("{line}\n")).collect()
+}
+
+/// A refusal in one line: its place, what is refused, the question, and the reason.
+fn refusal_line(source: &Source, play: &Play, refused: &Refused) -> String {
+    let place = source.assembled.place(refused.offset);
+    let what = match (refused.offset, place) {
+        (0 | 1, _) => "the file".into(),
+        (_, Some(_)) => format!("record {}", play.steps.len() + 1),
+        (offset, None) => format!("record {}, at offset {offset},", play.steps.len() + 1),
+    };
+    let place = place.map_or(source.name.clone(), |place| source.place(place));
+    let reason = words::fact(play, refused).map_or(String::new(), |fact| format!(" ({fact})"));
+    format!("{place}: {what} is {}{reason}", words::refused_by(refused.number))
 }
 
 /// The number, the question, the record, its place and the fact behind it.
@@ -97,9 +114,9 @@ pub fn refusal(source: &Source, play: &Play, refused: &Refused) -> String {
         lines.push(("bytes", hexadecimal(refused.bytes)));
     }
     if let Some(place) = source.assembled.place(refused.offset) {
-        lines.push(("text", format!("{}:{}:{}", source.name, place.line, place.column)));
+        lines.push(("text", source.place(place)));
     }
-    let head = format!("{what} is refused with {}: {}\n", refused.number.number(), refused.number);
+    let head = format!("{what} is {}\n", words::refused_by(refused.number));
     lines.iter().fold(head, |text, (what, line)| format!("{text}    {what:8} {line}\n"))
 }
 

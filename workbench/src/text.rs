@@ -2,10 +2,11 @@
 //!
 //! Every field may hold what its bytes can hold: whether the engine carries a record out is for the engine to say.
 
+use crate::spelling::did_you_mean;
 use furnacejade::{Class, Record, Sums};
 use std::fmt::{Display, Formatter};
 
-/// What begins a line, with what follows it.
+/// The word that begins a line, and an example of the line.
 const LINES: [(&str, &str); 10] = [
     ("version", "version 1"),
     ("controllers", "controllers 3"),
@@ -19,7 +20,7 @@ const LINES: [(&str, &str); 10] = [
     ("bytes", "bytes 03 09 01 02, in hexadecimal"),
 ];
 
-/// So many characters of a word are shown in a complaint.
+/// A complaint shows at most this many characters of a word.
 const SHOWN: usize = 40;
 
 /// A place in a text. Lines and columns count from 1, columns in characters.
@@ -140,13 +141,13 @@ struct Word<'a> {
 struct Line<'a> {
     number: usize,
     words: std::vec::IntoIter<Word<'a>>,
-    /// The column behind the last word.
+    /// The column after the last word.
     end: usize,
-    /// What the line begins with.
-    first: &'a str,
+    /// The word that begins the line, as `LINES` has it.
+    first: &'static str,
 }
 
-/// The words of a line, and the column behind the last. The signs `<-` and `=` need no space around them.
+/// The words of a line, and the column after the last. The signs `<-` and `=` need no space around them.
 fn words(line: &str) -> (Vec<Word<'_>>, usize) {
     let mut rest = line.split('#').next().unwrap_or_default().trim_end();
     let (mut words, mut column) = (vec![], 1);
@@ -195,7 +196,7 @@ impl<'a> Line<'a> {
     /// The next word, which must be this one.
     fn literally(&mut self, wanted: &str) -> Result<(), Mistake> {
         let word = self.word(&format!("`{wanted}`"))?;
-        match word.text == wanted {
+        match word.text.eq_ignore_ascii_case(wanted) {
             true => Ok(()),
             false => {
                 let text = format!("{} stands where `{wanted}` belongs; {}", quoted(word.text), self.form());
@@ -221,9 +222,19 @@ impl<'a> Line<'a> {
         self.number(what, 0, 255)
     }
 
+    /// What two bytes can hold; of that the engine accepts little.
+    fn amount(&mut self) -> Result<i16, Mistake> {
+        let word = self.word("the amount")?;
+        let amount = self.in_range(&word, "the amount belongs,", i16::MIN as i64, i16::MAX as i64);
+        amount.map_err(|Mistake { place, text }| Mistake {
+            place,
+            text: format!("{text}; the engine accepts -360 to 360, and not 0"),
+        })
+    }
+
     fn class(&mut self) -> Result<Class, Mistake> {
         let word = self.word("the class")?;
-        match Class::ALL.into_iter().find(|class| class.to_string() == word.text) {
+        match Class::ALL.into_iter().find(|class| class.to_string().eq_ignore_ascii_case(word.text)) {
             Some(class) => Ok(class),
             None => self.in_range(&word, "the class belongs: XL, L, M, S, or", 0, 255).map(Class),
         }
@@ -239,18 +250,23 @@ impl<'a> Line<'a> {
         }
     }
 
-    /// The line's bytes, or its expectation, behind what was assembled before.
+    /// The word that begins the line, as `LINES` has it: words may be written in capitals.
+    fn first(&self, word: &Word) -> Result<&'static str, Mistake> {
+        let known = LINES.map(|(first, _)| first);
+        known.into_iter().find(|first| word.text.eq_ignore_ascii_case(first)).ok_or_else(|| {
+            let hint = did_you_mean(word.text, known);
+            let hint = hint.unwrap_or_else(|| format!("a line begins with one of {}", known.join(", ")));
+            self.mistake(word.column, format!("no line begins with {}; {hint}", quoted(word.text)))
+        })
+    }
+
+    /// Adds the line's bytes, or its expectation, to what was assembled before.
     fn assemble(&mut self, head: &mut Head, assembled: &mut Assembled) -> Result<(), Mistake> {
-        let Some(first) = self.words.next() else { return Ok(()) };
-        let place = Place { line: self.number, column: first.column };
-        self.first = first.text;
-        if LINES.iter().all(|(word, _)| *word != first.text) {
-            let known: Vec<&str> = LINES.iter().map(|(word, _)| *word).collect();
-            let text = format!("no line begins with {}, but with one of {}", quoted(first.text), known.join(", "));
-            return Err(self.mistake(first.column, text));
-        }
-        // Bytes may stand in the place of a head too, as those of a file that has none.
-        let (wanted, next) = match (first.text, *head) {
+        let Some(word) = self.words.next() else { return Ok(()) };
+        let place = Place { line: self.number, column: word.column };
+        self.first = self.first(&word)?;
+        // Bytes may stand in the place of the head too: a file may be shorter than a head.
+        let (wanted, next) = match (self.first, *head) {
             ("version", _) => (Head::Version, Head::Controllers),
             ("controllers", _) => (Head::Controllers, Head::Records),
             ("bytes", Head::Version) => (Head::Version, Head::Records),
@@ -260,10 +276,10 @@ impl<'a> Line<'a> {
         // A head that comes too late changes nothing, and one that is missing is missed once.
         *head = if due == Head::Records { due } else { next };
         if wanted != due {
-            let text = format!("{} stands where {} belongs", quoted(first.text), due.wanted());
-            return Err(self.mistake(first.column, text));
+            let text = format!("{} stands where {} belongs", quoted(word.text), due.wanted());
+            return Err(self.mistake(word.column, text));
         }
-        match first.text {
+        match self.first {
             "version" => assembled.add(&[self.byte("the version")?], place),
             "controllers" => assembled.add(&[self.byte("the number of controllers")?], place),
             "hand" => return self.handovers(assembled),
@@ -285,7 +301,7 @@ impl<'a> Line<'a> {
         Ok(match event {
             "report" => {
                 let sender = self.byte("the sender")?;
-                let amount = self.number("the amount", i16::MIN as i64, i16::MAX as i64)?;
+                let amount = self.amount()?;
                 match self.words.as_slice() {
                     [] => Record::Report { sender, amount },
                     _ => {

@@ -1,6 +1,7 @@
 //! Events, sets and refusals in words. Each says what was read from an answer or from a table.
 
 use crate::play::{actor, controller, log, name_of, pending, Applied, Effect, Heard, Play, Refused, Step};
+use crate::source::is_text;
 use crate::text::record_text;
 use furnacejade::{Class, Message, Name, Payload, Record, Refusal, Sums};
 
@@ -50,6 +51,20 @@ pub fn log_of(owner: usize, reader: usize) -> String {
     } else {
         format!("log {owner}")
     }
+}
+
+/// Which panels a run has.
+pub fn panels(n: usize) -> String {
+    match n {
+        1 => "the only panel is 1".into(),
+        _ => format!("panels are 1 to {n}"),
+    }
+}
+
+/// A refusal, as what follows "is".
+pub fn refused_by(refusal: Refusal) -> String {
+    let question = refusal.to_string();
+    format!("refused by question {}: {}{}", refusal.number(), question[..1].to_lowercase(), &question[1..])
 }
 
 /// What an event did, but for the set that it applied.
@@ -159,7 +174,10 @@ pub fn fact(play: &Play, refused: &Refused) -> Option<String> {
     let number = refused.number;
     match number {
         Refusal::FILE_LENGTH => return Some(format!("the file has {}", count(play.file.len(), "byte", "bytes"))),
-        Refusal::VERSION => return Some(format!("byte 0, the version, is {}", play.file.first()?)),
+        Refusal::VERSION => {
+            let hint = if is_text(play.file) { "; this looks like a text: use --text in place of --bytes" } else { "" };
+            return Some(format!("byte 0, the version, is {}{hint}", play.file.first()?));
+        }
         Refusal::COUNT => return Some(format!("byte 1, the number of controllers, is {}", play.file.get(1)?)),
         Refusal::RECORD | Refusal::KIND | Refusal::LENGTH => return malformed(refused.bytes, play.table.version as u8),
         _ => {}

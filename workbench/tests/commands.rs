@@ -22,10 +22,12 @@ fn text(bytes: &[u8]) -> String {
     String::from_utf8(bytes.to_vec()).expect("output is text")
 }
 
-/// What a command prints, which ends with this status and has nothing to complain of.
+/// What a command prints that ends with this status. Only where that is 0 it has nothing to complain of.
 fn printed(words: &[&str], input: &[u8], status: i32) -> String {
     let output = workbench(words, input);
-    assert_eq!((text(&output.stderr).as_str(), output.status.code()), ("", Some(status)), "{words:?}");
+    let complaints = text(&output.stderr);
+    assert_eq!(output.status.code(), Some(status), "{words:?}: {complaints}");
+    assert_eq!(complaints.is_empty(), status == 0, "{words:?}: {complaints}");
     text(&output.stdout)
 }
 
@@ -90,7 +92,9 @@ fn what_was_disassembled_assembles_to_the_same_bytes() {
         vec![1, 3],
         vec![0, 255, 0, 0],
         vec![2, 9, 4, 1, 200, 128, 0, 255],
-        b"version 1\n".to_vec(),
+        vec![255],
+        vec![200, 150], // which UTF-8 has too
+        b"v1\x04\x01\x01\x00\x1E".to_vec(),
     ]);
     files.push([vec![1, 3], vec![255; 300], vec![4, 4, 1, 255]].concat());
     for bytes in files {
@@ -127,13 +131,34 @@ fn a_text_with_every_line_is_assembled() {
     assert_eq!(workbench(&["assemble", "-"], lines.as_bytes()).stdout, wanted);
 }
 
-/// Lines behind a head of two, and how the complaint of each begins.
+#[test]
+fn words_may_be_in_capitals_and_classes_in_small_letters() {
+    let assembled = |lines: &str| {
+        let output = workbench(&["assemble", "-"], lines.as_bytes());
+        assert_eq!((text(&output.stderr).as_str(), output.status.code()), ("", Some(0)), "{lines}");
+        output.stdout
+    };
+    let small =
+        "version 2\ncontrollers 5\nreport 4 +30 class M\nreport 4 1 class XL\nsync 1\nhand 1 <- 4\nstop 4 keep 4\n\
+        read 2\nwrite 1 register 3 = 1500\nexpect 2 867 30\nbytes 0a\n";
+    let capitals = small.to_uppercase();
+    assert_eq!(assembled(&capitals), assembled(small));
+    assert_eq!(assembled(&capitals.replace(" M\n", " m\n").replace("XL", "xl")), assembled(small));
+    let wrong = complaint(&["assemble", "-"], b"VERSION 1\nCONTROLLERS 3\nSTOP 1 4\n");
+    let wanted = "standard input:3:8: `4` stands where `keep` belongs; a line reads: stop 1 keep 4\n";
+    assert_eq!(wrong, wanted);
+}
+
+/// Lines after a head of two, and how the complaint of each begins.
 const MISTAKES: &[(&str, &str)] = &[
-    ("synk 1", "3:1: no line begins with `synk`"),
+    ("synk 1", "3:1: no line begins with `synk`; did you mean `sync`?\n"),
+    ("Reprot 1 +5", "3:1: no line begins with `Reprot`; did you mean `report`?\n"),
+    ("handover 1 <- 2", "3:1: no line begins with `handover`; did you mean `hand`?\n"),
+    ("start 1", "3:1: no line begins with `start`; a line begins with one of version, controllers, report, sync, "),
     ("sync", "3:5: the sender is missing"),
     ("sync 256", "3:6: `256` stands where the sender belongs, a number from 0 to 255"),
     ("sync 1 2", "3:8: `2` is more than belongs here"),
-    ("  report 1 40000", "3:12: `40000` stands where the amount belongs, a number from -32768 to 32767"),
+    ("  report 1 40000", "3:12: `40000` stands where the amount belongs, a number from -32768 to 32767; the engine accepts -360 to 360, and not 0\n"),
     ("report 1 +5 klass 2", "3:13: `klass` stands where `class` belongs"),
     ("report 1 +5 class XXL", "3:19: `XXL` stands where the class belongs: XL, L, M, S, or a number from 0 to 255"),
     ("hand 1 <-", "3:10: the owner of a log is missing"),
@@ -176,14 +201,57 @@ fn a_text_begins_with_its_head() {
     for (text, wanted) in heads {
         assert_eq!(complaint(&["assemble", "-"], text.as_bytes()), format!("standard input:{wanted}\n"));
     }
-    assert_eq!(
-        complaint(&["assemble", "-"], b"version 1\n# \xC3\xA9 \xFF"),
-        "standard input:2:5: a text is written in UTF-8, and this byte is not\n"
-    );
+    let other = complaint(&["assemble", "-"], b"version 1\n# \xC3\xA9 \xFF");
+    assert!(other.starts_with("standard input:2:5: a text is written in UTF-8, and this byte is not; "), "{other}");
     // A mark of the order of bytes is no part of a text, and a text in another encoding is told where.
     let marked = workbench(&["run", "-"], "\u{feff}version 1\ncontrollers 3\n".as_bytes());
     assert_eq!(marked.status.code(), Some(0));
     assert!(complaint(&["run", "-"], b"# Pr\xFCfung\n").starts_with("standard input:1:5: a text is written in UTF-8"));
+}
+
+/// What takes a run file where a command expects a text.
+const BYTES_FOR_A_TEXT: &str = "use --bytes\n";
+
+#[test]
+fn bytes_where_a_text_belongs_name_what_takes_them() {
+    let mangled = b"v1\x04\x01\x01\x00\x1E";
+    let looks = "standard input: this looks like a run file: byte 2 is 04, which no text has; ";
+    for command in [&["run", "-"][..], &["run", "--text", "-"], &["why", "-", "1.1", "1"], &["draw", "-"]] {
+        assert_eq!(complaint(command, mangled), format!("{looks}{BYTES_FOR_A_TEXT}"));
+        // Without such a byte it is a text, or has the place of what is not UTF-8.
+        assert!(complaint(command, b"v1").contains("no line begins with `v1`"));
+        assert!(complaint(command, b"v1\xFF").ends_with(&format!("if this is a run file, {BYTES_FOR_A_TEXT}")));
+    }
+    let advice = "`workbench disassemble` gives its text, and `workbench run` plays it\n";
+    assert_eq!(complaint(&["assemble", "-"], mangled), format!("{looks}{advice}"));
+    let run = complaint(&["assemble", "../bindings/worked.run"], b"");
+    assert!(run.starts_with("../bindings/worked.run: this looks like a run file: byte 0 is 01, "), "{run}");
+    assert!(complaint(&["run", "--text", "../bindings/worked.run"], b"").ends_with(BYTES_FOR_A_TEXT));
+    // A text may have such a byte in a comment.
+    assert!(printed(&["run", "-"], b"version 1 # \x01\ncontrollers 3\n", 0).contains("\n0 events accepted\n"));
+}
+
+#[test]
+fn a_text_where_bytes_belong_names_what_takes_it() {
+    let texts: [&[u8]; 7] = [
+        b"version 1\ncontrollers 3\n",
+        b"# Pr\xFCfung\n",
+        "#\u{5375}\n".as_bytes(),
+        "\u{feff}version 1".as_bytes(),
+        b"bytes 03 09 01 02",
+        b"a",
+        b"\n\n\n",
+    ];
+    let advice = "`workbench assemble` makes a run file of it, and --bytes takes it for one\n";
+    for bytes in texts {
+        let looks = format!("standard input: this looks like a text, and not like a run file; {advice}");
+        assert_eq!(complaint(&["disassemble", "-"], bytes), looks);
+        let shown = printed(&["disassemble", "--bytes", "-"], bytes, 0);
+        let assembled = workbench(&["assemble", "-"], shown.as_bytes());
+        assert_eq!((assembled.stdout, assembled.status.code()), (bytes.to_vec(), Some(0)), "{shown}");
+    }
+    let fact = "byte 0, the version, is 118; this looks like a text: use --text in place of --bytes";
+    assert_refused(&["run", "--bytes", "-"], b"version 1\ncontrollers 3\n", 2, fact);
 }
 
 #[test]
@@ -193,21 +261,45 @@ fn an_expectation_that_fails_is_named_and_fails_the_run() {
     for wanted in [
         "standard input:4:3: FAILED: expected 1 5 0, and panel 1 shows 0 0\n",
         "expect 1 5 0: so it is\n",
-        "standard input:7:1: FAILED: expected 2 0 0, and panel 2 is refused with 8: Is every controller named from 1 to n?\n",
+        "standard input:7:1: FAILED: expected 2 0 0, and there is no panel 2: the only panel is 1\n",
         "2 events accepted; of 3 expectations, 1 held, 2 failed\n",
     ] {
         assert!(report.contains(wanted), "{report}");
     }
-    let drawn = workbench(&["draw", "-"], lines.as_bytes());
-    assert_eq!(drawn.status.code(), Some(1));
-    assert!(text(&drawn.stderr).starts_with("standard input:4:3: FAILED: "), "{}", text(&drawn.stderr));
     let report = printed(&["run", "-"], b"version 1\ncontrollers 1\nread 2\nexpect 1 0 0\n", 1);
     assert!(report.contains("0 events accepted; of 1 expectation, 0 held, 1 not reached\n"), "{report}");
 }
 
+#[test]
+fn what_fails_is_on_standard_error_with_its_place() {
+    let lines =
+        "version 1\ncontrollers 3\nreport 1 +5\nexpect 1 5 0\nexpect 9 0 0\n  read 1\nexpect 1 5 0\nexpect 1 5 0\n";
+    let failures = "standard input:4:1: FAILED: expected 1 5 0, and panel 1 shows 0 0\n\
+        standard input:5:1: FAILED: expected 9 0 0, and there is no panel 9: panels are 1 to 3\n\
+        standard input:6:3: record 2 is refused by question 18: has the controller of a local read no message of its own \
+        pending? (1.1 of its own is pending at controller 1)\n";
+    let unreached = "standard input:7:1: 2 expectations were not reached, this first\n";
+    let complaints = |words: &[&str], input: &[u8]| {
+        let output = workbench(words, input);
+        assert_eq!((output.stdout.is_empty(), output.status.code()), (false, Some(1)), "{words:?}");
+        text(&output.stderr)
+    };
+    for command in ["run", "draw"] {
+        assert_eq!(complaints(&[command, "-"], lines.as_bytes()), format!("{failures}{unreached}"));
+    }
+    let refused = failures.lines().last().expect("the refusal").to_string() + "\n";
+    assert_eq!(complaints(&["why", "-", "1.1", "1"], lines.as_bytes()), refused);
+    // A run file has no lines: the offset is the place.
+    let at_offset = refused.replace(":6:3: record 2 is", ": record 2, at offset 7, is");
+    assert_eq!(complaints(&["run", "-"], &[1, 3, 4, 1, 1, 0, 5, 2, 5, 1]), at_offset);
+    let file =
+        "standard input: the file is refused by question 2: is the version 1 or 2? (byte 0, the version, is 3)\n";
+    assert_eq!(complaints(&["run", "-"], &[3, 3]), file);
+}
+
 /// The part of a report that is about its refusal.
 fn refusal(report: &str) -> Vec<&str> {
-    let lines = report.lines().skip_while(|line| !line.contains(" is refused with "));
+    let lines = report.lines().skip_while(|line| !line.contains(" is refused by question "));
     lines.take_while(|line| !line.ends_with(" accepted")).collect()
 }
 
@@ -219,7 +311,7 @@ fn a_refusal_has_its_place_and_the_fact_behind_it() {
         1,
     );
     let wanted = [
-        "record 7 is refused with 13: Does the log have an entry that the receiver has not read?",
+        "record 7 is refused by question 13: does the log have an entry that the receiver has not read?",
         "    because  controller 4 has read all 3 entries of log 1",
         "    event    hand 4 <- 1",
         "    offset   29",
@@ -229,7 +321,7 @@ fn a_refusal_has_its_place_and_the_fact_behind_it() {
     assert_eq!(refusal(&report), wanted);
 }
 
-/// Lines behind a head of version 1 and three controllers, with the number that refuses the last and the fact behind it.
+/// Lines after a head of version 1 and three controllers, the number of the question that refuses the last, and the reason.
 const FACTS: &[(&str, u8, &str)] = &[
     ("bytes 04 01 01", 5, "the length byte counts 4 bytes, and 2 are there"),
     ("bytes 00", 6, "the length is 0, and so there is no kind"),
@@ -258,7 +350,7 @@ const FACTS: &[(&str, u8, &str)] = &[
 fn assert_refused(words: &[&str], input: &[u8], number: u8, fact: &str) {
     let report = printed(words, input, 1);
     let found = refusal(&report);
-    assert!(found[0].contains(&format!(" is refused with {number}: ")), "{report}");
+    assert!(found[0].contains(&format!(" is refused by question {number}: ")), "{report}");
     assert_eq!(found[1], format!("    because  {fact}"));
 }
 
@@ -305,7 +397,10 @@ fn why_asks_for_a_message_and_a_panel_that_are_there() {
         (vec!["why", sample, "2.1", "1"], "2.1 was not sent in 11 events; sent: 1.1 and 3.1\n"),
         (vec!["why", sample, "3.1", "1", "--after", "4"], "3.1 was not sent in 4 events; sent: 1.1\n"),
         (vec!["why", sample, "3", "1"], "`3` names no message, as 3.1 does\n"),
-        (vec!["why", sample, "3.1", "4"], "panel 4 is refused with 8: Is every controller named from 1 to n?\n"),
+        (vec!["why", sample, "3.1", "4"], "there is no panel 4: panels are 1 to 3\n"),
+        (vec!["why", sample, "3.1", "0"], "there is no panel 0: panels are 1 to 3\n"),
+        (vec!["why", sample, "3.1", "300"], "there is no panel 300: panels are 1 to 3\n"),
+        (vec!["why", sample, "3.1", "x"], "there is no panel x: panels are 1 to 3\n"),
         (vec!["why", sample, "3.1", "1", "--after", "12"], "event 12 is not reached: 11 events accepted\n"),
     ];
     for (words, wanted) in wanted {
@@ -313,7 +408,7 @@ fn why_asks_for_a_message_and_a_panel_that_are_there() {
     }
     let refused = workbench(&["why", "-", "1.1", "1"], b"version 1\ncontrollers 1\nreport 1 +5\nread 1\n");
     assert_eq!(refused.status.code(), Some(1));
-    assert!(text(&refused.stdout).contains("record 2 is refused with 18: "));
+    assert!(text(&refused.stdout).contains("record 2 is refused by question 18: "));
 }
 
 #[test]
@@ -349,14 +444,21 @@ fn every_command_has_help_and_complains_of_what_it_does_not_know() {
     for command in ["assemble", "disassemble", "run", "why", "draw"] {
         assert!(printed(&[command, "--help"], b"", 0).starts_with(&format!("workbench {command} ")));
         assert!(printed(&["--help"], b"", 0).contains(&format!("    workbench {command} ")));
-        assert!(complaint(&[command, "--loud"], b"").contains("there is no option --loud"));
+        assert!(complaint(&[command, "--loud"], b"").contains("there is no option --loud; `workbench "));
+        assert!(complaint(&[command, "--hlep"], b"").contains("there is no option --hlep; did you mean `--help`? "));
         assert!(complaint(&[command], b"").starts_with(&format!("workbench {command}: ")));
         let more: &[&str] = if command == "why" { &["1.1", "1"] } else { &[] };
         let missing = complaint(&[&[command, "no/such.file"], more].concat(), b"");
         assert!(missing.starts_with("no/such.file: "), "{missing}");
     }
     assert_eq!(workbench(&["assemble", "samples/worked.txt", "-o", "-"], b"").stdout, file("../bindings/worked.run"));
-    assert!(complaint(&["shout"], b"").starts_with("workbench: there is no command shout"));
+    let unknown = "workbench: there is no command ";
+    assert_eq!(complaint(&["shout"], b""), format!("{unknown}shout; `workbench --help` lists them\n"));
+    for (word, meant) in [("rnu", "run"), ("RUN", "run"), ("dissasemble", "disassemble"), ("asm", "")] {
+        let meant = if meant.is_empty() { meant.into() } else { format!("did you mean `{meant}`? ") };
+        assert_eq!(complaint(&[word], b""), format!("{unknown}{word}; {meant}`workbench --help` lists them\n"));
+    }
+    assert!(complaint(&["run", "--byte", "-"], b"").contains("there is no option --byte; did you mean `--bytes`? "));
     assert!(complaint(&["assemble", "samples/worked.txt", "-o", "no/such.file"], b"").starts_with("no/such.file: "));
 }
 
