@@ -1,10 +1,21 @@
-//! Links libengine.a, which `rt staticlib engine` writes; ENGINE_LIB names another folder that holds it.
+//! Links libengine.a, which `rt staticlib engine` writes. `ENGINE_LIB` names another folder that holds it.
+
+use std::path::Path;
 
 fn main() {
-    println!("cargo:rerun-if-env-changed=ENGINE_LIB");
+    println!("cargo::rerun-if-env-changed=ENGINE_LIB");
     let folder = std::env::var("ENGINE_LIB")
         .unwrap_or_else(|_| format!("{}/../../target/staticlib", env!("CARGO_MANIFEST_DIR")));
-    println!("cargo:rerun-if-changed={folder}/libengine.a");
-    println!("cargo:rustc-link-search=native={folder}");
-    println!("cargo:rustc-link-lib=static=engine");
+    let archive = format!("{folder}/libengine.a");
+    // Documentation and lints need no archive, and a build script does not learn what it runs for: so this is a warning.
+    // Where a program is built, it stands above the linker's error.
+    if !Path::new(&archive).exists() {
+        println!(
+            "cargo::warning={archive} is missing, and no program can be linked without it. Run `rt staticlib engine` in \
+             the repository, or set ENGINE_LIB to the folder that holds libengine.a."
+        );
+    }
+    println!("cargo::rerun-if-changed={archive}");
+    println!("cargo::rustc-link-search=native={folder}");
+    println!("cargo::rustc-link-lib=static=engine");
 }

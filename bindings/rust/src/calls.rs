@@ -1,10 +1,11 @@
-//! The library's calls as they are: each writes its whole answer, refused or not, to a place that the caller lends.
-//! What a call answers and leaves is proved in `crates/engine`. This file is the boundary, which nothing proves; it
-//! only passes arguments on, and what the library asks of pointers holds of every reference.
+//! The library's calls as they are, with its own integer types. Each writes its whole answer, refused or not, to a place that
+//! the caller lends. What a call answers and leaves is proved in `crates/engine`. This file is the boundary, which nothing
+//! proves: it only passes arguments on.
 
 use crate::{Answer, CountAnswer, FreshAnswer, LookAnswer, Name, RunAnswer, Table};
 
 extern "C" {
+    fn furnacejade_interface() -> usize;
     fn furnacejade_event(
         t: *mut Table,
         bytes: *const u8,
@@ -33,30 +34,45 @@ extern "C" {
     );
 }
 
-/// One event, of the record with which the bytes begin. Answers how many bytes are unread: the last so many.
+// The library asks of its pointers that they are not null, are aligned as their types are, and may be read or written for
+// their length, and that what is written overlaps nothing else. Every reference and slice below has all of this.
+
+/// The interface that the library was built with.
+#[must_use]
+pub fn interface() -> usize {
+    // SAFETY: the call takes nothing and returns a number.
+    unsafe { furnacejade_interface() }
+}
+
+/// One event, of the record with which the bytes begin. Answers how many bytes are unread: the last ones of `bytes`.
 pub fn event(table: &mut Table, bytes: &[u8], scratch: &mut [u8], answer: &mut Answer) -> usize {
     let (area, length) = (scratch.as_mut_ptr(), scratch.len());
+    // SAFETY: all pointers come from references; table, scratch and answer are borrowed to be written, so nothing overlaps.
     unsafe { furnacejade_event(table, bytes.as_ptr(), bytes.len(), area, length, answer) }
 }
 
 /// A panel look at a controller, 1 to n.
 pub fn look(table: &Table, controller: usize, answer: &mut LookAnswer) {
+    // SAFETY: all pointers come from references; the answer is borrowed to be written, so nothing overlaps it.
     unsafe { furnacejade_look(table, controller, answer) }
 }
 
 /// How many controllers put the first message before the second at a controller, 1 to n.
 pub fn count_before(table: &Table, controller: usize, first: &Name, second: &Name, answer: &mut CountAnswer) {
+    // SAFETY: all pointers come from references; the answer is borrowed to be written, so nothing overlaps it.
     unsafe { furnacejade_count_before(table, controller, first, second, answer) }
 }
 
 /// A fresh table of a version, 1 or 2, and of n controllers, 1 to 7.
 pub fn fresh(version: usize, n: usize, answer: &mut FreshAnswer) {
+    // SAFETY: the pointer comes from a reference.
     unsafe { furnacejade_fresh(version, n, answer) }
 }
 
-/// The run of a whole file. Its lines are written into the listing from the start on.
+/// The run of a whole file. Its lines are written from the start of the listing on.
 pub fn run(bytes: &[u8], listing: &mut [u8], scratch: &mut [u8], answer: &mut RunAnswer) {
     let (lines, room) = (listing.as_mut_ptr(), listing.len());
     let (area, length) = (scratch.as_mut_ptr(), scratch.len());
+    // SAFETY: all pointers come from references; listing, scratch and answer are borrowed to be written, so nothing overlaps.
     unsafe { furnacejade_run(bytes.as_ptr(), bytes.len(), lines, room, area, length, answer) }
 }

@@ -1,23 +1,32 @@
 //! The structs that the library shares with its callers, as they lie in memory. Their layouts are asserted below.
 
-use crate::Refusal;
-use std::fmt::{Display, Formatter};
-use std::mem::{offset_of, size_of};
+use crate::{Class, ClassNumber, RefusalNumber};
+use core::error::Error;
+use core::fmt::{Display, Formatter};
+use core::mem::{offset_of, size_of};
+use core::str::FromStr;
 
-/// A run has at most so many controllers.
+/// The interface that this package was written for. It goes up whenever a struct, a constant, a refusal or a call changes.
+/// [`interface`](crate::interface) says which one the library was built with.
+pub const INTERFACE: usize = 1;
+
+/// The greatest number of controllers of a run.
 pub const CONTROLLERS: usize = 7;
 
-/// A run has at most so many messages.
+/// The greatest number of messages of a run.
 pub const MESSAGES: usize = 64;
 
-/// A panel shows the sums of so many classes, [`Class::NONE`] among them.
+/// The number of classes whose sums a panel shows, [`Class::None`] among them.
 pub const CLASSES: usize = 5;
 
-/// A panel shows so many registers.
+/// The number of registers that a panel shows.
 pub const REGISTERS: usize = 8;
 
-/// An event asks for so many bytes of scratch.
+/// The bytes of scratch that an event asks for.
 pub const SCRATCH: usize = 4096;
+
+/// The bytes of a listing in which the lines of every run file fit.
+pub const LISTING: usize = 16384;
 
 /// A place in a log, 1 to 64.
 #[repr(C)]
@@ -29,26 +38,22 @@ pub struct ForwardNumber(pub u8);
 #[derive(Clone, Copy, Debug, PartialEq, Eq, PartialOrd, Ord, Hash)]
 pub struct MessageNumber(pub u8);
 
-/// The weight class of a report's eggs. Its text is its name.
-#[repr(C)]
-#[derive(Clone, Copy, Debug, PartialEq, Eq, PartialOrd, Ord, Hash)]
-pub struct Class(pub u8);
-
 /// What a message says.
 #[repr(C)]
 #[derive(Clone, Copy, Debug, PartialEq, Eq, Hash)]
 pub struct Payload {
     /// [`Payload::REPORT`], [`Payload::SYNC`] or [`Payload::WRITE`].
     pub kind: u8,
-    /// [`Class::XL`] to [`Class::S`] if it is a report of version 2, else [`Class::NONE`].
-    pub class: Class,
+    /// The number of [`Class::Xl`] to [`Class::S`] for a report of version 2, else that of [`Class::None`].
+    pub class: ClassNumber,
     /// The amount if it is positive, else 0.
     pub added: u16,
     /// The magnitude of the amount if it is negative, else 0.
     pub withdrawn: u16,
-    /// The register that a write sets, 1 to 8, else 0. (In the rules it is the register, which is a keyword of C.)
+    /// The register that a write sets, 1 to 8; else 0. (The field has its name from the C header, where `register` is a
+    /// keyword.)
     pub reg: u16,
-    /// What a write sets it to, else 0.
+    /// The value that a write sets; else 0.
     pub value: u32,
 }
 
@@ -56,33 +61,40 @@ pub struct Payload {
 #[repr(C)]
 #[derive(Clone, Copy, Debug, PartialEq, Eq, Hash)]
 pub struct Message {
-    /// The controller that sent it, 1 to n.
+    /// The controller that sent the message, 1 to n.
     pub sender: u8,
-    /// The length of the sender's log when it was sent, plus one.
+    /// The message's place in its sender's log.
     pub number: MessageNumber,
-    /// Of a write: its register's date, as its sender held it, plus one; else 0.
+    /// The date of a write: one more than its register's date at its sender when it was sent. Else 0.
     pub date: u16,
-    /// What it says.
+    /// What the message says.
     pub payload: Payload,
 }
 
-/// A message's name outside the table, `sender.number`.
+/// A message's name, `sender.number`.
+///
+/// ```
+/// use furnacejade::Name;
+/// let name = Name::new(3, 1);
+/// assert_eq!((name.to_string().as_str(), "3.1".parse()), ("3.1", Ok(name)));
+/// assert_eq!("3".parse::<Name>().unwrap_err().to_string(), "a message is named by its sender and its number, as in 3.1");
+/// ```
 #[repr(C)]
 #[derive(Clone, Copy, Debug, PartialEq, Eq, PartialOrd, Ord, Hash)]
 pub struct Name {
-    /// The controller that sent it.
+    /// The controller that sent the message.
     pub sender: u8,
-    /// Its message number.
+    /// The message's number.
     pub number: MessageNumber,
 }
 
-/// What a controller knows of a message that it has not applied.
+/// What a controller keeps of a message that it has not applied.
 #[repr(C)]
 #[derive(Clone, Copy, Debug, PartialEq, Eq, Hash)]
 pub struct Pending {
-    /// Whether it is pending: 0 is no, anything else yes.
+    /// Whether the message is pending: 0 is no, anything else yes.
     pub held: u8,
-    /// Each controller's forward number for it, or [`ForwardNumber::ABSENT`].
+    /// Each controller's forward number for the message, or [`ForwardNumber::ABSENT`].
     pub marks: [ForwardNumber; CONTROLLERS],
 }
 
@@ -90,30 +102,34 @@ pub struct Pending {
 #[repr(C)]
 #[derive(Clone, Debug, PartialEq, Eq, Hash)]
 pub struct Controller {
-    /// How many entries its log has.
+    /// How many entries the controller's log has.
     pub length: usize,
-    /// The slots that it forwarded, in order.
+    /// The slots that the controller forwarded, in order.
     pub log: [u8; MESSAGES],
-    /// How many entries of each controller's log it has read.
+    /// How many entries of each log the controller has read.
     pub read: [usize; CONTROLLERS],
     /// What is pending, by slot.
     pub pending: [Pending; MESSAGES],
-    /// What it has applied, by slot: 0 is no, anything else yes.
+    /// What the controller has applied, by slot: 0 is no, anything else yes.
     pub applied: [u8; MESSAGES],
     /// The highest number applied of each sender, or [`MessageNumber::NONE`].
     pub highest: [MessageNumber; CONTROLLERS],
-    /// Whether it runs: 0 is no, anything else yes.
+    /// Whether the controller runs: 0 is no, anything else yes.
     pub running: u8,
 }
 
-/// The table of a run, which its owner keeps and lends to each call. Any values may be lent: a table that is not well
-/// formed is refused with [`Refusal::TABLE`].
+/// The table of a run, which its owner keeps and lends to each call. Its fields may be read at any time. Any values may be
+/// lent: a table that is not well formed is refused by [`Refusal::Table`](crate::Refusal::Table). That is a test of form and
+/// no checksum: an amount that was changed from 30 to 31 passes.
+///
+/// What most programs ask of a table has a function: [`latest`](Table::latest), [`state`](Table::state),
+/// [`unread`](Table::unread), [`kept`](Table::kept) and [`runs`](Table::runs).
 #[repr(C)]
 #[derive(Clone, Debug, PartialEq, Eq, Hash)]
 pub struct Table {
-    /// The version in which its records are read: 1, or 2 if reports name a class.
+    /// The version in which records are read: 1, or 2 if reports name a class.
     pub version: usize,
-    /// How many controllers the run has.
+    /// n: how many controllers the run has.
     pub n: usize,
     /// How many messages were sent.
     pub count: usize,
@@ -123,7 +139,7 @@ pub struct Table {
     pub controllers: [Controller; CONTROLLERS],
 }
 
-/// Two sums of amounts, each from 0 to 23,040 and at most that together. Their text is both, as a listing has them.
+/// Two sums of amounts. Both together are at most 23,040. Their text is both, as a listing has them.
 ///
 /// ```
 /// use furnacejade::Sums;
@@ -132,13 +148,13 @@ pub struct Table {
 #[repr(C)]
 #[derive(Clone, Copy, Debug, PartialEq, Eq, Hash)]
 pub struct Sums {
-    /// That of the amounts above 0.
+    /// The sum of the amounts above 0.
     pub added: u32,
-    /// That of the amounts below 0, with the sign dropped.
+    /// The sum of the amounts below 0, with the sign dropped.
     pub withdrawn: u32,
 }
 
-/// The stamp of a write. Of two writes of a register that with the greater stamp wins: dates decide before writers.
+/// The stamp of a write. Of two writes of a register the one with the greater stamp wins: dates decide before writers.
 ///
 /// ```
 /// use furnacejade::Stamp;
@@ -147,9 +163,9 @@ pub struct Sums {
 #[repr(C)]
 #[derive(Clone, Copy, Debug, PartialEq, Eq, PartialOrd, Ord, Hash)]
 pub struct Stamp {
-    /// Its date, 1 or more; 0 if the register was not written.
+    /// The date of the write, 1 or more; 0 if the register was not written.
     pub date: u16,
-    /// The controller that sent it; 0 if the register was not written.
+    /// The controller that sent the write; 0 if the register was not written.
     pub writer: u16,
 }
 
@@ -157,9 +173,9 @@ pub struct Stamp {
 #[repr(C)]
 #[derive(Clone, Copy, Debug, PartialEq, Eq, Hash)]
 pub struct Register {
-    /// Its value; 0 if it was not written.
+    /// The register's value; 0 if it was not written.
     pub value: u32,
-    /// The stamp of the write.
+    /// The stamp of the write that set it.
     pub stamp: Stamp,
 }
 
@@ -167,9 +183,9 @@ pub struct Register {
 #[repr(C)]
 #[derive(Clone, Debug, PartialEq, Eq, Hash)]
 pub struct Panel {
-    /// The sums over what was applied.
+    /// The sums of all that was applied.
     pub sums: Sums,
-    /// Those of each class, from [`Class::NONE`] on; they add up to `sums`.
+    /// The sums of each class, from [`Class::None`] on; they add up to `sums`.
     pub classes: [Sums; CLASSES],
     /// The registers, register r at r - 1.
     pub registers: [Register; REGISTERS],
@@ -179,15 +195,16 @@ pub struct Panel {
 #[repr(C)]
 #[derive(Clone, Debug, PartialEq, Eq, Hash)]
 pub struct Answer {
-    /// [`Refusal::ACCEPTED`], or why the event was refused.
-    pub number: Refusal,
-    /// Whether a sync of the receiver's own is in the set applied: 1 if so, else 0.
+    /// [`RefusalNumber::ACCEPTED`], or why the event was refused.
+    pub refusal: RefusalNumber,
+    /// 1 if a sync of the receiver's own is in the set applied, else 0.
     pub finished: u8,
-    /// Then that sync's answer, the sums after the set; or the sums that an accepted local read gives; else zeros.
+    /// If `finished` is 1, the answer of that sync, which is the sums after the set. After a local read, the sums that it
+    /// gives. Else zeros.
     pub sums: Sums,
-    /// How many messages the set has.
+    /// How many messages were applied as one set.
     pub size: usize,
-    /// Their names, by sender and then number; blank behind them.
+    /// The names of the set, by sender and then number. Blank names follow.
     pub names: [Name; MESSAGES],
 }
 
@@ -195,8 +212,8 @@ pub struct Answer {
 #[repr(C)]
 #[derive(Clone, Debug, PartialEq, Eq, Hash)]
 pub struct FreshAnswer {
-    /// [`Refusal::ACCEPTED`], or why the request was refused.
-    pub number: Refusal,
+    /// [`RefusalNumber::ACCEPTED`], or why the request was refused.
+    pub refusal: RefusalNumber,
     /// The fresh table; blank if refused.
     pub table: Table,
 }
@@ -205,8 +222,8 @@ pub struct FreshAnswer {
 #[repr(C)]
 #[derive(Clone, Debug, PartialEq, Eq, Hash)]
 pub struct LookAnswer {
-    /// [`Refusal::ACCEPTED`], or why the look was refused.
-    pub number: Refusal,
+    /// [`RefusalNumber::ACCEPTED`], or why the look was refused.
+    pub refusal: RefusalNumber,
     /// What the panel shows; blank if refused.
     pub panel: Panel,
 }
@@ -215,8 +232,8 @@ pub struct LookAnswer {
 #[repr(C)]
 #[derive(Clone, Debug, PartialEq, Eq, Hash)]
 pub struct CountAnswer {
-    /// [`Refusal::ACCEPTED`], or why the call was refused.
-    pub number: Refusal,
+    /// [`RefusalNumber::ACCEPTED`], or why the call was refused.
+    pub refusal: RefusalNumber,
     /// How many controllers put the first message before the second, 0 to n; 0 if refused.
     pub count: usize,
 }
@@ -225,8 +242,8 @@ pub struct CountAnswer {
 #[repr(C)]
 #[derive(Clone, Debug, PartialEq, Eq, Hash)]
 pub struct RunAnswer {
-    /// [`Refusal::ACCEPTED`] if the whole file was carried out, else what refused the file or ended the run.
-    pub number: Refusal,
+    /// [`RefusalNumber::ACCEPTED`] if the whole file was carried out, else what refused the file or ended the run.
+    pub refusal: RefusalNumber,
     /// How many events were accepted.
     pub events: usize,
     /// How many bytes of the listing were written.
@@ -245,51 +262,19 @@ impl MessageNumber {
     pub const NONE: MessageNumber = MessageNumber(0);
 }
 
-impl Class {
-    /// No class: that of a report of version 1, and of every sync and write.
-    pub const NONE: Class = Class(0);
-
-    /// Very large eggs.
-    pub const XL: Class = Class(1);
-
-    /// Large eggs.
-    pub const L: Class = Class(2);
-
-    /// Medium eggs.
-    pub const M: Class = Class(3);
-
-    /// Small eggs.
-    pub const S: Class = Class(4);
-
-    /// The classes that a report of version 2 may name.
-    pub const ALL: [Class; CLASSES - 1] = [Class::XL, Class::L, Class::M, Class::S];
-}
-
-impl Display for Class {
-    fn fmt(&self, f: &mut Formatter<'_>) -> std::fmt::Result {
-        match *self {
-            Class::NONE => f.write_str("none"),
-            Class::XL => f.write_str("XL"),
-            Class::L => f.write_str("L"),
-            Class::M => f.write_str("M"),
-            Class::S => f.write_str("S"),
-            Class(number) => write!(f, "no class has the number {number}"),
-        }
-    }
-}
-
 impl Payload {
     /// The kind of a report, which has an amount.
     pub const REPORT: u8 = 1;
 
-    /// The kind of a sync, which has none.
+    /// The kind of a sync, which has no amount.
     pub const SYNC: u8 = 2;
 
     /// The kind of a write, which has a register and a value.
     pub const WRITE: u8 = 6;
 
     /// Every field zero.
-    pub const BLANK: Payload = Payload { kind: 0, class: Class::NONE, added: 0, withdrawn: 0, reg: 0, value: 0 };
+    pub const BLANK: Payload =
+        Payload { kind: 0, class: ClassNumber(Class::None.number()), added: 0, withdrawn: 0, reg: 0, value: 0 };
 }
 
 impl Message {
@@ -300,13 +285,46 @@ impl Message {
 impl Name {
     /// Every field zero.
     pub const BLANK: Name = Name { sender: 0, number: MessageNumber::NONE };
+
+    /// The name of a sender's message with this number. Any bytes make a name.
+    #[must_use]
+    pub const fn new(sender: u8, number: u8) -> Name {
+        Name { sender, number: MessageNumber(number) }
+    }
 }
 
 impl Display for Name {
-    fn fmt(&self, f: &mut Formatter<'_>) -> std::fmt::Result {
+    fn fmt(&self, f: &mut Formatter<'_>) -> core::fmt::Result {
         write!(f, "{}.{}", self.sender, self.number.0)
     }
 }
+
+impl FromStr for Name {
+    type Err = ParseNameError;
+
+    fn from_str(text: &str) -> Result<Name, ParseNameError> {
+        let (sender, number) = text.split_once('.').ok_or(ParseNameError(()))?;
+        Ok(Name::new(byte_of(sender)?, byte_of(number)?))
+    }
+}
+
+/// A number from 0 to 255 in decimal digits, without a sign.
+fn byte_of(text: &str) -> Result<u8, ParseNameError> {
+    let digits = text.bytes().all(|byte| byte.is_ascii_digit());
+    text.parse().ok().filter(|_| digits).ok_or(ParseNameError(()))
+}
+
+/// A text that is not the name of a message.
+#[derive(Clone, Debug, PartialEq, Eq)]
+pub struct ParseNameError(());
+
+impl Display for ParseNameError {
+    fn fmt(&self, f: &mut Formatter<'_>) -> core::fmt::Result {
+        f.write_str("a message is named by its sender and its number, as in 3.1")
+    }
+}
+
+impl Error for ParseNameError {}
 
 impl Pending {
     /// Every field zero.
@@ -343,15 +361,19 @@ impl Table {
     /// let table = fresh(1, 3).unwrap();
     /// assert_eq!(Table::from_bytes(table.as_bytes()), table);
     /// ```
+    #[must_use]
     pub fn as_bytes(&self) -> &[u8; size_of::<Table>()] {
-        // No byte of a table is padding, as is asserted below, so that all have been set.
-        unsafe { &*std::ptr::from_ref(self).cast() }
+        // SAFETY: no byte of a table is padding, which is asserted below, so every byte has been set. Bytes have no
+        // alignment, and the result borrows the table.
+        unsafe { &*core::ptr::from_ref(self).cast() }
     }
 
-    /// The table that lies in these bytes. Every pattern is a table, though few are well formed.
+    /// The table that lies in these bytes. Every pattern of bytes is a table, though few are well formed.
+    #[must_use]
     pub fn from_bytes(bytes: &[u8; size_of::<Table>()]) -> Table {
-        // Every field is a number, of which every pattern of bytes is a value.
-        unsafe { std::mem::transmute(*bytes) }
+        // SAFETY: both types have one size, and every field of a table is a number, of which every pattern of bytes is a
+        // value.
+        unsafe { core::mem::transmute(*bytes) }
     }
 }
 
@@ -361,7 +383,7 @@ impl Sums {
 }
 
 impl Display for Sums {
-    fn fmt(&self, f: &mut Formatter<'_>) -> std::fmt::Result {
+    fn fmt(&self, f: &mut Formatter<'_>) -> core::fmt::Result {
         write!(f, "{} {}", self.added, self.withdrawn)
     }
 }
@@ -381,42 +403,52 @@ impl Panel {
     pub const BLANK: Panel =
         Panel { sums: Sums::BLANK, classes: [Sums::BLANK; CLASSES], registers: [Register::BLANK; REGISTERS] };
 
-    /// The sums of a class, unless there is no such class.
+    /// The sums of a class.
     ///
     /// ```
     /// use furnacejade::{Class, Panel, Sums};
     /// let sums = Sums { added: 30, withdrawn: 2 };
     /// let classes = [Sums::BLANK, sums, Sums::BLANK, Sums::BLANK, Sums::BLANK];
     /// let panel = Panel { sums, classes, ..Panel::BLANK };
-    /// assert_eq!((panel.of(Class::XL), panel.of(Class::L), panel.of(Class(5))), (Some(sums), Some(Sums::BLANK), None));
+    /// assert_eq!((panel.of(Class::Xl), panel.of(Class::L)), (sums, Sums::BLANK));
     /// ```
-    pub fn of(&self, class: Class) -> Option<Sums> {
-        self.classes.get(class.0 as usize).copied()
+    #[must_use]
+    pub fn of(&self, class: Class) -> Sums {
+        self.classes[usize::from(class.number())]
     }
 
-    /// A register by its number, from 1, unless there is no such register.
+    /// A register by its number, 1 to 8; none for any other number.
     ///
     /// ```
     /// use furnacejade::{Panel, Register};
     /// let panel = Panel::BLANK;
     /// assert_eq!((panel.register(0), panel.register(8), panel.register(9)), (None, Some(Register::BLANK), None));
     /// ```
+    #[must_use]
     pub fn register(&self, number: u8) -> Option<Register> {
-        self.registers.get((number as usize).checked_sub(1)?).copied()
+        self.registers.get(usize::from(number).checked_sub(1)?).copied()
     }
 }
 
 impl Answer {
     /// Every field zero: a place for an answer.
-    pub const BLANK: Answer =
-        Answer { number: Refusal::ACCEPTED, finished: 0, sums: Sums::BLANK, size: 0, names: [Name::BLANK; MESSAGES] };
+    pub const BLANK: Answer = Answer {
+        refusal: RefusalNumber::ACCEPTED,
+        finished: 0,
+        sums: Sums::BLANK,
+        size: 0,
+        names: [Name::BLANK; MESSAGES],
+    };
 
-    /// The set applied, by sender and then number.
+    /// The set applied, by sender and then number. It is empty if nothing was applied. (Of an answer made by hand, at most the
+    /// names that it has a place for.)
+    #[must_use]
     pub fn applied(&self) -> &[Name] {
-        &self.names[..self.size]
+        &self.names[..self.size.min(MESSAGES)]
     }
 
-    /// The answer of a sync that the event finished at its sender: the sums after the set.
+    /// The answer of the sync that the event finished: its sender's sums after the set applied. None if it finished none.
+    #[must_use]
     pub fn sync_answer(&self) -> Option<Sums> {
         (self.finished != 0).then_some(self.sums)
     }
@@ -424,22 +456,23 @@ impl Answer {
 
 impl FreshAnswer {
     /// Every field zero: a place for an answer.
-    pub const BLANK: FreshAnswer = FreshAnswer { number: Refusal::ACCEPTED, table: Table::BLANK };
+    pub const BLANK: FreshAnswer = FreshAnswer { refusal: RefusalNumber::ACCEPTED, table: Table::BLANK };
 }
 
 impl LookAnswer {
     /// Every field zero: a place for an answer.
-    pub const BLANK: LookAnswer = LookAnswer { number: Refusal::ACCEPTED, panel: Panel::BLANK };
+    pub const BLANK: LookAnswer = LookAnswer { refusal: RefusalNumber::ACCEPTED, panel: Panel::BLANK };
 }
 
 impl CountAnswer {
     /// Every field zero: a place for an answer.
-    pub const BLANK: CountAnswer = CountAnswer { number: Refusal::ACCEPTED, count: 0 };
+    pub const BLANK: CountAnswer = CountAnswer { refusal: RefusalNumber::ACCEPTED, count: 0 };
 }
 
 impl RunAnswer {
     /// Every field zero: a place for an answer.
-    pub const BLANK: RunAnswer = RunAnswer { number: Refusal::ACCEPTED, events: 0, written: 0, table: Table::BLANK };
+    pub const BLANK: RunAnswer =
+        RunAnswer { refusal: RefusalNumber::ACCEPTED, events: 0, written: 0, table: Table::BLANK };
 }
 
 const fn size_of_field<T, F>(_: fn(&T) -> &F) -> usize {
@@ -460,7 +493,8 @@ macro_rules! layout {
 // The layouts that the library was compiled with. A table, and every struct inside one, is its fields and nothing more.
 layout!(ForwardNumber, 1 bytes, 0 of padding: 0 at 0);
 layout!(MessageNumber, 1 bytes, 0 of padding: 0 at 0);
-layout!(Class, 1 bytes, 0 of padding: 0 at 0);
+layout!(ClassNumber, 1 bytes, 0 of padding: 0 at 0);
+layout!(RefusalNumber, 1 bytes, 0 of padding: 0 at 0);
 layout!(Payload, 12 bytes, 0 of padding: kind at 0, class at 1, added at 2, withdrawn at 4, reg at 6, value at 8);
 layout!(Message, 16 bytes, 0 of padding: sender at 0, number at 1, date at 2, payload at 4);
 layout!(Name, 2 bytes, 0 of padding: sender at 0, number at 1);
@@ -472,8 +506,8 @@ layout!(Sums, 8 bytes, 0 of padding: added at 0, withdrawn at 4);
 layout!(Stamp, 4 bytes, 0 of padding: date at 0, writer at 2);
 layout!(Register, 8 bytes, 0 of padding: value at 0, stamp at 4);
 layout!(Panel, 112 bytes, 0 of padding: sums at 0, classes at 8, registers at 48);
-layout!(Answer, 152 bytes, 6 of padding: number at 0, finished at 1, sums at 4, size at 16, names at 24);
-layout!(FreshAnswer, 6040 bytes, 7 of padding: number at 0, table at 8);
-layout!(LookAnswer, 116 bytes, 3 of padding: number at 0, panel at 4);
-layout!(CountAnswer, 16 bytes, 7 of padding: number at 0, count at 8);
-layout!(RunAnswer, 6056 bytes, 7 of padding: number at 0, events at 8, written at 16, table at 24);
+layout!(Answer, 152 bytes, 6 of padding: refusal at 0, finished at 1, sums at 4, size at 16, names at 24);
+layout!(FreshAnswer, 6040 bytes, 7 of padding: refusal at 0, table at 8);
+layout!(LookAnswer, 116 bytes, 3 of padding: refusal at 0, panel at 4);
+layout!(CountAnswer, 16 bytes, 7 of padding: refusal at 0, count at 8);
+layout!(RunAnswer, 6056 bytes, 7 of padding: refusal at 0, events at 8, written at 16, table at 24);

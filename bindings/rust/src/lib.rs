@@ -1,220 +1,304 @@
-//! Safe calls of the event engine for machines whose controllers keep one count without a master.
+//! Safe calls of the event engine for machines whose controllers keep one count without a master. The package is
+//! `no_std` and allocates nothing.
 //!
-//! The owner of a [`Table`] lends it to each call. No call trusts its caller: any table, any bytes and any lengths are
-//! answered, and what cannot be carried out is refused with the first question that is answered no, a [`Refusal`].
-//! A refused call changes nothing that was lent to it.
+//! A [`Machine`] owns the [`Table`] that holds the whole machine: all controllers, what each has sent, read and applied. An
+//! event is a [`Record`]. Controllers are numbered from 1.
+//!
+//! ```
+//! use furnacejade::{Machine, Record, Refusal, Sums};
+//!
+//! # fn main() -> Result<(), Refusal> {
+//! let mut machine = Machine::new(1, 2)?; // version 1, 2 controllers
+//!
+//! // Controller 1 reports 5 eggs. Controller 2 reads the report in 1's log and forwards it, and 1 reads that in 2's log. Now
+//! // more than half of them back the report, and panel 1 applies it.
+//! machine.play(Record::Report { sender: 1, amount: 5 })?;
+//! machine.play(Record::Handover { receiver: 2, owner: 1 })?;
+//! let answer = machine.play(Record::Handover { receiver: 1, owner: 2 })?;
+//! assert_eq!(answer.applied(), ["1.1".parse().unwrap()]);
+//! assert_eq!(machine.look(1)?.sums, Sums { added: 5, withdrawn: 0 });
+//! assert_eq!(machine.look(2)?.sums, Sums { added: 0, withdrawn: 0 });
+//!
+//! // There is no panel 3.
+//! let refusal = machine.look(3).unwrap_err();
+//! assert_eq!(refusal, Refusal::Controller);
+//! assert_eq!(refusal.to_string(), "refused by question 8: is every controller named from 1 to n?");
+//! # Ok(())
+//! # }
+//! ```
+//!
+//! No call trusts its caller: any table, any bytes and any lengths are answered. What cannot be carried out is refused with
+//! the first question that is answered no, a [`Refusal`], and a refused call changes nothing that was lent to it. Only the
+//! [`run`] of a file, which ends at the first record that is refused, keeps what the records before it did: their lines in
+//! the listing, and zeros in the first [`SCRATCH`] bytes of scratch if an event was accepted. A file that is refused by
+//! questions 1 to 3 changes nothing.
+//!
+//! # Report weight classes
+//!
+//! In version 2 each report names a weight class, and a panel shows the sums of each:
+//!
+//! ```
+//! use furnacejade::{Class, Machine, Record, Refusal, Sums};
+//!
+//! # fn main() -> Result<(), Refusal> {
+//! let mut machine = Machine::new(2, 1)?;
+//! machine.play(Record::ClassedReport { sender: 1, amount: 12, class: Class::L.into() })?;
+//! machine.play(Record::ClassedReport { sender: 1, amount: -7, class: Class::S.into() })?;
+//! machine.play(Record::Handover { receiver: 1, owner: 1 })?;
+//! assert_eq!(machine.look(1)?.sums, Sums { added: 12, withdrawn: 7 });
+//! assert_eq!(machine.look(1)?.of(Class::S), Sums { added: 0, withdrawn: 7 });
+//! # Ok(())
+//! # }
+//! ```
+//!
+//! # Read a count at a lane
+//!
+//! A local read gives what the controller's panel shows, without a message, once the controller has applied all that it has
+//! sent. It may lack what is finished elsewhere:
+//!
+//! ```
+//! use furnacejade::{Machine, Record, Refusal, Sums};
+//!
+//! # fn main() -> Result<(), Refusal> {
+//! let mut machine = Machine::new(1, 1)?;
+//! machine.play(Record::Report { sender: 1, amount: 30 })?;
+//! assert_eq!(machine.play(Record::LocalRead { controller: 1 }), Err(Refusal::ReadPending));
+//! machine.play(Record::Handover { receiver: 1, owner: 1 })?;
+//! assert_eq!(machine.play(Record::LocalRead { controller: 1 })?.sums, Sums { added: 30, withdrawn: 0 });
+//! # Ok(())
+//! # }
+//! ```
+//!
+//! # Read a count that is never stale
+//!
+//! A message is finished when its own sender has applied it. What was finished before a sync was sent is in the answer of the
+//! sync:
+//!
+//! ```
+//! use furnacejade::{Machine, Record, Refusal, Sums};
+//!
+//! # fn main() -> Result<(), Refusal> {
+//! let mut machine = Machine::new(1, 3)?;
+//! machine.play(Record::Report { sender: 1, amount: 30 })?;
+//! machine.play(Record::Handover { receiver: 2, owner: 1 })?;
+//! machine.play(Record::Handover { receiver: 1, owner: 2 })?; // 1 applies its report: it is finished
+//! assert_eq!(machine.play(Record::LocalRead { controller: 2 })?.sums, Sums { added: 0, withdrawn: 0 });
+//!
+//! machine.play(Record::Sync { sender: 2 })?;
+//! machine.play(Record::Handover { receiver: 1, owner: 2 })?;
+//! assert_eq!(machine.play(Record::Handover { receiver: 2, owner: 1 })?.sync_answer(), None);
+//! let answer = machine.play(Record::Handover { receiver: 2, owner: 2 })?;
+//! assert_eq!(answer.sync_answer(), Some(Sums { added: 30, withdrawn: 0 }));
+//! # Ok(())
+//! # }
+//! ```
+//!
+//! # Set a belt speed
+//!
+//! A supervisor sets one of eight registers at any lane, right after a sync of that lane is finished. Every panel shows the
+//! write with the greatest [`Stamp`] among those that its controller has applied:
+//!
+//! ```
+//! use furnacejade::{Machine, Record, Refusal, Register, Stamp};
+//!
+//! # fn main() -> Result<(), Refusal> {
+//! let mut machine = Machine::new(1, 1)?;
+//! let write = Record::Write { sender: 1, register: 1, value: 1500 };
+//! assert_eq!(machine.play(write), Err(Refusal::NotSynced));
+//! machine.play(Record::Sync { sender: 1 })?;
+//! machine.play(Record::Handover { receiver: 1, owner: 1 })?;
+//! machine.play(write)?;
+//! machine.play(Record::Handover { receiver: 1, owner: 1 })?;
+//! let belt_speed = Register { value: 1500, stamp: Stamp { date: 1, writer: 1 } };
+//! assert_eq!(machine.look(1)?.register(1), Some(belt_speed));
+//! # Ok(())
+//! # }
+//! ```
+//!
+//! # Follow a message
+//!
+//! A table says the name of the message that a controller has just sent, where it has arrived, and what is left to read:
+//!
+//! ```
+//! use furnacejade::{Machine, Name, Record, Refusal, State};
+//!
+//! # fn main() -> Result<(), Refusal> {
+//! let mut machine = Machine::new(1, 2)?;
+//! machine.play(Record::Report { sender: 1, amount: 5 })?;
+//! let sent = machine.table().latest(1).unwrap();
+//! assert_eq!(sent, Name::new(1, 1));
+//! let states = |machine: &Machine| [1, 2].map(|controller| machine.table().state(controller, sent));
+//! assert_eq!(states(&machine), [State::Pending, State::Unknown]);
+//!
+//! // Nobody has read 1's log. A stop of 1 may keep its entry or not; here it does not.
+//! assert_eq!((machine.table().unread(2, 1), machine.table().kept(1)), (1, Some(0..=1)));
+//! machine.play(Record::Stop { controller: 1, kept: 0 })?;
+//! assert_eq!((machine.table().unread(2, 1), machine.table().runs(1)), (0, false));
+//! assert_eq!(states(&machine), [State::CutOff, State::CutOff]);
+//! # Ok(())
+//! # }
+//! ```
+//!
+//! # See why a panel waits
+//!
+//! A pending message is applied ahead of another only if at least `n / 2 + 1` controllers put it first:
+//!
+//! ```
+//! use furnacejade::{Machine, Name, Record, Refusal};
+//!
+//! # fn main() -> Result<(), Refusal> {
+//! let mut machine = Machine::new(1, 3)?;
+//! machine.play(Record::Report { sender: 1, amount: 30 })?;
+//! machine.play(Record::Report { sender: 3, amount: -2 })?;
+//! // Controller 2 hears of 1's report and then of 3's, and 3 hears of both from 2.
+//! for (receiver, owner) in [(2, 1), (2, 3), (3, 2), (3, 2)] {
+//!     machine.play(Record::Handover { receiver, owner })?;
+//! }
+//! // Panel 3 waits: only 3 puts 3.1 first, and only 2 puts 1.1 first. 2 are needed.
+//! let (one, three) = (Name::new(1, 1), Name::new(3, 1));
+//! assert_eq!((machine.count_before(3, three, one)?, machine.count_before(3, one, three)?), (1, 1));
+//! # Ok(())
+//! # }
+//! ```
+//!
+//! # Lend your own memory
+//!
+//! [`fresh`], [`event`], [`look`] and [`count_before`] are the same calls over a table and scratch of the caller's:
 //!
 //! ```
 //! use furnacejade::{event, fresh, look, Record, Refusal, Sums, SCRATCH};
 //!
 //! # fn main() -> Result<(), Refusal> {
-//! let mut table = fresh(1, 2)?;
-//! let mut scratch = [0; SCRATCH];
-//! let mut play = |record: Record| event(&mut table, &record.bytes(), &mut scratch).map(|(answer, _)| answer);
-//!
-//! // Controller 1 reports 5 eggs. Both controllers read its log, and then 1 reads what 2 has forwarded: now more than
-//! // half of them back the report, and panel 1 applies it.
-//! play(Record::Report { sender: 1, amount: 5 })?;
-//! play(Record::Handover { receiver: 1, owner: 1 })?;
-//! play(Record::Handover { receiver: 2, owner: 1 })?;
-//! let answer = play(Record::Handover { receiver: 1, owner: 2 })?;
-//! assert_eq!(answer.applied().len(), 1);
-//! assert_eq!(look(&table, 1)?.sums, Sums { added: 5, withdrawn: 0 });
-//! assert_eq!(look(&table, 2)?.sums, Sums::BLANK);
-//!
-//! // There is no panel 3, and that is no sum of 0.
-//! let refusal = look(&table, 3).unwrap_err();
-//! assert_eq!(refusal, Refusal::CONTROLLER);
-//! assert_eq!(refusal.to_string(), "Is every controller named from 1 to n?");
-//! # Ok(())
-//! # }
-//! ```
-//!
-//! A sender reports on while reports of its own are under way. A local read gives a controller's two sums, what was
-//! added and what was withdrawn, without a message, once the controller has applied all that it sent:
-//!
-//! ```
-//! use furnacejade::{event, fresh, Record, Refusal, Sums, SCRATCH};
-//!
-//! # fn main() -> Result<(), Refusal> {
 //! let mut table = fresh(1, 1)?;
 //! let mut scratch = [0; SCRATCH];
-//! let mut play = |record: Record| event(&mut table, &record.bytes(), &mut scratch).map(|(answer, _)| answer);
+//! let report = Record::Report { sender: 1, amount: 5 };
+//! event(&mut table, &report.bytes(), &mut scratch)?;
 //!
-//! play(Record::Report { sender: 1, amount: 30 })?;
-//! play(Record::Report { sender: 1, amount: -12 })?;
-//! assert_eq!(play(Record::Sync { sender: 1 }), Err(Refusal::OWN_PENDING));
-//! assert_eq!(play(Record::LocalRead { controller: 1 }), Err(Refusal::READ_PENDING));
-//! play(Record::Handover { receiver: 1, owner: 1 })?;
-//! assert_eq!(play(Record::LocalRead { controller: 1 })?.sums, Sums { added: 30, withdrawn: 12 });
+//! // The bytes may hold more than one record: the first is carried out, and the others come back.
+//! let (answer, rest) = event(&mut table, &[3, 3, 1, 1, 2, 5, 1], &mut scratch)?;
+//! assert_eq!((answer.applied().len(), rest), (1, &[2, 5, 1][..]));
+//! assert_eq!(look(&table, 1)?.sums, Sums { added: 5, withdrawn: 0 });
 //! # Ok(())
 //! # }
 //! ```
 //!
-//! A message is finished when its own sender has applied it. What was finished before a sync was sent is in the answer
-//! of the sync; a local read may lack it:
+//! # Run a file
+//!
+//! A run file is a [`head`] and records. [`run`] carries out a whole file and writes a line for each set applied; [`records`]
+//! reads it without carrying it out:
 //!
 //! ```
-//! use furnacejade::{event, fresh, Record, Refusal, Sums, SCRATCH};
+//! use furnacejade::{head, records, run, Record, RefusalNumber, LISTING, SCRATCH};
 //!
-//! # fn main() -> Result<(), Refusal> {
-//! let mut table = fresh(1, 3)?;
-//! let mut scratch = [0; SCRATCH];
-//! let mut play = |record: Record| event(&mut table, &record.bytes(), &mut scratch).map(|(answer, _)| answer);
-//! let handover = |receiver, owner| Record::Handover { receiver, owner };
+//! let played = [Record::Report { sender: 1, amount: 12 }, Record::Handover { receiver: 1, owner: 1 }];
+//! let mut file = head(1, 1).to_vec();
+//! file.extend(played.iter().flat_map(Record::bytes));
 //!
-//! play(Record::Report { sender: 1, amount: 30 })?;
-//! play(handover(2, 1))?;
-//! assert_eq!(play(handover(1, 2))?.applied().len(), 1); // the report is finished
-//! assert_eq!(play(Record::LocalRead { controller: 2 })?.sums, Sums::BLANK);
-//! play(Record::Sync { sender: 2 })?;
-//! play(handover(1, 2))?;
-//! assert_eq!(play(handover(2, 1))?.sync_answer(), None);
-//! assert_eq!(play(handover(2, 2))?.sync_answer(), Some(Sums { added: 30, withdrawn: 0 }));
-//! # Ok(())
-//! # }
+//! let (mut listing, mut scratch) = ([0; LISTING], [0; SCRATCH]);
+//! let answer = run(&file, &mut listing, &mut scratch);
+//! assert_eq!((answer.refusal, answer.events), (RefusalNumber::ACCEPTED, 2));
+//! assert_eq!(&listing[..answer.written], b"2 1 12 0 1.1\n");
+//!
+//! assert!(records(&file).filter_map(|part| part.record).eq(played));
 //! ```
 //!
-//! A supervisor sets one of eight registers, a belt speed say, at any controller, right behind a sync of its own that is
-//! finished. Every panel shows the write with the greatest [`Stamp`] among those that its controller has applied:
+//! # Check the library
+//!
+//! A program that is linked with a library of another state of the sources finds that at its start:
 //!
 //! ```
-//! use furnacejade::{event, fresh, look, Record, Refusal, Register, Stamp, SCRATCH};
-//!
-//! # fn main() -> Result<(), Refusal> {
-//! let mut table = fresh(1, 3)?;
-//! let mut scratch = [0; SCRATCH];
-//! let mut play = |record: Record| event(&mut table, &record.bytes(), &mut scratch).map(|(answer, _)| answer);
-//! let handover = |receiver, owner| Record::Handover { receiver, owner };
-//! let write = Record::Write { sender: 2, register: 1, value: 1500 };
-//!
-//! assert_eq!(play(write), Err(Refusal::NOT_SYNCED));
-//! play(Record::Sync { sender: 2 })?;
-//! play(handover(1, 2))?;
-//! assert!(play(handover(2, 1))?.sync_answer().is_some());
-//! play(write)?;
-//!
-//! // Controller 1 hears of the write, and applies the sync and then the write with its own entries for them.
-//! play(handover(1, 2))?;
-//! play(handover(1, 1))?;
-//! play(handover(1, 1))?;
-//! let belt_speed = Register { value: 1500, stamp: Stamp { date: 1, writer: 2 } };
-//! assert_eq!(look(&table, 1)?.register(1), Some(belt_speed));
-//! assert_eq!(look(&table, 2)?.register(1), Some(Register::BLANK));
-//! # Ok(())
-//! # }
-//! ```
-//!
-//! Where something waits, [`count_before`] says how many controllers put one pending message before another. A message is
-//! applied ahead of another only if at least `n / 2 + 1` do:
-//!
-//! ```
-//! use furnacejade::{count_before, event, fresh, MessageNumber, Name, Record, Refusal, SCRATCH};
-//!
-//! # fn main() -> Result<(), Refusal> {
-//! let mut table = fresh(1, 3)?;
-//! let mut scratch = [0; SCRATCH];
-//! let mut play = |record: Record| event(&mut table, &record.bytes(), &mut scratch).map(|(answer, _)| answer);
-//! let handover = |receiver, owner| Record::Handover { receiver, owner };
-//! let name = |sender, number| Name { sender, number: MessageNumber(number) };
-//!
-//! // Controller 2 hears of 1's report and then of 3's, and 3 hears from 2 of both.
-//! play(Record::Report { sender: 1, amount: 30 })?;
-//! play(Record::Report { sender: 3, amount: -2 })?;
-//! for (receiver, owner) in [(2, 1), (2, 3), (3, 2)] {
-//!     play(handover(receiver, owner))?;
-//! }
-//! assert!(play(handover(3, 2))?.applied().is_empty());
-//!
-//! // Only 3 itself puts 3.1 before 1.1, and only 2 puts 1.1 first: 2 are needed.
-//! assert_eq!(count_before(&table, 3, name(3, 1), name(1, 1)), Ok(1));
-//! assert_eq!(count_before(&table, 3, name(1, 1), name(3, 1)), Ok(1));
-//! // 3.1 has two marks, all of them before a message that is not pending, and none before itself.
-//! assert_eq!(count_before(&table, 3, name(3, 1), name(7, 64)), Ok(2));
-//! assert_eq!(count_before(&table, 3, name(3, 1), name(3, 1)), Ok(0));
-//! // A name may hold anything, and a controller may not.
-//! assert_eq!(count_before(&table, 3, name(0, 255), name(3, 1)), Ok(0));
-//! assert_eq!(count_before(&table, 4, name(3, 1), name(1, 1)), Err(Refusal::CONTROLLER));
-//! # Ok(())
-//! # }
-//! ```
-//!
-//! In tables and files of version 2 each report names a weight class, and a panel shows the sums of each. A whole file
-//! goes through [`run`]:
-//!
-//! ```
-//! use furnacejade::{file_of, look, run, Class, Record, Refusal, Sums, SCRATCH};
-//!
-//! # fn main() -> Result<(), Refusal> {
-//! let handover = Record::Handover { receiver: 1, owner: 1 };
-//! let report = |amount, class| Record::ClassedReport { sender: 1, amount, class };
-//! let records = [report(12, Class::L), handover, report(-7, Class::S), handover];
-//! let (mut listing, mut scratch) = ([0; 64], [0; SCRATCH]);
-//! let answer = run(&file_of(2, 1, &records), &mut listing, &mut scratch);
-//! assert_eq!((answer.number, answer.events), (Refusal::ACCEPTED, 4));
-//! assert_eq!(&listing[..answer.written], b"2 1 12 0 1.1\n4 1 12 7 1.2\n");
-//!
-//! let panel = look(&answer.table, 1)?;
-//! assert_eq!(panel.of(Class::L), Some(Sums { added: 12, withdrawn: 0 }));
-//! assert_eq!(panel.of(Class::S), Some(Sums { added: 0, withdrawn: 7 }));
-//! # Ok(())
-//! # }
+//! assert_eq!(furnacejade::interface(), furnacejade::INTERFACE);
 //! ```
 
+#![no_std]
+
 pub mod calls;
+mod class;
 mod layout;
+mod machine;
+mod queries;
 mod record;
 mod refusal;
 
+pub use class::{Class, ClassNumber, ParseClassError};
 pub use layout::{
-    Answer, Class, Controller, CountAnswer, ForwardNumber, FreshAnswer, LookAnswer, Message, MessageNumber, Name,
-    Panel, Payload, Pending, Register, RunAnswer, Stamp, Sums, Table, CLASSES, CONTROLLERS, MESSAGES, REGISTERS,
-    SCRATCH,
+    Answer, Controller, CountAnswer, ForwardNumber, FreshAnswer, LookAnswer, Message, MessageNumber, Name, Panel,
+    ParseNameError, Payload, Pending, Register, RunAnswer, Stamp, Sums, Table, CLASSES, CONTROLLERS, INTERFACE,
+    LISTING, MESSAGES, REGISTERS, SCRATCH,
 };
-pub use record::{file_of, Record};
-pub use refusal::Refusal;
+pub use machine::Machine;
+pub use queries::State;
+pub use record::{head, records, Part, Record, RecordBytes, Records, LONGEST_RECORD};
+pub use refusal::{Refusal, RefusalNumber};
 
-/// A fresh table of n controllers, 1 to 7. Its version, 1 or 2, says whether its reports name a class, and stays.
-pub fn fresh(version: usize, n: usize) -> Result<Table, Refusal> {
+/// The interface that the library was built with. If it is not [`INTERFACE`], the library is of another state of the sources
+/// than this package, and no other call may be made.
+#[must_use]
+pub fn interface() -> usize {
+    calls::interface()
+}
+
+/// A fresh table of n controllers, 1 to 7, that all run and have sent nothing. Its version, 1 or 2, says whether its reports
+/// name a class, and stays.
+///
+/// # Errors
+///
+/// [`Refusal::Version`] and [`Refusal::ControllerCount`].
+pub fn fresh(version: u8, n: u8) -> Result<Table, Refusal> {
     let mut answer = FreshAnswer::BLANK;
-    calls::fresh(version, n, &mut answer);
-    answer.number.check()?;
+    calls::fresh(version.into(), n.into(), &mut answer);
+    answer.refusal.check()?;
     Ok(answer.table)
 }
 
-/// Carries out the record with which the bytes begin: the set applied and the sums of a finished sync or of a local
-/// read, and the part of the bytes that is unread. The table's version says whether a report has a class byte. It needs
-/// [`SCRATCH`] bytes of scratch, and leaves them zero. A refused event leaves table and scratch as they were.
+/// Carries out the record with which the bytes begin. Gives its answer and the bytes after the record. The answer has the set
+/// applied, and the sums of a finished sync or of a local read. The table's version says whether a report has a class byte.
+///
+/// An accepted event needs [`SCRATCH`] bytes of scratch, and leaves them zero. A refused one leaves table and scratch as they
+/// were.
+///
+/// # Errors
+///
+/// The first of questions 4 to 15 and 17 to 20 that is answered no.
 pub fn event<'a>(table: &mut Table, bytes: &'a [u8], scratch: &mut [u8]) -> Result<(Answer, &'a [u8]), Refusal> {
     let mut answer = Answer::BLANK;
     let left = calls::event(table, bytes, scratch, &mut answer);
-    answer.number.check()?;
-    Ok((answer, &bytes[bytes.len() - left..]))
+    answer.refusal.check()?;
+    Ok((answer, &bytes[bytes.len().saturating_sub(left)..]))
 }
 
 /// What the panel of a controller shows, 1 to n, running or stopped: the sums, those of each class, and the registers.
-pub fn look(table: &Table, controller: usize) -> Result<Panel, Refusal> {
+///
+/// # Errors
+///
+/// [`Refusal::Table`], if the table is not well formed, and [`Refusal::Controller`].
+pub fn look(table: &Table, controller: u8) -> Result<Panel, Refusal> {
     let mut answer = LookAnswer::BLANK;
-    calls::look(table, controller, &mut answer);
-    answer.number.check()?;
+    calls::look(table, controller.into(), &mut answer);
+    answer.refusal.check()?;
     Ok(answer.panel)
 }
 
-/// How many of the controllers 1 to n put the first message before the second at a controller, 1 to n, running or
-/// stopped: of the marks that it keeps, so many are smaller for the first. An absent mark is greater than every number, and
-/// not less than another absent one. A message that is not pending there, or is not of the run, has every mark absent.
-/// The first goes before the second if the count is at least the majority, `n / 2 + 1`. A name may hold anything.
-pub fn count_before(table: &Table, controller: usize, first: Name, second: Name) -> Result<usize, Refusal> {
+/// How many of the controllers 1 to n put the first message before the second at a controller, 1 to n, running or stopped.
+/// The first goes before the second if that is a majority, `n / 2 + 1` or more.
+///
+/// The count is of the marks that the controller keeps: how many are smaller for the first message than for the second. An
+/// absent mark is greater than every number, and not less than another absent one. A message that is not pending there, or is
+/// not of the run, has only absent marks. A name may hold anything.
+///
+/// # Errors
+///
+/// [`Refusal::Table`], if the table is not well formed, and [`Refusal::Controller`].
+pub fn count_before(table: &Table, controller: u8, first: Name, second: Name) -> Result<usize, Refusal> {
     let mut answer = CountAnswer::BLANK;
-    calls::count_before(table, controller, &first, &second, &mut answer);
-    answer.number.check()?;
+    calls::count_before(table, controller.into(), &first, &second, &mut answer);
+    answer.refusal.check()?;
     Ok(answer.count)
 }
 
-/// Carries out a whole file, up to its end or the first record that is refused, and writes a line into the listing for
-/// each set applied. The answer has the number that ended the run, the events accepted before it, the bytes written and
-/// the last table; after [`Refusal::FILE_LENGTH`], [`Refusal::VERSION`] and [`Refusal::COUNT`] all but the number is
-/// blank.
+/// Carries out a whole file, up to its end or the first record that is refused, and writes a line into the listing for each set
+/// applied. The answer has the refusal that ended the run, the number of events accepted before it, the number of bytes
+/// written, and the last table. Of a file that is refused by questions 1 to 3, all but the refusal is blank.
 #[must_use]
 pub fn run(bytes: &[u8], listing: &mut [u8], scratch: &mut [u8]) -> RunAnswer {
     let mut answer = RunAnswer::BLANK;

@@ -1,10 +1,10 @@
 //! The calls as a user makes them: the worked run, a run with classes, one with reports under way, one with a set point,
-//! one with a stale read, the count of "goes before", what a refusal leaves, and the numbers' texts.
+//! one with a stale read, the count of "goes before", and what a refusal leaves.
 
-use furnacejade::{calls, count_before, event, file_of, fresh, look, run};
+use furnacejade::{calls, count_before, event, fresh, head, look, run};
 use furnacejade::{
-    Answer, Class, CountAnswer, FreshAnswer, LookAnswer, MessageNumber, Name, Panel, Payload, Record, Refusal,
-    Register, RunAnswer, Stamp, Sums, Table, REGISTERS, SCRATCH,
+    Answer, Class, ClassNumber, CountAnswer, FreshAnswer, LookAnswer, MessageNumber, Name, Panel, Payload, Record,
+    Refusal, RefusalNumber, Register, RunAnswer, Stamp, Sums, Table, INTERFACE, REGISTERS, SCRATCH,
 };
 use std::mem::size_of;
 
@@ -14,8 +14,9 @@ const UNDERWAY: &[u8] = include_bytes!("../../underway.run");
 const SETTINGS: &[u8] = include_bytes!("../../settings.run");
 const READING: &[u8] = include_bytes!("../../reading.run");
 
-fn name(sender: u8, number: u8) -> Name {
-    Name { sender, number: MessageNumber(number) }
+/// A run file of these records.
+fn file_of(version: u8, n: u8, records: &[Record]) -> Vec<u8> {
+    head(version, n).into_iter().chain(records.iter().flat_map(Record::bytes)).collect()
 }
 
 fn sums(added: u32, withdrawn: u32) -> Sums {
@@ -36,7 +37,7 @@ fn register(value: u32, date: u16, writer: u16) -> Register {
 fn report_in(version: u8, amount: i16, class: Class) -> Record {
     match version {
         1 => Record::Report { sender: 1, amount },
-        _ => Record::ClassedReport { sender: 1, amount, class },
+        _ => Record::ClassedReport { sender: 1, amount, class: class.into() },
     }
 }
 
@@ -45,7 +46,7 @@ const OWN_ENTRY: Record = Record::Handover { receiver: 1, owner: 1 };
 
 /// The table and the answers of a file's records, carried out one by one.
 fn events_of(file: &[u8]) -> (Table, Vec<Answer>) {
-    let (mut table, mut scratch) = (fresh(file[0] as usize, file[1] as usize).unwrap(), [0; SCRATCH]);
+    let (mut table, mut scratch) = (fresh(file[0], file[1]).unwrap(), [0; SCRATCH]);
     let (mut rest, mut answers) = (&file[2..], vec![]);
     while !rest.is_empty() {
         let (answer, left) = event(&mut table, rest, &mut scratch).unwrap();
@@ -59,10 +60,10 @@ fn events_of(file: &[u8]) -> (Table, Vec<Answer>) {
 fn a_file_and_its_events_end_in_the_same_table() {
     let (mut listing, mut scratch) = ([0; 256], [7; SCRATCH]);
     let answer = run(WORKED, &mut listing, &mut scratch);
-    assert_eq!((answer.number, answer.events), (Refusal::ACCEPTED, 11));
+    assert_eq!((answer.refusal, answer.events), (RefusalNumber::ACCEPTED, 11));
     let (table, answers) = events_of(WORKED);
     let sets: Vec<Name> = answers.iter().flat_map(|answer| answer.applied().to_vec()).collect();
-    assert_eq!(sets, [name(1, 1), name(1, 1), name(3, 1), name(1, 1), name(3, 1)]);
+    assert_eq!(sets, [Name::new(1, 1), Name::new(1, 1), Name::new(3, 1), Name::new(1, 1), Name::new(3, 1)]);
     assert_eq!(table, answer.table);
     assert_eq!(look(&table, 2), Ok(panel((30, 2), [(30, 2), (0, 0), (0, 0), (0, 0), (0, 0)])));
     assert_eq!(&listing[..answer.written], b"4 1 30 0 1.1\n7 2 30 0 1.1\n8 2 30 2 3.1\n11 3 30 2 1.1 3.1\n");
@@ -72,16 +73,16 @@ fn a_file_and_its_events_end_in_the_same_table() {
 fn a_panel_shows_each_class() {
     let (mut listing, mut scratch) = ([0; 256], [0; SCRATCH]);
     let answer = run(CLASSES, &mut listing, &mut scratch);
-    assert_eq!((answer.number, answer.events), (Refusal::ACCEPTED, 15));
+    assert_eq!((answer.refusal, answer.events), (RefusalNumber::ACCEPTED, 15));
     let (table, answers) = events_of(CLASSES);
     assert_eq!((table.version, answers.len()), (2, 15));
     assert_eq!(table, answer.table);
-    let classes: Vec<Class> = table.messages[..3].iter().map(|message| message.payload.class).collect();
-    assert_eq!(classes, [Class::XL, Class::M, Class::S]);
+    let classes: Vec<_> = table.messages[..3].iter().map(|message| message.payload.class.class()).collect();
+    assert_eq!(classes, [Class::Xl, Class::M, Class::S].map(Some));
     for c in 1..=2 {
         let shown = look(&table, c).unwrap();
         assert_eq!(shown, panel((42, 2), [(0, 0), (30, 0), (0, 0), (12, 0), (0, 2)]));
-        assert_eq!((shown.of(Class::M), shown.of(Class::S)), (Some(sums(12, 0)), Some(sums(0, 2))));
+        assert_eq!((shown.of(Class::M), shown.of(Class::S)), (sums(12, 0), sums(0, 2)));
     }
     assert_eq!(&listing[..answer.written], b"7 1 42 0 1.1 2.1\n10 2 42 0 1.1 2.1\n13 2 42 2 2.3\n14 1 42 2 2.3\n");
 }
@@ -102,7 +103,7 @@ fn a_class_shows_what_was_added_and_what_was_withdrawn() {
 fn two_reports_of_one_sender_are_under_way_at_once() {
     let (mut listing, mut scratch) = ([0; 256], [7; SCRATCH]);
     let answer = run(UNDERWAY, &mut listing, &mut scratch);
-    assert_eq!((answer.number, answer.events), (Refusal::ACCEPTED, 13));
+    assert_eq!((answer.refusal, answer.events), (RefusalNumber::ACCEPTED, 13));
     assert_eq!(&listing[..answer.written], b"4 2 30 0 1.1\n7 1 30 0 1.1\n8 1 50 0 1.2\n12 3 30 0 1.1\n13 3 50 0 1.2\n");
     let (table, answers) = events_of(UNDERWAY);
     assert_eq!(table, answer.table);
@@ -116,27 +117,27 @@ fn two_reports_of_one_sender_are_under_way_at_once() {
 fn a_sync_has_what_was_finished_before_it_was_sent_and_a_local_read_may_lack_it() {
     let (mut listing, mut scratch) = ([0; 256], [7; SCRATCH]);
     let answer = run(READING, &mut listing, &mut scratch);
-    assert_eq!((answer.number, answer.events), (Refusal::ACCEPTED, 9));
+    assert_eq!((answer.refusal, answer.events), (RefusalNumber::ACCEPTED, 9));
     assert_eq!(&listing[..answer.written], b"3 1 30 0 1.1\n8 2 30 0 1.1 2.2\n");
     let (table, answers) = events_of(READING);
     assert_eq!(table, answer.table);
     // Event 3 finishes 1.1. The local read of event 4 lacks it, and the sync of event 5, which event 8 finishes, has it.
-    assert_eq!(answers[2].applied(), [name(1, 1)]);
+    assert_eq!(answers[2].applied(), [Name::new(1, 1)]);
     assert_eq!(answers[3], Answer::BLANK);
-    assert_eq!(answers[7].applied(), [name(1, 1), name(2, 2)]);
+    assert_eq!(answers[7].applied(), [Name::new(1, 1), Name::new(2, 2)]);
     assert_eq!(answers[7].sync_answer(), Some(sums(30, 0)));
     assert_eq!(answers[8].sums, sums(30, 0));
 }
 
 #[test]
 fn a_local_read_leaves_the_table_as_it_is() {
-    let local_read = [Record::LocalRead { controller: 1 }.bytes(), vec![9]].concat();
+    let local_read = [&Record::LocalRead { controller: 1 }.bytes()[..], &[9]].concat();
     for version in [1, 2] {
-        let (mut table, mut scratch) = (fresh(version as usize, 1).unwrap(), [7; SCRATCH]);
+        let (mut table, mut scratch) = (fresh(version, 1).unwrap(), [7; SCRATCH]);
         for amount in [9, -4, 9] {
             event(&mut table, &report_in(version, amount, Class::L).bytes(), &mut scratch).unwrap();
         }
-        assert_eq!(event(&mut table, &local_read, &mut scratch), Err(Refusal::READ_PENDING));
+        assert_eq!(event(&mut table, &local_read, &mut scratch), Err(Refusal::ReadPending));
         assert_eq!(event(&mut table, &OWN_ENTRY.bytes(), &mut scratch).unwrap().0.applied().len(), 3);
         let before = *table.as_bytes();
         scratch.fill(7);
@@ -164,7 +165,7 @@ fn a_sync_answers_the_sums_when_it_is_finished() {
 fn a_register_that_is_set_at_one_panel_is_read_at_another() {
     let (mut listing, mut scratch) = ([0; 256], [7; SCRATCH]);
     let answer = run(SETTINGS, &mut listing, &mut scratch);
-    assert_eq!((answer.number, answer.events), (Refusal::ACCEPTED, 8));
+    assert_eq!((answer.refusal, answer.events), (RefusalNumber::ACCEPTED, 8));
     assert_eq!(&listing[..answer.written], b"3 2 0 0 2.1\n6 1 0 0 2.1\n7 1 0 0 2.2\n8 2 0 0 2.2\n");
     let (table, answers) = events_of(SETTINGS);
     assert_eq!(table, answer.table);
@@ -206,21 +207,21 @@ fn a_write_follows_on_an_applied_sync() {
     let write = |register| Record::Write { sender: 1, register, value: 5 };
     let (sync, report) = (Record::Sync { sender: 1 }, Record::Report { sender: 1, amount: 5 });
     for (record, refusal) in [
-        (write(1), Some(Refusal::NOT_SYNCED)),
+        (write(1), Some(Refusal::NotSynced)),
         (sync, None),
-        (write(9), Some(Refusal::REGISTER)),
-        (write(1), Some(Refusal::OWN_PENDING)),
+        (write(9), Some(Refusal::Register)),
+        (write(1), Some(Refusal::OwnPending)),
         (OWN_ENTRY, None),
-        (write(0), Some(Refusal::REGISTER)),
+        (write(0), Some(Refusal::Register)),
         (report, None),
         (OWN_ENTRY, None),
-        (write(1), Some(Refusal::NOT_SYNCED)),
+        (write(1), Some(Refusal::NotSynced)),
         (sync, None),
         (OWN_ENTRY, None),
         (write(8), None),
-        (write(8), Some(Refusal::OWN_PENDING)),
+        (write(8), Some(Refusal::OwnPending)),
         (OWN_ENTRY, None),
-        (write(8), Some(Refusal::NOT_SYNCED)),
+        (write(8), Some(Refusal::NotSynced)),
     ] {
         assert_eq!(play(record), refusal, "{record:?}");
     }
@@ -230,19 +231,19 @@ fn a_write_follows_on_an_applied_sync() {
 fn the_version_says_what_a_report_is() {
     let mut scratch = [0; SCRATCH];
     let report = Record::Report { sender: 1, amount: 5 };
-    let classed = |amount, class| Record::ClassedReport { sender: 1, amount, class };
+    let classed = |amount, class| Record::ClassedReport { sender: 1, amount, class: ClassNumber(class) };
     for (version, record, refusal) in [
         (1, report, None),
-        (1, classed(5, Class::L), Some(Refusal::LENGTH)),
-        (2, report, Some(Refusal::LENGTH)),
-        (2, classed(5, Class::NONE), Some(Refusal::CLASS)),
-        (2, classed(5, Class::XL), None),
-        (2, classed(5, Class::S), None),
-        (2, classed(5, Class(5)), Some(Refusal::CLASS)),
-        (2, classed(0, Class(5)), Some(Refusal::AMOUNT)),
+        (1, classed(5, 2), Some(Refusal::RecordLength)),
+        (2, report, Some(Refusal::RecordLength)),
+        (2, classed(5, 0), Some(Refusal::Class)),
+        (2, classed(5, 1), None),
+        (2, classed(5, 4), None),
+        (2, classed(5, 5), Some(Refusal::Class)),
+        (2, classed(0, 5), Some(Refusal::Amount)),
     ] {
         let mut table = fresh(version, 2).unwrap();
-        assert_eq!(table.version, version);
+        assert_eq!(table.version, usize::from(version));
         assert_eq!(event(&mut table, &record.bytes(), &mut scratch).err(), refusal, "{record:?}");
     }
 }
@@ -250,7 +251,7 @@ fn the_version_says_what_a_report_is() {
 #[test]
 fn as_many_as_put_a_message_first_are_counted() {
     let (mut table, mut scratch) = (fresh(1, 3).unwrap(), [0; SCRATCH]);
-    let (one, three) = (name(1, 1), name(3, 1));
+    let (one, three) = (Name::new(1, 1), Name::new(3, 1));
     // What controller 3 keeps after each event of the worked run: 1.1 before 3.1, and 3.1 before 1.1.
     let counts = [[0, 0], [0, 0], [0, 0], [0, 0], [0, 1], [0, 1], [0, 1], [0, 1], [1, 1], [1, 1], [0, 0]];
     let mut rest = &WORKED[2..];
@@ -274,16 +275,20 @@ fn two_under_way() -> Table {
 #[test]
 fn any_two_names_are_counted() {
     let table = two_under_way();
-    let (first, second, sync) = (name(1, 1), name(1, 2), name(2, 2));
+    let (first, second, sync) = (Name::new(1, 1), Name::new(1, 2), Name::new(2, 2));
     let odd = [(0, 0), (0, 1), (1, 0), (1, 3), (1, 64), (1, 65), (1, 255), (2, 1), (3, 1), (255, 1), (255, 255)];
     for c in [1, 2] {
         // Each of the three has one mark where it is pending: of its sender, which alone is known to have forwarded it.
         for pending in if c == 1 { [first, second] } else { [first, sync] } {
             assert_eq!(count_before(&table, c, pending, pending), Ok(0));
             for (sender, number) in odd {
-                assert_eq!(count_before(&table, c, pending, name(sender, number)), Ok(1), "{sender}.{number}");
-                assert_eq!(count_before(&table, c, name(sender, number), pending), Ok(0), "{sender}.{number}");
-                assert_eq!(count_before(&table, c, name(sender, number), name(0, 0)), Ok(0), "{sender}.{number}");
+                assert_eq!(count_before(&table, c, pending, Name::new(sender, number)), Ok(1), "{sender}.{number}");
+                assert_eq!(count_before(&table, c, Name::new(sender, number), pending), Ok(0), "{sender}.{number}");
+                assert_eq!(
+                    count_before(&table, c, Name::new(sender, number), Name::new(0, 0)),
+                    Ok(0),
+                    "{sender}.{number}"
+                );
             }
         }
     }
@@ -301,7 +306,8 @@ fn a_stopped_controller_is_asked_for_what_it_keeps() {
     event(&mut table, &stop.bytes(), &mut scratch).unwrap();
     // 1.2 is cut off, and pending at its sender for good.
     for (c, pairs) in [(1, [Ok(1), Ok(0)]), (2, [Ok(1), Ok(0)])] {
-        let found = [(1, 2), (2, 1)].map(|(one, other)| count_before(&table, c, name(1, one), name(1, other)));
+        let found =
+            [(1, 2), (2, 1)].map(|(one, other)| count_before(&table, c, Name::new(1, one), Name::new(1, other)));
         assert_eq!(found, pairs);
     }
 }
@@ -312,24 +318,30 @@ fn a_count_asks_for_a_table_and_a_controller() {
     let mut broken = good.clone();
     broken.count = 65;
     let before = *good.as_bytes();
-    for (table, c, number) in [
-        (&good, 0, Refusal::CONTROLLER),
-        (&good, 1, Refusal::ACCEPTED),
-        (&good, 2, Refusal::ACCEPTED),
-        (&good, 3, Refusal::CONTROLLER),
-        (&good, 257, Refusal::CONTROLLER),
-        (&good, usize::MAX, Refusal::CONTROLLER),
-        (&broken, 0, Refusal::TABLE),
-        (&broken, 1, Refusal::TABLE),
-        (&broken, 3, Refusal::TABLE),
-        (&Table::BLANK, 1, Refusal::TABLE),
+    for (table, c, refusal) in [
+        (&good, 0, Some(Refusal::Controller)),
+        (&good, 1, None),
+        (&good, 2, None),
+        (&good, 3, Some(Refusal::Controller)),
+        (&good, 257, Some(Refusal::Controller)),
+        (&good, usize::MAX, Some(Refusal::Controller)),
+        (&broken, 0, Some(Refusal::Table)),
+        (&broken, 1, Some(Refusal::Table)),
+        (&broken, 3, Some(Refusal::Table)),
+        (&Table::BLANK, 1, Some(Refusal::Table)),
     ] {
-        for (second, count) in [(name(1, 64), 1), (name(0, 0), 1), (name(255, 255), 1), (name(1, 1), 0)] {
-            let mut answer = CountAnswer { number: Refusal::from(9), count: 9 };
-            calls::count_before(table, c, &name(1, 1), &second, &mut answer);
-            let accepted = number == Refusal::ACCEPTED;
-            assert_eq!(answer, CountAnswer { number, count: if accepted { count } else { 0 } }, "{c} {second}");
-            assert_eq!(count_before(table, c, name(1, 1), second), number.check().map(|()| count));
+        for (second, count) in [((1, 64), 1), ((0, 0), 1), ((255, 255), 1), ((1, 1), 0)] {
+            let second = Name::new(second.0, second.1);
+            let mut answer = CountAnswer { refusal: RefusalNumber(9), count: 9 };
+            calls::count_before(table, c, &Name::new(1, 1), &second, &mut answer);
+            let expected = refusal.map_or(CountAnswer { count, ..CountAnswer::BLANK }, |refusal| CountAnswer {
+                refusal: refusal.into(),
+                ..CountAnswer::BLANK
+            });
+            assert_eq!(answer, expected, "{c} {second}");
+            if let Ok(c) = u8::try_from(c) {
+                assert_eq!(count_before(table, c, Name::new(1, 1), second), refusal.map_or(Ok(count), Err));
+            }
         }
     }
     assert_eq!(*good.as_bytes(), before);
@@ -340,50 +352,72 @@ fn a_refused_call_changes_nothing() {
     let mut table = fresh(2, 2).unwrap();
     let mut scratch = [7; SCRATCH];
     let before = table.clone();
-    for (bytes, refusal) in [
-        (vec![], Refusal::RECORD),
-        (vec![1, 9], Refusal::KIND),
-        (vec![1, 2], Refusal::LENGTH),
-        (Record::Sync { sender: 3 }.bytes(), Refusal::CONTROLLER),
-        (Record::ClassedReport { sender: 1, amount: 361, class: Class::M }.bytes(), Refusal::AMOUNT),
-        (Record::ClassedReport { sender: 1, amount: 360, class: Class(0) }.bytes(), Refusal::CLASS),
-        (Record::Handover { receiver: 1, owner: 2 }.bytes(), Refusal::NO_ENTRY),
-        (Record::Stop { controller: 2, kept: 256 }.bytes(), Refusal::KEPT),
-        (Record::LocalRead { controller: 0 }.bytes(), Refusal::CONTROLLER),
-        (Record::Write { sender: 3, register: 0, value: 5 }.bytes(), Refusal::CONTROLLER),
-        (Record::Write { sender: 1, register: 9, value: 5 }.bytes(), Refusal::REGISTER),
-        (Record::Write { sender: 1, register: 8, value: 5 }.bytes(), Refusal::NOT_SYNCED),
+    for (bytes, refusal) in [(&[][..], Refusal::Record), (&[1, 9], Refusal::Kind), (&[1, 2], Refusal::RecordLength)] {
+        assert_eq!(event(&mut table, bytes, &mut scratch), Err(refusal));
+    }
+    for (record, refusal) in [
+        (Record::Sync { sender: 3 }, Refusal::Controller),
+        (Record::ClassedReport { sender: 1, amount: 361, class: Class::M.into() }, Refusal::Amount),
+        (Record::ClassedReport { sender: 1, amount: 360, class: Class::None.into() }, Refusal::Class),
+        (Record::Handover { receiver: 1, owner: 2 }, Refusal::NoEntry),
+        (Record::Stop { controller: 2, kept: 256 }, Refusal::Kept),
+        (Record::LocalRead { controller: 0 }, Refusal::Controller),
+        (Record::Write { sender: 3, register: 0, value: 5 }, Refusal::Controller),
+        (Record::Write { sender: 1, register: 9, value: 5 }, Refusal::Register),
+        (Record::Write { sender: 1, register: 8, value: 5 }, Refusal::NotSynced),
     ] {
-        assert_eq!(event(&mut table, &bytes, &mut scratch), Err(refusal));
+        assert_eq!(event(&mut table, &record.bytes(), &mut scratch), Err(refusal));
     }
     for record in [Record::Sync { sender: 1 }, Record::LocalRead { controller: 1 }] {
-        assert_eq!(event(&mut table, &record.bytes(), &mut scratch[1..]), Err(Refusal::SCRATCH_LENGTH));
+        assert_eq!(event(&mut table, &record.bytes(), &mut scratch[1..]), Err(Refusal::Scratch));
     }
-    assert_eq!(look(&table, 0), Err(Refusal::CONTROLLER));
-    assert_eq!(count_before(&table, 3, name(1, 1), name(2, 1)), Err(Refusal::CONTROLLER));
+    assert_eq!(look(&table, 0), Err(Refusal::Controller));
+    assert_eq!(count_before(&table, 3, Name::new(1, 1), Name::new(2, 1)), Err(Refusal::Controller));
     assert_eq!((table, scratch), (before, [7; SCRATCH]));
+}
+
+#[test]
+fn a_refused_run_keeps_the_lines_before_it() {
+    let sent = [Record::Report { sender: 1, amount: 5 }, OWN_ENTRY, OWN_ENTRY];
+    let (mut listing, mut scratch) = ([7; 256], [7; SCRATCH + 1]);
+    let answer = run(&file_of(1, 1, &sent), &mut listing, &mut scratch);
+    assert_eq!((answer.refusal.check(), answer.events), (Err(Refusal::NoEntry), 2));
+    assert_eq!(listing[..answer.written], *b"2 1 5 0 1.1\n");
+    assert!(listing[answer.written..].iter().all(|byte| *byte == 7));
+    assert!(scratch[..SCRATCH].iter().all(|byte| *byte == 0) && scratch[SCRATCH] == 7);
+    assert_eq!(look(&answer.table, 1).unwrap().sums, sums(5, 0));
+    // Where no event was accepted, nothing that was lent is changed.
+    for file in [&[1][..], &[3, 1], &[1, 8], &[1, 1], &[1, 1, 3, 3, 1, 1]] {
+        let (mut listing, mut scratch) = ([7; 256], [7; SCRATCH]);
+        assert_eq!(run(file, &mut listing, &mut scratch).events, 0);
+        assert_eq!((listing, scratch), ([7; 256], [7; SCRATCH]));
+    }
 }
 
 #[test]
 fn a_refused_answer_is_blank_but_for_its_number() {
     let (mut table, mut answer) = (Table::BLANK, Answer { size: 9, finished: 1, sums: sums(9, 9), ..Answer::BLANK });
+    let refusal = Refusal::Table.into();
     assert_eq!(calls::event(&mut table, &[1, 2, 3], &mut [], &mut answer), 3);
-    assert_eq!(answer, Answer { number: Refusal::TABLE, ..Answer::BLANK });
+    assert_eq!(answer, Answer { refusal, ..Answer::BLANK });
     let dirty = Panel { registers: [register(9, 9, 9); REGISTERS], ..panel((9, 9), [(9, 9); 5]) };
-    let mut answer = LookAnswer { number: Refusal::ACCEPTED, panel: dirty };
+    let mut answer = LookAnswer { refusal: RefusalNumber::ACCEPTED, panel: dirty };
     calls::look(&table, 1, &mut answer);
-    assert_eq!(answer, LookAnswer { number: Refusal::TABLE, panel: Panel::BLANK });
-    let mut answer = CountAnswer { number: Refusal::ACCEPTED, count: 9 };
-    calls::count_before(&table, 1, &name(1, 1), &name(2, 1), &mut answer);
-    assert_eq!(answer, CountAnswer { number: Refusal::TABLE, ..CountAnswer::BLANK });
-    for (file, number) in [(&[1][..], Refusal::FILE_LENGTH), (&[3, 3], Refusal::VERSION), (&[2, 8], Refusal::COUNT)] {
-        assert_eq!(run(file, &mut [], &mut []), RunAnswer { number, ..RunAnswer::BLANK });
+    assert_eq!(answer, LookAnswer { refusal, panel: Panel::BLANK });
+    let mut answer = CountAnswer { refusal: RefusalNumber::ACCEPTED, count: 9 };
+    calls::count_before(&table, 1, &Name::new(1, 1), &Name::new(2, 1), &mut answer);
+    assert_eq!(answer, CountAnswer { refusal, ..CountAnswer::BLANK });
+    for (file, refusal) in
+        [(&[1][..], Refusal::FileLength), (&[3, 3], Refusal::Version), (&[2, 8], Refusal::ControllerCount)]
+    {
+        assert_eq!(run(file, &mut [], &mut []), RunAnswer { refusal: refusal.into(), ..RunAnswer::BLANK });
     }
-    for (version, n, number) in [(0, 3, Refusal::VERSION), (3, 8, Refusal::VERSION), (2, 8, Refusal::COUNT)] {
-        let mut answer = FreshAnswer { number: Refusal::ACCEPTED, table: fresh(2, 7).unwrap() };
-        calls::fresh(version, n, &mut answer);
-        assert_eq!(answer, FreshAnswer { number, ..FreshAnswer::BLANK });
-        assert_eq!(fresh(version, n), Err(number));
+    for (version, n, refusal) in [(0, 3, Refusal::Version), (3, 8, Refusal::Version), (2, 8, Refusal::ControllerCount)]
+    {
+        let mut answer = FreshAnswer { refusal: RefusalNumber::ACCEPTED, table: fresh(2, 7).unwrap() };
+        calls::fresh(version.into(), n.into(), &mut answer);
+        assert_eq!(answer, FreshAnswer { refusal: refusal.into(), ..FreshAnswer::BLANK });
+        assert_eq!(fresh(version, n), Err(refusal));
     }
 }
 
@@ -391,52 +425,13 @@ fn a_refused_answer_is_blank_but_for_its_number() {
 fn any_bytes_are_a_table() {
     let mut table = Table::from_bytes(&[0xA5; size_of::<Table>()]);
     let before = *table.as_bytes();
-    assert_eq!(look(&table, 1), Err(Refusal::TABLE));
-    assert_eq!(count_before(&table, 1, name(0xA5, 0xA5), name(1, 1)), Err(Refusal::TABLE));
-    assert_eq!(event(&mut table, &[], &mut []), Err(Refusal::TABLE));
+    assert_eq!(look(&table, 1), Err(Refusal::Table));
+    assert_eq!(count_before(&table, 1, Name::new(0xA5, 0xA5), Name::new(1, 1)), Err(Refusal::Table));
+    assert_eq!(event(&mut table, &[], &mut []), Err(Refusal::Table));
     assert_eq!(*table.as_bytes(), before);
 }
 
 #[test]
-fn classes_have_names() {
-    assert_eq!(Class::ALL.map(|class| class.to_string()), ["XL", "L", "M", "S"]);
-    assert_eq!((Class::NONE.to_string(), Class(5).to_string()), ("none".into(), "no class has the number 5".into()));
-}
-
-#[test]
-fn numbers_have_names_and_texts() {
-    for (number, (refusal, _, question)) in Refusal::ALL.iter().enumerate() {
-        assert_eq!((refusal.number() as usize, refusal.to_string()), (number, question.to_string()));
-    }
-    assert_eq!(format!("{:?}", Refusal::NO_ENTRY), "13 NO_ENTRY");
-    assert_eq!(Refusal::from(200).to_string(), "no question has the number 200");
-    assert_eq!((Refusal::ACCEPTED.check(), Refusal::KEPT.check()), (Ok(()), Err(Refusal::KEPT)));
-}
-
-#[test]
-fn a_record_is_read_back_from_its_bytes_and_from_no_others() {
-    let records = [
-        Record::Report { sender: 255, amount: -32_768 },
-        Record::ClassedReport { sender: 0, amount: 32_767, class: Class(255) },
-        Record::Sync { sender: 7 },
-        Record::Handover { receiver: 1, owner: 200 },
-        Record::Stop { controller: 3, kept: 0x0102 },
-        Record::LocalRead { controller: 9 },
-        Record::Write { sender: 2, register: 0, value: 0x8102_0304 },
-    ];
-    for record in records {
-        let bytes = record.bytes();
-        assert_eq!(Record::from_bytes(&bytes), Some(record));
-        assert_eq!(Record::from_bytes(&bytes[..bytes.len() - 1]), None);
-        assert_eq!(Record::from_bytes(&[&bytes[..], &[0]].concat()), None);
-    }
-    // Of all lengths and kinds these are the forms of a record, seven of them.
-    let forms = (0..=20).flat_map(|length: u8| (0..=255).map(move |kind| (length, kind)));
-    let read = forms.filter_map(|(length, kind)| {
-        let mut bytes = vec![5; length as usize + 1];
-        bytes[0] = length;
-        *bytes.get_mut(1)? = kind;
-        Record::from_bytes(&bytes).map(|record| assert_eq!(record.bytes(), bytes))
-    });
-    assert_eq!(read.count(), records.len());
+fn the_library_has_the_interface_of_the_package() {
+    assert_eq!(furnacejade::interface(), INTERFACE);
 }

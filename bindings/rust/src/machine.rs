@@ -1,0 +1,104 @@
+//! A machine that owns its table and its scratch.
+
+use crate::{count_before, event, fresh, look, Answer, Name, Panel, Record, Refusal, Table, SCRATCH};
+use core::fmt::{Debug, Formatter};
+use core::ops::RangeInclusive;
+
+/// A machine: a [`Table`] that is always well formed, and the scratch that events need. It takes 10 KB and allocates nothing.
+///
+/// ```
+/// use furnacejade::{Machine, Record, Refusal, Sums};
+///
+/// # fn main() -> Result<(), Refusal> {
+/// let mut machine = Machine::new(1, 1)?;
+/// machine.play(Record::Report { sender: 1, amount: 30 })?;
+/// machine.play(Record::Handover { receiver: 1, owner: 1 })?;
+/// assert_eq!(machine.look(1)?.sums, Sums { added: 30, withdrawn: 0 });
+///
+/// // The table can be saved, and the machine goes on from it.
+/// let saved = machine.table().clone();
+/// assert_eq!(Machine::from_table(saved)?, machine);
+/// # Ok(())
+/// # }
+/// ```
+#[derive(Clone, PartialEq, Eq)]
+pub struct Machine {
+    table: Table,
+    scratch: [u8; SCRATCH],
+}
+
+impl Machine {
+    /// A machine of n controllers, 1 to 7, that all run and have sent nothing. Its version, 1 or 2, says whether its reports
+    /// name a class, and stays.
+    ///
+    /// # Errors
+    ///
+    /// [`Refusal::Version`] and [`Refusal::ControllerCount`].
+    pub fn new(version: u8, n: u8) -> Result<Machine, Refusal> {
+        Ok(Machine { table: fresh(version, n)?, scratch: [0; SCRATCH] })
+    }
+
+    /// A machine that goes on from a table. The table is tested for its form alone: an amount that was changed from 30 to 31
+    /// passes.
+    ///
+    /// # Errors
+    ///
+    /// [`Refusal::Table`], if the table is not well formed.
+    pub fn from_table(table: Table) -> Result<Machine, Refusal> {
+        // Every well-formed table has a controller 1, so only the table can be refused.
+        look(&table, 1)?;
+        Ok(Machine { table, scratch: [0; SCRATCH] })
+    }
+
+    /// Carries out one event. The answer has the set applied, and the sums of a finished sync or of a local read. A refused
+    /// event changes nothing.
+    ///
+    /// # Errors
+    ///
+    /// The first question, of those that are put to the record, that is answered no.
+    pub fn play(&mut self, record: Record) -> Result<Answer, Refusal> {
+        event(&mut self.table, &record.bytes(), &mut self.scratch).map(|(answer, _)| answer)
+    }
+
+    /// What the panel of a controller shows: [`look`] at the machine's table.
+    ///
+    /// # Errors
+    ///
+    /// [`Refusal::Controller`], unless the controller is one of 1 to n.
+    pub fn look(&self, controller: u8) -> Result<Panel, Refusal> {
+        look(&self.table, controller)
+    }
+
+    /// How many controllers put the first message before the second at a controller: [`count_before`] in the machine's table.
+    ///
+    /// # Errors
+    ///
+    /// [`Refusal::Controller`], unless the controller is one of 1 to n.
+    pub fn count_before(&self, controller: u8, first: Name, second: Name) -> Result<usize, Refusal> {
+        count_before(&self.table, controller, first, second)
+    }
+
+    /// The machine's table, to be read, copied or saved.
+    #[must_use]
+    pub fn table(&self) -> &Table {
+        &self.table
+    }
+
+    /// The machine's table, without the machine.
+    #[must_use]
+    pub fn into_table(self) -> Table {
+        self.table
+    }
+
+    /// The machine's controllers, 1 to n.
+    #[must_use]
+    pub fn controllers(&self) -> RangeInclusive<u8> {
+        self.table.controller_numbers()
+    }
+}
+
+impl Debug for Machine {
+    fn fmt(&self, f: &mut Formatter<'_>) -> core::fmt::Result {
+        f.debug_struct("Machine").field("table", &self.table).finish_non_exhaustive()
+    }
+}
