@@ -104,7 +104,8 @@ impl Shape {
 /// What a column has at one lane: a shape, and lines of text above and below it.
 #[derive(Debug)]
 pub struct Mark {
-    pub lane: usize,
+    /// The controller whose lane it is.
+    pub lane: u8,
     pub shape: Shape,
     pub above: Vec<Line>,
     pub below: Vec<Line>,
@@ -113,8 +114,13 @@ pub struct Mark {
 }
 
 impl Mark {
-    pub fn new(lane: usize, shape: Shape) -> Mark {
+    pub fn new(lane: u8, shape: Shape) -> Mark {
         Mark { lane, shape, above: vec![], below: vec![], lift: 0 }
+    }
+
+    /// Where its lane stands among all.
+    pub fn lane_index(&self) -> usize {
+        usize::from(self.lane) - 1
     }
 
     pub fn width(&self) -> i32 {
@@ -139,14 +145,15 @@ impl Mark {
 /// A handover, to the lane of its column's mark.
 #[derive(Debug)]
 pub struct Arrow {
-    pub owner: usize,
+    pub owner: u8,
     pub class: &'static str,
     pub name: Line,
 }
 
 impl Arrow {
     pub fn draw(&self, canvas: &mut Canvas, mark: &Mark, x: i32, lanes: &[i32]) {
-        let (from, to, reach) = (lanes[self.owner - 1], lanes[mark.lane - 1], mark.shape.reach());
+        let (reader, reach) = (mark.lane_index(), mark.shape.reach());
+        let (from, to) = (lanes[usize::from(self.owner) - 1], lanes[reader]);
         if self.owner == mark.lane {
             let (left, top) = (x - mark.shape.width() / 2 - LOOP_SIDE, to - reach - LOOP);
             let right = if reach > 1 { x } else { x + LOOP_SIDE };
@@ -155,8 +162,8 @@ impl Arrow {
             return canvas.text((left + right) / 2, top - 4, &self.name);
         }
         let down = (to - from).signum();
-        let (end, neighbour) = (to - down * reach, if down > 0 { mark.lane - 1 } else { mark.lane + 1 });
-        let middle = (lanes[neighbour - 1] + end) / 2 - down * 3;
+        let (end, neighbour) = (to - down * reach, if down > 0 { reader - 1 } else { reader + 1 });
+        let middle = (lanes[neighbour] + end) / 2 - down * 3;
         let (before, after) = (middle - down * NAME, middle + down * NAME);
         canvas.path(self.class, &format!("M{x} {from}V{before}M{x} {after}V{end}"));
         canvas.text(x, middle + 4, &self.name);
@@ -186,7 +193,7 @@ impl Column {
         marks.max(name).max(least) + COLUMN_GAP
     }
 
-    pub fn stops(&self, lane: usize) -> bool {
+    pub fn stops(&self, lane: u8) -> bool {
         self.marks.iter().any(|mark| mark.lane == lane && matches!(mark.shape, Shape::Octagon))
     }
 
@@ -199,7 +206,7 @@ impl Column {
             arrow.draw(canvas, mark, x, lanes);
         }
         for mark in &self.marks {
-            mark.draw(canvas, (x, lanes[mark.lane - 1]));
+            mark.draw(canvas, (x, lanes[mark.lane_index()]));
         }
         canvas.close();
     }

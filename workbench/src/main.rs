@@ -13,7 +13,7 @@ mod text;
 mod why;
 mod words;
 
-use furnacejade::{MessageNumber, Name};
+use furnacejade::Name;
 use play::Play;
 use source::{Form, Source};
 use spelling::did_you_mean;
@@ -240,17 +240,16 @@ fn events(number: usize) -> String {
 
 /// Why the panel that a word names has applied the message that another names, or has not.
 fn question(play: &Play, message: &str, panel: &str) -> Result<String, Failed> {
-    let number = |word: &str| word.parse().ok();
-    let name = message.split_once('.').and_then(|(sender, k)| Some((number(sender)?, number(k)?)));
-    let Some((sender, number)) = name else { return Err(format!("`{message}` names no message, as 3.1 does\n")) };
-    let name = Name { sender, number: MessageNumber(number) };
+    let name: Name = message.parse().map_err(|wrong| format!("`{message}` names no message: {wrong}\n"))?;
     if play.slot(name).is_none() {
-        let sent: Vec<Name> = play.table.messages[..play.table.count].iter().map(play::name_of).collect();
+        let sent = play::sent(&play.table);
         let sent = if sent.is_empty() { "nothing".into() } else { words::list(&sent) };
         return Err(format!("{name} was not sent in {}; sent: {sent}\n", events(play.steps.len())));
     }
     match panel.parse() {
-        Ok(panel) if (1..=play.table.n).contains(&panel) => Ok(why::Question { play, name, panel }.answer()),
+        Ok(panel) if play.table.controller_numbers().contains(&panel) => {
+            Ok(why::Question { play, name, panel }.answer())
+        }
         _ => Err(format!("there is no panel {panel}: {}\n", words::panels(play.table.n))),
     }
 }

@@ -1,11 +1,11 @@
 //! A run file played event by event. What an event did is read from its answer and from the table before and after it.
 
 use crate::text::Expectation;
-use furnacejade::{event, fresh, look, run};
-use furnacejade::{Answer, Controller, ForwardNumber, Message, Name, Pending, Record, Refusal, Sums, Table, SCRATCH};
-
-/// More than any file's lines need.
-const LISTING: usize = 16_384;
+use furnacejade::{event, fresh, look, records, run};
+use furnacejade::{
+    Answer, Controller, ForwardNumber, Message, Name, Part, Pending, Record, Refusal, State, Sums, Table, LISTING,
+    SCRATCH,
+};
 
 /// What an event did, but for the set that it applied.
 #[derive(Debug)]
@@ -15,14 +15,14 @@ pub enum Effect {
     /// The receiver read a message in a log, at this entry of it. The marks are those that it then has for the message, before
     /// it applies anything; none if it has applied it already.
     Read { owner: u8, entry: usize, name: Name, heard: Heard, marks: Vec<Mark> },
-    /// A log was cut; these were the entries behind what is kept.
+    /// A log was cut: how many entries are kept, and which ones came after these.
     Stopped { kept: usize, lost: Vec<Name> },
     /// A controller read its own sums.
     LocalRead(Sums),
 }
 
 /// Who gave a mark, and the mark: the entry of that controller's log.
-pub type Mark = (usize, u8);
+pub type Mark = (u8, u8);
 
 /// What the message of a handover was to its receiver.
 #[derive(Debug)]
@@ -52,7 +52,7 @@ pub struct Step {
     pub number: usize,
     pub record: Record,
     /// The controller that acted.
-    pub controller: usize,
+    pub controller: u8,
     pub effect: Effect,
     pub applied: Option<Applied>,
 }
@@ -60,7 +60,7 @@ pub struct Step {
 /// A file or a record that was refused: where it begins, and what is there of it.
 #[derive(Debug)]
 pub struct Refused<'a> {
-    pub number: Refusal,
+    pub refusal: Refusal,
     pub offset: usize,
     pub bytes: &'a [u8],
 }
@@ -106,37 +106,46 @@ pub fn actor(record: Record) -> u8 {
     }
 }
 
-/// The bytes with which a record begins, to its end or to that of the file.
-pub fn first_record(bytes: &[u8]) -> &[u8] {
-    let length = bytes.first().map_or(0, |length| *length as usize + 1);
-    &bytes[..length.min(bytes.len())]
-}
-
 pub fn name_of(message: &Message) -> Name {
     Name { sender: message.sender, number: message.number }
 }
 
 /// The controller of a number, from 1.
-pub fn controller(table: &Table, number: usize) -> &Controller {
-    &table.controllers[number - 1]
+pub fn controller(table: &Table, number: u8) -> &Controller {
+    &table.controllers[usize::from(number) - 1]
 }
 
 /// The names in a log.
-pub fn log(table: &Table, owner: usize) -> Vec<Name> {
+pub fn log(table: &Table, owner: u8) -> Vec<Name> {
     let Controller { length, log, .. } = controller(table, owner);
-    log[..*length].iter().map(|slot| name_of(&table.messages[*slot as usize])).collect()
+    log[..*length].iter().map(|slot| name_of(&table.messages[usize::from(*slot)])).collect()
 }
 
-/// The names of what is pending at a controller, in the order sent.
-pub fn pending(table: &Table, c: usize) -> Vec<Name> {
-    let messages = table.messages[..table.count].iter().zip(&controller(table, c).pending);
-    messages.filter(|(_, pending)| pending.held != 0).map(|(message, _)| name_of(message)).collect()
+/// How many entries of a log a controller has read.
+pub fn read(table: &Table, reader: u8, owner: u8) -> usize {
+    controller(table, reader).read[usize::from(owner) - 1]
 }
 
-/// The marks that a controller keeps for a message; none if it is not pending there.
-pub fn marks(table: &Table, c: usize, slot: usize) -> Vec<Mark> {
+/// The names of all messages, in the order sent.
+pub fn sent(table: &Table) -> Vec<Name> {
+    table.messages[..table.count].iter().map(name_of).collect()
+}
+
+/// The names of what has a state at a controller, in the order sent.
+pub fn in_state(table: &Table, c: u8, state: State) -> Vec<Name> {
+    sent(table).into_iter().filter(|name| table.state(c, *name) == state).collect()
+}
+
+/// The names of what a controller holds, in the order sent: what is pending there, and at a stopped one what was cut off.
+pub fn held(table: &Table, c: u8) -> Vec<Name> {
+    let pending = controller(table, c).pending.iter();
+    sent(table).into_iter().zip(pending).filter(|(_, pending)| pending.held != 0).map(|(name, _)| name).collect()
+}
+
+/// The marks that a controller keeps for a message; none if it does not hold it.
+pub fn marks(table: &Table, c: u8, slot: usize) -> Vec<Mark> {
     let Pending { held, marks } = controller(table, c).pending[slot];
-    let marks = (1..=table.n).zip(marks).filter(|(_, mark)| held != 0 && *mark != ForwardNumber::ABSENT);
+    let marks = table.controller_numbers().zip(marks).filter(|(_, mark)| held != 0 && *mark != ForwardNumber::ABSENT);
     marks.map(|(f, mark)| (f, mark.0)).collect()
 }
 
@@ -152,28 +161,29 @@ fn marks_with(mut marks: Vec<Mark>, read: Mark, heard: &Heard) -> Vec<Mark> {
 fn effect_of(record: Record, before: &Table, after: &Table, answer: &Answer) -> Effect {
     match record {
         Record::Handover { receiver, owner } => {
-            let (known, then) = (controller(before, receiver as usize), controller(after, receiver as usize));
-            let place = known.read[owner as usize - 1];
-            let slot = controller(before, owner as usize).log[place] as usize;
+            let (known, then) = (controller(before, receiver), controller(after, receiver));
+            let place = read(before, receiver, owner);
+            let slot = usize::from(controller(before, owner).log[place]);
             let heard = match known.pending[slot] {
                 _ if then.length > known.length => Heard::Forwarded { entry: then.length },
                 Pending { held: 0, .. } => Heard::Passed,
-                Pending { marks, .. } if marks[owner as usize - 1] == ForwardNumber::ABSENT => Heard::Marked,
+                Pending { marks, .. } if marks[usize::from(owner) - 1] == ForwardNumber::ABSENT => Heard::Marked,
                 _ => Heard::Known,
             };
             let name = name_of(&before.messages[slot]);
-            let marks = marks_with(marks(before, receiver as usize, slot), (owner as usize, place as u8 + 1), &heard);
+            let marks = marks_with(marks(before, receiver, slot), (owner, place as u8 + 1), &heard);
             Effect::Read { owner, entry: place + 1, name, heard, marks }
         }
         Record::Stop { controller, kept } => {
-            Effect::Stopped { kept: kept as usize, lost: log(before, controller as usize).split_off(kept as usize) }
+            let kept = usize::from(kept);
+            Effect::Stopped { kept, lost: log(before, controller).split_off(kept) }
         }
         Record::LocalRead { .. } => Effect::LocalRead(answer.sums),
         _ => Effect::Sent(name_of(&after.messages[before.count])),
     }
 }
 
-fn applied_by(answer: &Answer, table: &Table, c: usize) -> Option<Applied> {
+fn applied_by(answer: &Answer, table: &Table, c: u8) -> Option<Applied> {
     let names = answer.applied().to_vec();
     if names.is_empty() {
         return None;
@@ -186,41 +196,40 @@ fn applied_by(answer: &Answer, table: &Table, c: usize) -> Option<Applied> {
 fn check(play: &mut Play, expectations: &mut &[Expectation], offset: usize) {
     while let Some((expectation, others)) = expectations.split_first().filter(|(first, _)| first.offset <= offset) {
         let (expectation, events) = (*expectation, play.steps.len());
-        let shown = look(&play.table, expectation.panel as usize).ok().map(|panel| panel.sums);
+        let shown = look(&play.table, expectation.panel).ok().map(|panel| panel.sums);
         play.checked.push(Checked { expectation, events, shown });
         *expectations = others;
     }
 }
 
-/// Plays a file up to its end, its first refusal or so many events.
+/// Plays a file up to its end, its first refusal or a number of events.
 pub fn play<'a>(bytes: &'a [u8], mut expectations: &[Expectation], most: usize) -> Play<'a> {
     let (mut listing, mut scratch) = (vec![0; LISTING], [0; SCRATCH]);
     let mut play =
         Play { file: bytes, steps: vec![], refused: None, checked: vec![], unreached: 0, table: Table::BLANK };
-    let number = run(bytes, &mut listing, &mut scratch).number;
-    if [Refusal::FILE_LENGTH, Refusal::VERSION, Refusal::COUNT].contains(&number) {
-        let offset = usize::from(number == Refusal::COUNT);
-        play.refused = Some(Refused { number, offset, bytes: &bytes[..bytes.len().min(2)] });
+    // Of the questions that are put to a whole file the call for a fresh table asks only two.
+    let refusal = run(bytes, &mut listing, &mut scratch).refusal.refusal();
+    if let Some(refusal @ (Refusal::FileLength | Refusal::Version | Refusal::ControllerCount)) = refusal {
+        let offset = usize::from(refusal == Refusal::ControllerCount);
+        play.refused = Some(Refused { refusal, offset, bytes: &bytes[..bytes.len().min(2)] });
         play.unreached = expectations.len();
         return play;
     }
-    play.table = fresh(bytes[0] as usize, bytes[1] as usize).expect("the file's version and count were accepted");
-    let mut rest = &bytes[2..];
+    play.table = fresh(bytes[0], bytes[1]).expect("the file's version and number of controllers were accepted");
     check(&mut play, &mut expectations, 2);
-    while !rest.is_empty() && play.steps.len() < most {
-        let (before, offset) = (play.table.clone(), bytes.len() - rest.len());
-        match event(&mut play.table, rest, &mut scratch) {
-            Ok((answer, left)) => {
-                let record = Record::from_bytes(first_record(rest)).expect("an accepted record has the form of one");
-                let (number, c) = (play.steps.len() + 1, actor(record) as usize);
+    for Part { offset, bytes, record } in records(bytes).take(most) {
+        let before = play.table.clone();
+        match event(&mut play.table, bytes, &mut scratch) {
+            Ok((answer, _)) => {
+                let record = record.expect("an accepted record has the form of one");
+                let (number, c) = (play.steps.len() + 1, actor(record));
                 let effect = effect_of(record, &before, &play.table, &answer);
                 let applied = applied_by(&answer, &play.table, c);
                 play.steps.push(Step { number, record, controller: c, effect, applied });
-                rest = left;
-                check(&mut play, &mut expectations, bytes.len() - rest.len());
+                check(&mut play, &mut expectations, offset + bytes.len());
             }
-            Err(number) => {
-                play.refused = Some(Refused { number, offset, bytes: first_record(rest) });
+            Err(refusal) => {
+                play.refused = Some(Refused { refusal, offset, bytes });
                 break;
             }
         }
@@ -232,7 +241,7 @@ pub fn play<'a>(bytes: &'a [u8], mut expectations: &[Expectation], most: usize) 
 impl Play<'_> {
     /// The slot of a message that was sent.
     pub fn slot(&self, name: Name) -> Option<usize> {
-        self.table.messages[..self.table.count].iter().position(|message| name_of(message) == name)
+        sent(&self.table).iter().position(|other| *other == name)
     }
 
     /// The event that sent a message.
@@ -241,14 +250,14 @@ impl Play<'_> {
     }
 
     /// The event in which a panel applied a message, with the set.
-    pub fn applied(&self, name: Name, panel: usize) -> Option<(&Step, &Applied)> {
+    pub fn applied(&self, name: Name, panel: u8) -> Option<(&Step, &Applied)> {
         let mine = self.steps.iter().filter(|step| step.controller == panel);
         let mut sets = mine.filter_map(|step| Some((step, step.applied.as_ref()?)));
         sets.find(|(_, applied)| applied.names.contains(&name))
     }
 
     /// The event that stopped a controller.
-    pub fn stopped(&self, c: usize) -> Option<&Step> {
+    pub fn stopped(&self, c: u8) -> Option<&Step> {
         self.steps.iter().find(|step| step.controller == c && matches!(step.effect, Effect::Stopped { .. }))
     }
 

@@ -1,13 +1,13 @@
-//! A run in words: each event with what it did, the sets, the refusal with the fact behind it, and the panels at the end.
+//! A run in words: each event with what it did, the sets, the refusal with its reason, and the panels at the end.
 
-use crate::play::{controller, marks, pending, Checked, Play, Refused};
+use crate::play::{controller, in_state, marks, read, Checked, Play, Refused};
 use crate::source::Source;
 use crate::text::record_text;
 use crate::words::{self, count, hexadecimal};
-use furnacejade::{look, Class, Panel, Record, Register, Stamp, Sums};
+use furnacejade::{look, Class, Name, Panel, Record, Register, Stamp, State};
 use std::fmt::Write;
 
-/// So many pending messages of a panel are named in the table of panels.
+/// A cell of the table of panels names at most this many messages.
 const NAMED: usize = 12;
 
 /// Whether the file was carried out whole, so that every expectation was reached, and each held.
@@ -38,7 +38,7 @@ pub fn report(source: &Source, play: &Play) -> String {
     text
 }
 
-/// A line or two for each event, and one for each expectation behind the events before it.
+/// A line or two for each event, and one for each expectation, after the events before it.
 fn events(text: &mut String, source: &Source, play: &Play) {
     let width = play.steps.iter().map(|step| record_text(step.record).len()).max().unwrap_or(0);
     let mut checked = play.checked.iter().peekable();
@@ -74,7 +74,7 @@ pub fn complaints(source: &Source, play: &Play) -> String {
     lines.extend(play.refused.as_ref().map(|refused| refusal_line(source, play, refused)));
     if let Some(first) = source.expectations().iter().rev().take(play.unreached).last() {
         let unreached =
-            count(play.unreached, "expectation was not reached", "expectations were not reached, this first");
+            count(play.unreached, "expectation was not reached", "expectations were not reached; this is the first");
         lines.push(format!("{}: {unreached}", source.place(first.place)));
     }
     lines.iter().map(|line| format!("{line}\n")).collect()
@@ -89,15 +89,15 @@ fn refusal_line(source: &Source, play: &Play, refused: &Refused) -> String {
         (offset, None) => format!("record {}, at offset {offset},", play.steps.len() + 1),
     };
     let place = place.map_or(source.name.clone(), |place| source.place(place));
-    let reason = words::fact(play, refused).map_or(String::new(), |fact| format!(" ({fact})"));
-    format!("{place}: {what} is {}{reason}", words::refused_by(refused.number))
+    let reason = words::reason(play, refused).map_or(String::new(), |reason| format!(" ({reason})"));
+    format!("{place}: {what} is {}{reason}", refused.refusal)
 }
 
-/// The number, the question, the record, its place and the fact behind it.
+/// What is refused, by which question and why, and its event, offset, bytes and place.
 pub fn refusal(source: &Source, play: &Play, refused: &Refused) -> String {
     let mut lines = vec![];
-    if let Some(fact) = words::fact(play, refused) {
-        lines.push(("because", fact));
+    if let Some(reason) = words::reason(play, refused) {
+        lines.push(("because", reason));
     }
     let in_file = refused.offset >= 2;
     let what = match in_file {
@@ -116,7 +116,7 @@ pub fn refusal(source: &Source, play: &Play, refused: &Refused) -> String {
     if let Some(place) = source.assembled.place(refused.offset) {
         lines.push(("text", source.place(place)));
     }
-    let head = format!("{what} is {}\n", words::refused_by(refused.number));
+    let head = format!("{what} is {}\n", refused.refusal);
     lines.iter().fold(head, |text, (what, line)| format!("{text}    {what:8} {line}\n"))
 }
 
@@ -143,35 +143,37 @@ type Row = (String, Vec<Vec<String>>);
 
 /// Every panel side by side.
 fn panels(play: &Play) -> String {
-    let table = &play.table;
-    let all: Vec<(usize, Panel)> = (1..=table.n).filter_map(|c| Some((c, look(table, c).ok()?))).collect();
-    let row = |what: &str, cell: &dyn Fn(usize, &Panel) -> String| -> Row {
-        (what.into(), all.iter().map(|(c, panel)| vec![cell(*c, panel)]).collect())
+    let (table, all) = (&play.table, play.table.controller_numbers());
+    let shown: Vec<(u8, Panel)> = all.clone().filter_map(|c| Some((c, look(table, c).ok()?))).collect();
+    let row = |what: &str, cell: &dyn Fn(u8, &Panel) -> String| -> Row {
+        (what.into(), shown.iter().map(|(c, panel)| vec![cell(*c, panel)]).collect())
     };
     let mut rows = vec![row("", &|c, _| format!("panel {c}"))];
-    if (1..=table.n).any(|c| play.stopped(c).is_some()) {
+    if all.clone().any(|c| !table.runs(c)) {
         rows.push(row("stopped", &|c, _| play.stopped(c).map_or("-".into(), |step| format!("event {}", step.number))));
     }
     rows.push(row("added", &|_, panel| panel.sums.added.to_string()));
     rows.push(row("withdrawn", &|_, panel| panel.sums.withdrawn.to_string()));
-    if table.version == 2 {
-        for class in Class::ALL {
-            let of = |panel: &Panel| panel.of(class).unwrap_or(Sums::BLANK);
-            rows.push(row(&format!("{class} added"), &|_, panel| of(panel).added.to_string()));
-            rows.push(row(&format!("{class} withdrawn"), &|_, panel| of(panel).withdrawn.to_string()));
-        }
+    for class in Class::ALL.into_iter().filter(|_| table.version == 2) {
+        rows.push(row(&format!("{class} added"), &|_, panel| panel.of(class).added.to_string()));
+        rows.push(row(&format!("{class} withdrawn"), &|_, panel| panel.of(class).withdrawn.to_string()));
     }
     for (r, register) in (1..).zip(0..furnacejade::REGISTERS) {
-        if all.iter().any(|(_, panel)| panel.registers[register].stamp > Stamp::BLANK) {
+        if shown.iter().any(|(_, panel)| panel.registers[register].stamp > Stamp::BLANK) {
             rows.push(row(&format!("register {r}"), &|_, panel| register_text(panel.registers[register])));
         }
     }
-    let waiting = |c: usize| -> Vec<String> { pending_cell(play, c) };
-    rows.push((format!("pending (marks; {} needed)", play.majority()), (1..=table.n).map(waiting).collect()));
-    for owner in 1..=table.n {
+    rows.push((
+        format!("pending (marks; {} needed)", play.majority()),
+        all.clone().map(|c| pending(play, c)).collect(),
+    ));
+    let cut_off: Vec<Vec<Name>> = all.clone().map(|c| in_state(table, c, State::CutOff)).collect();
+    if cut_off.iter().any(|names| !names.is_empty()) {
+        rows.push(("cut off".into(), cut_off.iter().map(|names| cell(names, Name::to_string)).collect()));
+    }
+    for owner in all {
         let length = controller(table, owner).length;
-        let read = |c: usize, _: &Panel| format!("{} of {length}", controller(table, c).read[owner - 1]);
-        rows.push(row(&format!("read of log {owner}"), &read));
+        rows.push(row(&format!("read of log {owner}"), &|c, _| format!("{} of {length}", read(table, c, owner))));
     }
     aligned(&rows)
 }
@@ -183,14 +185,15 @@ fn register_text(Register { value, stamp }: Register) -> String {
     }
 }
 
-/// What is pending at a controller, with the marks that it has.
-fn pending_cell(play: &Play, c: usize) -> Vec<String> {
-    let names = pending(&play.table, c);
-    let with_marks = |name: &furnacejade::Name| -> String {
-        let marks = play.slot(*name).map_or(0, |slot| marks(&play.table, c, slot).len());
-        format!("{name} ({marks})")
-    };
-    let mut lines: Vec<String> = names.iter().take(NAMED).map(with_marks).collect();
+/// What is pending at a controller, with how many marks it has there.
+fn pending(play: &Play, c: u8) -> Vec<String> {
+    let marks = |name: &Name| play.slot(*name).map_or(0, |slot| marks(&play.table, c, slot).len());
+    cell(&in_state(&play.table, c, State::Pending), |name| format!("{name} ({})", marks(name)))
+}
+
+/// A cell with a line for each message.
+fn cell(names: &[Name], line: impl Fn(&Name) -> String) -> Vec<String> {
+    let mut lines: Vec<String> = names.iter().take(NAMED).map(line).collect();
     if names.len() > NAMED {
         lines.push(format!("and {} more", names.len() - NAMED));
     }

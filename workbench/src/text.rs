@@ -3,7 +3,7 @@
 //! Every field may hold what its bytes can hold: whether the engine carries a record out is for the engine to say.
 
 use crate::spelling::did_you_mean;
-use furnacejade::{Class, Record, Sums};
+use furnacejade::{Class, ClassNumber, Record, Sums};
 use std::fmt::{Display, Formatter};
 
 /// The word that begins a line, and an example of the line.
@@ -232,11 +232,11 @@ impl<'a> Line<'a> {
         })
     }
 
-    fn class(&mut self) -> Result<Class, Mistake> {
+    fn class(&mut self) -> Result<ClassNumber, Mistake> {
         let word = self.word("the class")?;
-        match Class::ALL.into_iter().find(|class| class.to_string().eq_ignore_ascii_case(word.text)) {
-            Some(class) => Ok(class),
-            None => self.in_range(&word, "the class belongs: XL, L, M, S, or", 0, 255).map(Class),
+        match word.text.parse::<Class>() {
+            Ok(class) => Ok(class.into()),
+            Err(_) => self.in_range(&word, "the class belongs: XL, L, M, S, or", 0, 255).map(ClassNumber),
         }
     }
 

@@ -1,16 +1,17 @@
 //! Why a panel has applied a message, or has not.
 
-use crate::play::{controller, log, marks, pending, Play};
+use crate::play::{held, log, marks, read, Play};
 use crate::text::record_text;
 use crate::words::{self, count, entries, list, log_of, message, sums};
-use furnacejade::{count_before, Name};
+use furnacejade::{count_before, Name, State};
 use std::fmt::Write;
+use std::ops::RangeInclusive;
 
 /// A message that was sent, and a panel that is there, when the steps of a play have been carried out.
 pub struct Question<'a> {
     pub play: &'a Play<'a>,
     pub name: Name,
-    pub panel: usize,
+    pub panel: u8,
 }
 
 impl Question<'_> {
@@ -18,31 +19,21 @@ impl Question<'_> {
         let Question { play, name, panel } = self;
         let head = format!("{} at panel {panel}, after event {}", message(play, *name), play.steps.len());
         let sent = self.sent();
-        if let Some(applied) = self.applied() {
-            return format!("{head}: applied\n\n{sent}{applied}");
-        }
-        match (self.is_pending(), self.is_cut_off()) {
-            (true, _) => format!("{head}: pending\n\n{sent}{}{}{}", self.marks(), self.kept_out(), self.more()),
-            (false, true) => format!("{head}: cut off\n\n{sent}"),
-            (false, false) => format!("{head}: unknown\n\n{sent}{}{}", self.marks(), self.more()),
-        }
+        let (state, rest) = match play.table.state(*panel, *name) {
+            State::Applied => ("applied", self.applied()),
+            State::CutOff => ("cut off", String::new()),
+            State::Pending => ("pending", self.marks() + &self.kept_out() + &self.more()),
+            State::Unknown => ("unknown", self.marks() + &self.more()),
+        };
+        format!("{head}: {state}\n\n{sent}{rest}")
     }
 
-    fn n(&self) -> usize {
-        self.play.table.n
+    fn all(&self) -> RangeInclusive<u8> {
+        self.play.table.controller_numbers()
     }
 
-    fn has(&self, owner: usize, name: Name) -> bool {
+    fn has(&self, owner: u8, name: Name) -> bool {
         log(&self.play.table, owner).contains(&name)
-    }
-
-    fn is_pending(&self) -> bool {
-        pending(&self.play.table, self.panel).contains(&self.name)
-    }
-
-    /// Whether its entry in its sender's own log went with the sender's stop.
-    fn is_cut_off(&self) -> bool {
-        !self.has(self.name.sender as usize, self.name)
     }
 
     /// How many marks the panel's controller has for a message.
@@ -57,7 +48,7 @@ impl Question<'_> {
         if let Some(step) = play.sent(*name) {
             let _ = writeln!(text, "sent at event {} ({})", step.number, record_text(step.record));
         }
-        if let Some(step) = play.stopped(name.sender as usize).filter(|_| self.is_cut_off()) {
+        if let Some(step) = play.stopped(name.sender).filter(|_| !self.has(name.sender, *name)) {
             let event = format!("event {} ({})", step.number, record_text(step.record));
             let _ = writeln!(text, "cut off at {event}: nobody had read it in the log of {}", name.sender);
         }
@@ -68,15 +59,15 @@ impl Question<'_> {
     }
 
     /// When it was applied, with what, and what the panel then showed.
-    fn applied(&self) -> Option<String> {
-        let (step, applied) = self.play.applied(self.name, self.panel)?;
+    fn applied(&self) -> String {
+        let Some((step, applied)) = self.play.applied(self.name, self.panel) else { return String::new() };
         let others: Vec<Name> = applied.names.iter().copied().filter(|other| *other != self.name).collect();
         let set = match &others[..] {
             [] => "alone".into(),
             others => format!("as one set with {}", list(others)),
         };
         let event = format!("event {} ({})", step.number, record_text(step.record));
-        Some(format!("applied at {event}, {set}; the panel then showed {}\n", sums(applied.sums)))
+        format!("applied at {event}, {set}; the panel then showed {}\n", sums(applied.sums))
     }
 
     /// Which controllers have marked it, and how many are needed.
@@ -85,7 +76,7 @@ impl Question<'_> {
         let marks = play.slot(*name).map(|slot| marks(&play.table, *panel, slot)).unwrap_or_default();
         let mut text = format!("\nmarks at panel {panel}: {} ({} needed)\n", marks.len(), play.majority());
         let mut possible = 0;
-        for f in 1..=self.n() {
+        for f in self.all() {
             let mark = marks.iter().find(|(owner, _)| *owner == f);
             let entry = log(&play.table, f).iter().position(|other| other == name);
             let state = match (mark, entry, play.stopped(f)) {
@@ -105,22 +96,21 @@ impl Question<'_> {
     }
 
     /// Whether the panel may yet learn of a controller's mark: it runs, and the controller's log has the message, or may.
-    fn may_mark(&self, f: usize) -> bool {
-        let runs = |c: usize| self.play.stopped(c).is_none();
-        let anywhere = || (1..=self.n()).any(|owner| self.has(owner, self.name));
-        runs(self.panel) && (self.has(f, self.name) || runs(f) && anywhere())
+    fn may_mark(&self, f: u8) -> bool {
+        let table = &self.play.table;
+        let anywhere = || self.all().any(|owner| self.has(owner, self.name));
+        table.runs(self.panel) && (self.has(f, self.name) || table.runs(f) && anywhere())
     }
 
     /// Which handovers let a controller hear of the message.
-    fn to_hear(&self, f: usize) -> String {
+    fn to_hear(&self, f: u8) -> String {
         self.shortest(f, self.name).map_or(String::new(), |hand| format!("; {hand} would put it there"))
     }
 
     /// The fewest handovers with which a controller reads a message.
-    fn shortest(&self, reader: usize, name: Name) -> Option<String> {
-        let unread =
-            |owner: usize| words::unread(self.play, owner, reader).iter().position(|(_, other)| *other == name);
-        let ways = (1..=self.n()).filter_map(|owner| Some((owner, unread(owner)? + 1)));
+    fn shortest(&self, reader: u8, name: Name) -> Option<String> {
+        let unread = |owner: u8| words::unread(self.play, owner, reader).iter().position(|(_, other)| *other == name);
+        let ways = self.all().filter_map(|owner| Some((owner, unread(owner)? + 1)));
         ways.min_by_key(|(_, times)| *times).map(|(owner, times)| hand(reader, owner, times))
     }
 
@@ -128,7 +118,7 @@ impl Question<'_> {
     fn not_behind(&self, name: Name) -> Vec<(Name, usize, usize)> {
         let Question { play, panel, .. } = self;
         let before = |first: Name, second: Name| count_before(&play.table, *panel, first, second).unwrap_or(0);
-        let others = pending(&play.table, *panel).into_iter().filter(|other| *other != name);
+        let others = held(&play.table, *panel).into_iter().filter(|other| *other != name);
         let counts = others.map(|other| (other, before(name, other), before(other, name)));
         counts.filter(|(_, first, _)| *first < play.majority()).collect()
     }
@@ -137,9 +127,9 @@ impl Question<'_> {
     fn kept_out(&self) -> String {
         let Question { play, name, panel } = self;
         let needed = play.majority();
-        if pending(&play.table, *panel).iter().all(|other| self.marks_of(*other) >= needed) {
-            let next = (1..=self.n()).find(|owner| !words::unread(play, *owner, *panel).is_empty());
-            let next = next.filter(|_| play.stopped(*panel).is_none());
+        if held(&play.table, *panel).iter().all(|other| self.marks_of(*other) >= needed) {
+            let next = self.all().find(|owner| !words::unread(play, *owner, *panel).is_empty());
+            let next = next.filter(|_| play.table.runs(*panel));
             let next = next.map_or(String::new(), |owner| format!(": {} applies it", hand(*panel, owner, 1)));
             return format!("\nall that is pending here has its marks, and sets are applied at handovers{next}\n");
         }
@@ -163,7 +153,8 @@ impl Question<'_> {
     fn concerned(&self) -> Vec<Name> {
         let mut names = vec![self.name];
         let mut next = 0;
-        while let Some(name) = names.get(next).copied().filter(|_| self.is_pending()) {
+        let pending = self.play.table.state(self.panel, self.name) == State::Pending;
+        while let Some(name) = names.get(next).copied().filter(|_| pending) {
             let others = self.not_behind(name).into_iter().map(|(other, _, _)| other);
             let new: Vec<Name> = others.filter(|other| !names.contains(other)).collect();
             names.extend(new);
@@ -175,16 +166,16 @@ impl Question<'_> {
     /// What is unread here of this message and of those that concern it, and which of them are in too few logs.
     fn more(&self) -> String {
         let Question { play, panel, .. } = self;
-        if play.stopped(*panel).is_some() {
+        if !play.table.runs(*panel) {
             return String::new();
         }
         let concerned = self.concerned();
         let mut lines = vec![];
-        for owner in 1..=self.n() {
+        for owner in self.all() {
             let unread = (1..).zip(words::unread(play, owner, *panel));
             for (times, (entry, other)) in unread.filter(|(_, (_, other))| concerned.contains(other)) {
                 if !self.is_marked(other, owner) {
-                    let read = entries(controller(&play.table, *panel).read[owner - 1]);
+                    let read = entries(read(&play.table, *panel, owner));
                     let place = format!("entry {entry} of {} ({read} read)", log_of(owner, *panel));
                     lines.push(format!("{}: {}, {place}", hand(*panel, owner, times), message(play, other)));
                 }
@@ -198,24 +189,23 @@ impl Question<'_> {
     }
 
     /// Whether the panel's controller has a controller's mark for a message.
-    fn is_marked(&self, name: Name, owner: usize) -> bool {
+    fn is_marked(&self, name: Name, owner: u8) -> bool {
         let slot = self.play.slot(name);
         slot.is_some_and(|slot| marks(&self.play.table, self.panel, slot).iter().any(|(f, _)| *f == owner))
     }
 
     /// Handovers that put a message in more logs, if fewer have it than marks are needed.
     fn too_few_logs(&self, name: Name) -> Vec<String> {
-        let having = (1..=self.n()).filter(|owner| self.has(*owner, name)).count();
+        let having = self.all().filter(|owner| self.has(*owner, name)).count();
         let needed = self.play.majority();
-        let others =
-            (1..=self.n()).filter(|f| having < needed && !self.has(*f, name) && self.play.stopped(*f).is_none());
+        let others = self.all().filter(|f| having < needed && !self.has(*f, name) && self.play.table.runs(*f));
         let logs = count(having, "log has", "logs have");
-        let what = |f: usize| format!("puts {} in log {f}; {logs} it, {needed} needed", message(self.play, name));
+        let what = |f: u8| format!("puts {} in log {f}; {logs} it, {needed} needed", message(self.play, name));
         others.filter_map(|f| Some(format!("{}: {}", self.shortest(f, name)?, what(f)))).collect()
     }
 }
 
 /// Handovers to one reader from one log, as a text has them: "hand 3 <- 1 1".
-fn hand(reader: usize, owner: usize, times: usize) -> String {
+fn hand(reader: u8, owner: u8, times: usize) -> String {
     format!("`hand {reader} <-{}`", format!(" {owner}").repeat(times))
 }
