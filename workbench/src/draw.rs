@@ -346,8 +346,9 @@ impl<'a> Picture<'a> {
         if let Some(refused) = &self.play.refused {
             self.notes.splice(0..0, refusal(self.play, refused));
         }
-        if self.play.unreached > 0 {
-            let text = format!("{} not reached", count(self.play.unreached, "expectation was", "expectations were"));
+        let unreached = self.play.unreached.len();
+        if unreached > 0 {
+            let text = format!("{} not reached", count(unreached, "expectation was", "expectations were"));
             self.notes.push(Line::new(LEFT, text));
         }
         let (mut canvas, heading) = (Canvas::default(), self.heading(title));
@@ -372,7 +373,7 @@ impl<'a> Picture<'a> {
             let facts = format!("version {version}, {controllers}, majority {m}, {events}");
             let rule = format!(
                 "A panel applies a set once its controller has each message in it from {m} of {n} logs, \
-                 and {m} of {n} have it before whatever stays behind."
+                 and {m} of {n} put it before all that stays pending."
             );
             lines.extend([Line::new(LEFT, facts), Line::new(LEFT_SMALL, rule)]);
         }

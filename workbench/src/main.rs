@@ -13,7 +13,7 @@ mod text;
 mod why;
 mod words;
 
-use furnacejade::Name;
+use furnacejade::{interface, Name, INTERFACE};
 use play::Play;
 use source::{Form, Source};
 use spelling::did_you_mean;
@@ -182,7 +182,9 @@ fn played(asked: &Asked) -> Result<Source, Failed> {
 fn assemble(asked: &Asked) -> Result<bool, Failed> {
     let advice = "`workbench disassemble` gives its text, and `workbench run` plays it";
     let source = Source::load(&asked.words[0], Form::Text, advice)?;
-    put(asked.output.as_deref(), source.bytes()).map(|()| true)
+    put(asked.output.as_deref(), source.bytes())?;
+    complain(&source.notes());
+    Ok(true)
 }
 
 fn disassemble(asked: &Asked) -> Result<bool, Failed> {
@@ -265,15 +267,32 @@ fn words_given() -> Result<Vec<String>, Failed> {
     std::env::args_os().skip(1).map(word).collect()
 }
 
+/// The name, the version of this package, and the interface that the library was built with.
+fn version() -> String {
+    format!("{} {}, interface {}\n", env!("CARGO_PKG_NAME"), env!("CARGO_PKG_VERSION"), interface())
+}
+
+/// Whether the library is of the state that the package was written for: of another no call may be made.
+fn check_library() -> Result<(), Failed> {
+    match interface() {
+        INTERFACE => Ok(()),
+        other => Err(format!(
+            "workbench: the library was built with interface {other}, and this program needs {INTERFACE}; \
+             run `rt staticlib engine`, and build the workbench again\n"
+        )),
+    }
+}
+
 fn carry_out(line: &[String]) -> Result<bool, Failed> {
-    let help = |text: &str| put(None, text.as_bytes()).map(|()| true);
+    let print = |text: &str| put(None, text.as_bytes()).map(|()| true);
     let first = line.first().map_or("--help", String::as_str);
     match COMMANDS.iter().find(|command| command.name == first) {
         Some(command) => match command.parse(&line[1..])? {
-            Some(asked) => (command.carry_out)(&asked),
-            None => help(command.help),
+            Some(asked) => check_library().and_then(|()| (command.carry_out)(&asked)),
+            None => print(command.help),
         },
-        None if ["--help", "-h", "help"].contains(&first) => help(HELP),
+        None if ["--help", "-h", "help"].contains(&first) => print(HELP),
+        None if ["--version", "-V"].contains(&first) => print(&version()),
         None => {
             let hint = did_you_mean(first, COMMANDS.iter().map(|command| command.name).chain(["--help", "--version"]));
             let hint = hint.map_or(String::new(), |hint| format!("{hint} "));

@@ -88,8 +88,8 @@ pub struct Play<'a> {
     pub steps: Vec<Step>,
     pub refused: Option<Refused<'a>>,
     pub checked: Vec<Checked>,
-    /// How many expectations were not reached.
-    pub unreached: usize,
+    /// The expectations that were not reached.
+    pub unreached: &'a [Expectation],
     /// The table that the last accepted event left; the blank one if the file itself was refused.
     pub table: Table,
 }
@@ -143,7 +143,7 @@ pub fn held(table: &Table, c: u8) -> Vec<Name> {
 }
 
 /// The marks that a controller keeps for a message; none if it does not hold it.
-pub fn marks(table: &Table, c: u8, slot: usize) -> Vec<Mark> {
+fn marks(table: &Table, c: u8, slot: usize) -> Vec<Mark> {
     let Pending { held, marks } = controller(table, c).pending[slot];
     let marks = table.controller_numbers().zip(marks).filter(|(_, mark)| held != 0 && *mark != ForwardNumber::ABSENT);
     marks.map(|(f, mark)| (f, mark.0)).collect()
@@ -192,31 +192,20 @@ fn applied_by(answer: &Answer, table: &Table, c: u8) -> Option<Applied> {
     Some(Applied { names, sums, finished: answer.sync_answer() })
 }
 
-/// The expectations that stand before an offset and were not checked yet.
-fn check(play: &mut Play, expectations: &mut &[Expectation], offset: usize) {
-    while let Some((expectation, others)) = expectations.split_first().filter(|(first, _)| first.offset <= offset) {
-        let (expectation, events) = (*expectation, play.steps.len());
-        let shown = look(&play.table, expectation.panel).ok().map(|panel| panel.sums);
-        play.checked.push(Checked { expectation, events, shown });
-        *expectations = others;
-    }
-}
-
 /// Plays a file up to its end, its first refusal or a number of events.
-pub fn play<'a>(bytes: &'a [u8], mut expectations: &[Expectation], most: usize) -> Play<'a> {
+pub fn play<'a>(bytes: &'a [u8], expectations: &'a [Expectation], most: usize) -> Play<'a> {
     let (mut listing, mut scratch) = (vec![0; LISTING], [0; SCRATCH]);
-    let mut play =
-        Play { file: bytes, steps: vec![], refused: None, checked: vec![], unreached: 0, table: Table::BLANK };
+    let (unreached, table) = (expectations, Table::BLANK);
+    let mut play = Play { file: bytes, steps: vec![], refused: None, checked: vec![], unreached, table };
     // Of the questions that are put to a whole file the call for a fresh table asks only two.
     let refusal = run(bytes, &mut listing, &mut scratch).refusal.refusal();
     if let Some(refusal @ (Refusal::FileLength | Refusal::Version | Refusal::ControllerCount)) = refusal {
         let offset = usize::from(refusal == Refusal::ControllerCount);
         play.refused = Some(Refused { refusal, offset, bytes: &bytes[..bytes.len().min(2)] });
-        play.unreached = expectations.len();
         return play;
     }
     play.table = fresh(bytes[0], bytes[1]).expect("the file's version and number of controllers were accepted");
-    check(&mut play, &mut expectations, 2);
+    play.check(2);
     for Part { offset, bytes, record } in records(bytes).take(most) {
         let before = play.table.clone();
         match event(&mut play.table, bytes, &mut scratch) {
@@ -226,7 +215,7 @@ pub fn play<'a>(bytes: &'a [u8], mut expectations: &[Expectation], most: usize) 
                 let effect = effect_of(record, &before, &play.table, &answer);
                 let applied = applied_by(&answer, &play.table, c);
                 play.steps.push(Step { number, record, controller: c, effect, applied });
-                check(&mut play, &mut expectations, offset + bytes.len());
+                play.check(offset + bytes.len());
             }
             Err(refusal) => {
                 play.refused = Some(Refused { refusal, offset, bytes });
@@ -234,14 +223,28 @@ pub fn play<'a>(bytes: &'a [u8], mut expectations: &[Expectation], most: usize) 
             }
         }
     }
-    play.unreached = expectations.len();
     play
 }
 
 impl Play<'_> {
+    /// Checks the expectations that stand before an offset and were not reached yet.
+    fn check(&mut self, offset: usize) {
+        while let Some((expectation, others)) = self.unreached.split_first().filter(|(next, _)| next.offset <= offset) {
+            let (expectation, events) = (*expectation, self.steps.len());
+            let shown = look(&self.table, expectation.panel).ok().map(|panel| panel.sums);
+            self.checked.push(Checked { expectation, events, shown });
+            self.unreached = others;
+        }
+    }
+
     /// The slot of a message that was sent.
     pub fn slot(&self, name: Name) -> Option<usize> {
         sent(&self.table).iter().position(|other| *other == name)
+    }
+
+    /// The marks that a controller keeps for a message; none if it does not hold it.
+    pub fn marks(&self, c: u8, name: Name) -> Vec<Mark> {
+        self.slot(name).map(|slot| marks(&self.table, c, slot)).unwrap_or_default()
     }
 
     /// The event that sent a message.

@@ -1,8 +1,8 @@
 //! A run in words: each event with what it did, the sets, the refusal with its reason, and the panels at the end.
 
-use crate::play::{controller, in_state, marks, read, Checked, Play, Refused};
+use crate::play::{controller, in_state, read, Checked, Play, Refused};
 use crate::source::Source;
-use crate::text::record_text;
+use crate::text::{record_text, Expectation};
 use crate::words::{self, count, hexadecimal};
 use furnacejade::{look, Class, Name, Panel, Record, Register, Stamp, State};
 use std::fmt::Write;
@@ -58,13 +58,13 @@ fn events(text: &mut String, source: &Source, play: &Play) {
 
 /// What came of an expectation.
 fn expectation(source: &Source, play: &Play, checked: &Checked) -> String {
-    let (expected, panel) = (checked.expectation, checked.expectation.panel);
+    let Expectation { place, panel, sums, .. } = checked.expectation;
     let shown = match checked.shown {
-        Some(shown) if shown == expected.sums => return format!("expect {panel} {}: so it is", expected.sums),
-        Some(shown) => format!("panel {panel} shows {shown}"),
+        Some(shown) if shown == sums => return format!("expect {panel} {sums}: so it is"),
+        Some(shown) => format!("panel {panel} shows {}; expected: {}", words::sums(shown), words::sums(sums)),
         None => format!("there is no panel {panel}: {}", words::panels(play.table.n)),
     };
-    format!("{}: FAILED: expected {panel} {}, and {shown}", source.place(expected.place), expected.sums)
+    format!("{}: FAILED: {shown}", source.place(place))
 }
 
 /// What failed, a line for each with its place: expectations, the refusal, and expectations that were not reached.
@@ -72,9 +72,12 @@ pub fn complaints(source: &Source, play: &Play) -> String {
     let failed = play.checked.iter().filter(|checked| !checked.holds());
     let mut lines: Vec<String> = failed.map(|checked| expectation(source, play, checked)).collect();
     lines.extend(play.refused.as_ref().map(|refused| refusal_line(source, play, refused)));
-    if let Some(first) = source.expectations().iter().rev().take(play.unreached).last() {
-        let unreached =
-            count(play.unreached, "expectation was not reached", "expectations were not reached; this is the first");
+    if let Some(first) = play.unreached.first() {
+        let unreached = count(
+            play.unreached.len(),
+            "expectation was not reached",
+            "expectations were not reached; this is the first",
+        );
         lines.push(format!("{}: {unreached}", source.place(first.place)));
     }
     lines.iter().map(|line| format!("{line}\n")).collect()
@@ -131,8 +134,8 @@ fn outcome(source: &Source, play: &Play) -> String {
         if failed > 0 {
             let _ = write!(text, ", {failed} failed");
         }
-        if play.unreached > 0 {
-            let _ = write!(text, ", {} not reached", play.unreached);
+        if !play.unreached.is_empty() {
+            let _ = write!(text, ", {} not reached", play.unreached.len());
         }
     }
     text
@@ -187,8 +190,7 @@ fn register_text(Register { value, stamp }: Register) -> String {
 
 /// What is pending at a controller, with how many marks it has there.
 fn pending(play: &Play, c: u8) -> Vec<String> {
-    let marks = |name: &Name| play.slot(*name).map_or(0, |slot| marks(&play.table, c, slot).len());
-    cell(&in_state(&play.table, c, State::Pending), |name| format!("{name} ({})", marks(name)))
+    cell(&in_state(&play.table, c, State::Pending), |name| format!("{name} ({})", play.marks(c, *name).len()))
 }
 
 /// A cell with a line for each message.

@@ -1,6 +1,7 @@
 //! What a command is given: a run file, or a text that is assembled to one.
 
 use crate::text::{assemble, Assembled, Expectation, Mistake, Place};
+use furnacejade::{records, Machine, Record, Refusal};
 use std::io::Read;
 
 /// No text has a byte below this one. Every record of a run file begins with two of them: its length and its kind.
@@ -98,6 +99,26 @@ impl Source {
                 Err(format!("{name}: this looks like a run file: {why}; {advice}\n"))
             }
         }
+    }
+
+    /// The reports of a text whose amounts the engine refuses, a line for each. The engine itself is asked: it puts the
+    /// question for the amount before all that depend on what was sent, so that one machine serves for every report.
+    pub fn notes(&self) -> String {
+        let mut machine = Machine::new(1, 1).expect("a machine of one controller");
+        let mut notes = String::new();
+        for part in records(self.bytes()) {
+            let (Some(Record::Report { amount, .. } | Record::ClassedReport { amount, .. }), Some(place)) =
+                (part.record, self.assembled.place(part.offset))
+            else {
+                continue;
+            };
+            if let Err(refusal @ Refusal::Amount) = machine.play(Record::Report { sender: 1, amount }) {
+                let question = format!("question {}: {}", refusal.number(), refusal.question());
+                let place = self.place(place);
+                notes += &format!("{place}: note: the engine refuses an amount of {amount} by {question}\n");
+            }
+        }
+        notes
     }
 
     /// A place in the text.

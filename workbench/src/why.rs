@@ -1,6 +1,6 @@
 //! Why a panel has applied a message, or has not.
 
-use crate::play::{held, log, marks, read, Play};
+use crate::play::{held, log, read, Play};
 use crate::text::record_text;
 use crate::words::{self, count, entries, list, log_of, message, sums};
 use furnacejade::{count_before, Name, State};
@@ -38,7 +38,7 @@ impl Question<'_> {
 
     /// How many marks the panel's controller has for a message.
     fn marks_of(&self, name: Name) -> usize {
-        self.play.slot(name).map_or(0, |slot| marks(&self.play.table, self.panel, slot).len())
+        self.play.marks(self.panel, name).len()
     }
 
     /// When it was sent, whether it was cut off, and whether the panel still applies anything.
@@ -73,15 +73,14 @@ impl Question<'_> {
     /// Which controllers have marked it, and how many are needed.
     fn marks(&self) -> String {
         let Question { play, name, panel } = self;
-        let marks = play.slot(*name).map(|slot| marks(&play.table, *panel, slot)).unwrap_or_default();
+        let marks = play.marks(*panel, *name);
         let mut text = format!("\nmarks at panel {panel}: {} ({} needed)\n", marks.len(), play.majority());
         let mut possible = 0;
         for f in self.all() {
             let mark = marks.iter().find(|(owner, _)| *owner == f);
             let entry = log(&play.table, f).iter().position(|other| other == name);
             let state = match (mark, entry, play.stopped(f)) {
-                (Some((_, mark)), Some(_), _) => format!("marked, entry {mark} of its log"),
-                (Some((_, mark)), None, _) => format!("marked, entry {mark} of its log before that was cut"),
+                (Some((_, mark)), _, _) => format!("marked, entry {mark} of its log"),
                 (None, Some(place), _) => format!("in its log as entry {}, which {panel} has not read", place + 1),
                 (None, None, Some(step)) => format!("not in its log, and stopped at event {}", step.number),
                 (None, None, None) => format!("not in its log{}", self.to_hear(f)),
@@ -128,7 +127,7 @@ impl Question<'_> {
         let Question { play, name, panel } = self;
         let needed = play.majority();
         if held(&play.table, *panel).iter().all(|other| self.marks_of(*other) >= needed) {
-            let next = self.all().find(|owner| !words::unread(play, *owner, *panel).is_empty());
+            let next = self.all().find(|owner| play.table.unread(*panel, *owner) > 0);
             let next = next.filter(|_| play.table.runs(*panel));
             let next = next.map_or(String::new(), |owner| format!(": {} applies it", hand(*panel, owner, 1)));
             return format!("\nall that is pending here has its marks, and sets are applied at handovers{next}\n");
@@ -144,7 +143,11 @@ impl Question<'_> {
             let [put, back] = [first, second].map(|number| if number == 1 { "puts" } else { "put" });
             let counts = format!("{first} {put} {name} before it, {needed} needed; {second} {back} it before {name}");
             let marks = count(self.marks_of(other), "mark", "marks");
-            let _ = writeln!(text, "    {}: {counts}; it has {marks}", message(play, other));
+            let mut what = message(play, other);
+            if play.table.state(*panel, other) == State::CutOff {
+                what.insert_str(what.len() - 1, ", cut off");
+            }
+            let _ = writeln!(text, "    {what}: {counts}; it has {marks}");
         }
         text
     }
@@ -174,7 +177,7 @@ impl Question<'_> {
         for owner in self.all() {
             let unread = (1..).zip(words::unread(play, owner, *panel));
             for (times, (entry, other)) in unread.filter(|(_, (_, other))| concerned.contains(other)) {
-                if !self.is_marked(other, owner) {
+                if play.marks(*panel, other).iter().all(|(f, _)| *f != owner) {
                     let read = entries(read(&play.table, *panel, owner));
                     let place = format!("entry {entry} of {} ({read} read)", log_of(owner, *panel));
                     lines.push(format!("{}: {}, {place}", hand(*panel, owner, times), message(play, other)));
@@ -186,12 +189,6 @@ impl Question<'_> {
         }
         let head = if lines.is_empty() { " nothing" } else { "" };
         lines.iter().fold(format!("\nwhat would bring more:{head}\n"), |text, line| format!("{text}    {line}\n"))
-    }
-
-    /// Whether the panel's controller has a controller's mark for a message.
-    fn is_marked(&self, name: Name, owner: u8) -> bool {
-        let slot = self.play.slot(name);
-        slot.is_some_and(|slot| marks(&self.play.table, self.panel, slot).iter().any(|(f, _)| *f == owner))
     }
 
     /// Handovers that put a message in more logs, if fewer have it than marks are needed.

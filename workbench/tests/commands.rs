@@ -250,8 +250,8 @@ fn a_text_where_bytes_belong_names_what_takes_it() {
         let assembled = workbench(&["assemble", "-"], shown.as_bytes());
         assert_eq!((assembled.stdout, assembled.status.code()), (bytes.to_vec(), Some(0)), "{shown}");
     }
-    let fact = "byte 0, the version, is 118; this looks like a text: use --text in place of --bytes";
-    assert_refused(&["run", "--bytes", "-"], b"version 1\ncontrollers 3\n", 2, fact);
+    let reason = "byte 0, the version, is 118; this looks like a text: use --text in place of --bytes";
+    assert_refused(&["run", "--bytes", "-"], b"version 1\ncontrollers 3\n", 2, reason);
 }
 
 #[test]
@@ -259,9 +259,9 @@ fn an_expectation_that_fails_is_named_and_fails_the_run() {
     let lines = "version 1\ncontrollers 1\nreport 1 +5\n  expect 1 5 0\nhand 1 <- 1\nexpect 1 5 0\nexpect 2 0 0\n";
     let report = printed(&["run", "-"], lines.as_bytes(), 1);
     for wanted in [
-        "standard input:4:3: FAILED: expected 1 5 0, and panel 1 shows 0 0\n",
+        "standard input:4:3: FAILED: panel 1 shows 0 added, 0 withdrawn; expected: 5 added, 0 withdrawn\n",
         "expect 1 5 0: so it is\n",
-        "standard input:7:1: FAILED: expected 2 0 0, and there is no panel 2: the only panel is 1\n",
+        "standard input:7:1: FAILED: there is no panel 2: the only panel is 1\n",
         "2 events accepted; of 3 expectations, 1 held, 2 failed\n",
     ] {
         assert!(report.contains(wanted), "{report}");
@@ -274,11 +274,11 @@ fn an_expectation_that_fails_is_named_and_fails_the_run() {
 fn what_fails_is_on_standard_error_with_its_place() {
     let lines =
         "version 1\ncontrollers 3\nreport 1 +5\nexpect 1 5 0\nexpect 9 0 0\n  read 1\nexpect 1 5 0\nexpect 1 5 0\n";
-    let failures = "standard input:4:1: FAILED: expected 1 5 0, and panel 1 shows 0 0\n\
-        standard input:5:1: FAILED: expected 9 0 0, and there is no panel 9: panels are 1 to 3\n\
+    let failures = "standard input:4:1: FAILED: panel 1 shows 0 added, 0 withdrawn; expected: 5 added, 0 withdrawn\n\
+        standard input:5:1: FAILED: there is no panel 9: panels are 1 to 3\n\
         standard input:6:3: record 2 is refused by question 18: has the controller of a local read no message of its own \
         pending? (1.1 of its own is pending at controller 1)\n";
-    let unreached = "standard input:7:1: 2 expectations were not reached, this first\n";
+    let unreached = "standard input:7:1: 2 expectations were not reached; this is the first\n";
     let complaints = |words: &[&str], input: &[u8]| {
         let output = workbench(words, input);
         assert_eq!((output.stdout.is_empty(), output.status.code()), (false, Some(1)), "{words:?}");
@@ -297,6 +297,57 @@ fn what_fails_is_on_standard_error_with_its_place() {
     assert_eq!(complaints(&["run", "-"], &[3, 3]), file);
 }
 
+#[test]
+fn an_amount_that_the_engine_refuses_is_noted_where_it_is_assembled() {
+    let lines =
+        "version 1\ncontrollers 3\nreport 1 +361\n  report 1 0\nreport 1 360\nreport 1 -360\nreport 9 -361 class 1\n\
+        bytes 04 01 01 7F FF\n";
+    let output = workbench(&["assemble", "-"], lines.as_bytes());
+    let note = |place: &str, amount: i16| {
+        let question = "by question 9: Is a report's amount from -360 to 360 and not 0?\n";
+        format!("standard input:{place}: note: the engine refuses an amount of {amount} {question}")
+    };
+    let notes = [note("3:1", 361), note("4:3", 0), note("7:1", -361), note("8:1", 32767)].concat();
+    assert_eq!((text(&output.stderr), output.status.code()), (notes, Some(0)));
+    let reports = [[4, 1, 1, 1, 0x69], [4, 1, 1, 0, 0], [4, 1, 1, 1, 0x68], [4, 1, 1, 0xFE, 0x98]].concat();
+    let others = [&[5, 1, 9, 0xFE, 0x97, 1][..], &[4, 1, 1, 0x7F, 0xFF]].concat();
+    assert_eq!(output.stdout, [vec![1, 3], reports, others].concat());
+    // A run says it where it comes to it.
+    assert_refused(&["run", "-"], lines.as_bytes(), 9, "the amount is 361");
+}
+
+#[test]
+fn what_was_cut_off_is_shown_so_at_its_sender_too() {
+    let sample = "samples/stop.txt";
+    for panel in ["1", "5"] {
+        let answer = printed(&["why", sample, "5.3", panel], b"", 0);
+        assert!(answer.starts_with(&format!("5.3 (+12 XL) at panel {panel}, after event 45: cut off\n")), "{answer}");
+        assert!(
+            answer.contains("\ncut off at event 10 (stop 5 keep 2): nobody had read it in the log of 5\n"),
+            "{answer}"
+        );
+        assert!(!answer.contains("marks at panel"), "{answer}");
+    }
+    // Before the stop it was pending, and where others are asked about it is named as what it is.
+    assert!(printed(&["why", sample, "5.3", "5", "--after", "9"], b"", 0).contains("after event 9: pending\n"));
+    assert!(printed(&["why", sample, "1.1", "5"], b"", 0).contains("    5.3 (+12 XL, cut off): 2 put 1.1 before it, "));
+    let report = printed(&["run", sample], b"", 0);
+    let row = |title: &str| {
+        let row = report.lines().find(|line| line.starts_with(title)).unwrap_or_default();
+        row.split_whitespace().collect::<Vec<_>>().join(" ")
+    };
+    assert_eq!(
+        (row("cut off").as_str(), row("pending").as_str()),
+        ("cut off 5.3 5.3 5.3 5.3 5.3", "pending (marks; 3 needed) - - - - 1.1 (2)")
+    );
+    let picture = printed(&["draw", sample], b"", 0);
+    assert!(picture.contains(">pending 1.1 5.1<") && picture.contains(">cut off 5.3<"), "{picture}");
+    // The only controller may have applied what it then cuts off.
+    let alone = b"version 1\ncontrollers 1\nreport 1 +5\nreport 1 +6\nhand 1 <- 1\nstop 1 keep 1\n";
+    assert!(printed(&["why", "-", "1.2", "1"], alone, 0).starts_with("1.2 (+6) at panel 1, after event 4: applied\n"));
+    assert!(!printed(&["run", "-"], alone, 0).contains("\ncut off "));
+}
+
 /// The part of a report that is about its refusal.
 fn refusal(report: &str) -> Vec<&str> {
     let lines = report.lines().skip_while(|line| !line.contains(" is refused by question "));
@@ -304,7 +355,7 @@ fn refusal(report: &str) -> Vec<&str> {
 }
 
 #[test]
-fn a_refusal_has_its_place_and_the_fact_behind_it() {
+fn a_refusal_has_its_place_and_its_reason() {
     let report = printed(
         &["run", "-"],
         b"version 1\ncontrollers 4\nreport 1 +5\nreport 1 +6\nreport 1 +7\nhand 4 <- 1 1 1 1\n",
@@ -322,7 +373,7 @@ fn a_refusal_has_its_place_and_the_fact_behind_it() {
 }
 
 /// Lines after a head of version 1 and three controllers, the number of the question that refuses the last, and the reason.
-const FACTS: &[(&str, u8, &str)] = &[
+const REASONS: &[(&str, u8, &str)] = &[
     ("bytes 04 01 01", 5, "the length byte counts 4 bytes, and 2 are there"),
     ("bytes 00", 6, "the length is 0, and so there is no kind"),
     ("bytes 01 07", 6, "no kind has the number 7"),
@@ -347,18 +398,18 @@ const FACTS: &[(&str, u8, &str)] = &[
 ];
 
 /// Whether a run is refused with this number, for this reason.
-fn assert_refused(words: &[&str], input: &[u8], number: u8, fact: &str) {
+fn assert_refused(words: &[&str], input: &[u8], number: u8, reason: &str) {
     let report = printed(words, input, 1);
     let found = refusal(&report);
     assert!(found[0].contains(&format!(" is refused by question {number}: ")), "{report}");
-    assert_eq!(found[1], format!("    because  {fact}"));
+    assert_eq!(found[1], format!("    because  {reason}"));
 }
 
 #[test]
-fn each_refusal_of_a_record_says_its_fact() {
+fn each_refusal_of_a_record_says_why() {
     let head = "version 1\ncontrollers 3\n";
-    for (lines, number, fact) in FACTS {
-        assert_refused(&["run", "-"], format!("{head}{lines}\n").as_bytes(), *number, fact);
+    for (lines, number, reason) in REASONS {
+        assert_refused(&["run", "-"], format!("{head}{lines}\n").as_bytes(), *number, reason);
     }
     let full = format!("{head}{}", "report 1 +1\n".repeat(65));
     assert_refused(&["run", "-"], full.as_bytes(), 12, "the run has 64 messages");
@@ -367,23 +418,23 @@ fn each_refusal_of_a_record_says_its_fact() {
         ("report 1 0 class 1", 9, "the amount is 0"),
         ("report 1 1 class 5", 17, "the class is 5"),
     ];
-    for (line, number, fact) in in_version_2 {
-        assert_refused(&["run", "-"], format!("version 2\ncontrollers 3\n{line}\n").as_bytes(), number, fact);
+    for (line, number, reason) in in_version_2 {
+        assert_refused(&["run", "-"], format!("version 2\ncontrollers 3\n{line}\n").as_bytes(), number, reason);
     }
 }
 
 #[test]
-fn each_refusal_of_a_file_says_its_fact() {
+fn each_refusal_of_a_file_says_why() {
     let files: [(&[u8], u8, &str); 4] = [
         (&[1], 1, "the file has 1 byte"),
         (&[1; 65_536], 1, "the file has 65536 bytes"),
         (&[3, 3], 2, "byte 0, the version, is 3"),
         (&[1, 8], 3, "byte 1, the number of controllers, is 8"),
     ];
-    for (bytes, number, fact) in files {
+    for (bytes, number, reason) in files {
         for command in ["run", "why"] {
             let more: &[&str] = if command == "why" { &["1.1", "1"] } else { &[] };
-            assert_refused(&[&[command, "--bytes", "-"], more].concat(), bytes, number, fact);
+            assert_refused(&[&[command, "--bytes", "-"], more].concat(), bytes, number, reason);
         }
     }
     let report = printed(&["run", "-"], b"version 1\ncontrollers 8\n", 1);
@@ -396,7 +447,10 @@ fn why_asks_for_a_message_and_a_panel_that_are_there() {
     let wanted = [
         (vec!["why", sample, "2.1", "1"], "2.1 was not sent in 11 events; sent: 1.1 and 3.1\n"),
         (vec!["why", sample, "3.1", "1", "--after", "4"], "3.1 was not sent in 4 events; sent: 1.1\n"),
-        (vec!["why", sample, "3", "1"], "`3` names no message, as 3.1 does\n"),
+        (
+            vec!["why", sample, "3", "1"],
+            "`3` names no message: a message is named by its sender and its number, as in 3.1\n",
+        ),
         (vec!["why", sample, "3.1", "4"], "there is no panel 4: panels are 1 to 3\n"),
         (vec!["why", sample, "3.1", "0"], "there is no panel 0: panels are 1 to 3\n"),
         (vec!["why", sample, "3.1", "300"], "there is no panel 300: panels are 1 to 3\n"),
@@ -458,6 +512,8 @@ fn every_command_has_help_and_complains_of_what_it_does_not_know() {
         let meant = if meant.is_empty() { meant.into() } else { format!("did you mean `{meant}`? ") };
         assert_eq!(complaint(&[word], b""), format!("{unknown}{word}; {meant}`workbench --help` lists them\n"));
     }
+    let version = printed(&["--version"], b"", 0);
+    assert_eq!(version, format!("workbench {}, interface {}\n", env!("CARGO_PKG_VERSION"), furnacejade::INTERFACE));
     assert!(complaint(&["run", "--byte", "-"], b"").contains("there is no option --byte; did you mean `--bytes`? "));
     assert!(complaint(&["assemble", "samples/worked.txt", "-o", "no/such.file"], b"").starts_with("no/such.file: "));
 }
