@@ -5,24 +5,24 @@ use furnacejade::Payload;
 
 const COLUMN_GAP: i32 = 14;
 const LEAST_COLUMN: i32 = 38;
-/// What each lane has above and below its line at least.
+/// The least room above and below the line of a lane.
 pub const LEAST_REACH: i32 = 15;
 /// The radius of a message where it is sent, and where it joins the log of another.
 pub const SENT: i32 = 10;
 pub const FORWARDED: i32 = 8;
-/// What a handover from the own log rises above the lane, and how far left of the rest it begins.
+/// How far the arrow of a handover from the own log rises above the lane, and how far left of the shape it begins.
 pub const LOOP: i32 = 14;
 const LOOP_SIDE: i32 = 9;
-/// What is free around the name on an arrow, from its middle.
+/// The gap of an arrow above and below the middle of the name that stands in it.
 const NAME: i32 = 9;
 const PADDING: i32 = 6;
 
 /// What stands on a lane.
 #[derive(Debug)]
 pub enum Shape {
-    /// The lane alone.
+    /// Nothing but the lane.
     Bare,
-    /// A message that joins a log, with its kind and its place there.
+    /// A message that joins a log, with its kind and its place in the log.
     Entry {
         kind: u8,
         place: usize,
@@ -52,7 +52,7 @@ impl Shape {
         }
     }
 
-    /// How far it goes above and below its lane.
+    /// How far the shape goes above and below its lane.
     pub fn reach(&self) -> i32 {
         match self {
             Shape::Bare => 1,
@@ -104,12 +104,12 @@ impl Shape {
 /// What a column has at one lane: a shape, and lines of text above and below it.
 #[derive(Debug)]
 pub struct Mark {
-    /// The controller whose lane it is.
+    /// The number of the lane's controller.
     pub lane: u8,
     pub shape: Shape,
     pub above: Vec<Line>,
     pub below: Vec<Line>,
-    /// What is free between the shape and the lines above it.
+    /// The gap between the shape and the lines above it.
     pub lift: i32,
 }
 
@@ -118,7 +118,7 @@ impl Mark {
         Mark { lane, shape, above: vec![], below: vec![], lift: 0 }
     }
 
-    /// Where its lane stands among all.
+    /// The place of the lane among all lanes, from 0.
     pub fn lane_index(&self) -> usize {
         usize::from(self.lane) - 1
     }
@@ -128,7 +128,7 @@ impl Mark {
         (self.shape.width() + 2 * side).max(width_of(&self.above)).max(width_of(&self.below))
     }
 
-    /// How far it goes above its lane, and below.
+    /// How far the mark goes above its lane, and how far below.
     pub fn reach(&self) -> (i32, i32) {
         let reach = self.shape.reach();
         (reach + self.lift + height_of(&self.above) + 3, reach + height_of(&self.below) + 3)
@@ -142,7 +142,7 @@ impl Mark {
     }
 }
 
-/// A handover, to the lane of its column's mark.
+/// The arrow of a handover, from the lane of the log's owner to the lane of its column's mark.
 #[derive(Debug)]
 pub struct Arrow {
     pub owner: u8,
@@ -177,7 +177,7 @@ pub struct Column {
     pub title: String,
     pub marks: Vec<Mark>,
     pub arrow: Option<Arrow>,
-    /// Whether it concerns all lanes.
+    /// Whether the column concerns all lanes.
     pub across: bool,
 }
 

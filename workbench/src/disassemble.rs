@@ -1,4 +1,4 @@
-//! The text of any run file. Bytes that have the form of no record are shown as they are, with what is wrong with them.
+//! The text of any run file. Bytes that have the form of no record are shown as bytes, with what is wrong with them.
 
 use crate::text::record_text;
 use crate::words::{hexadecimal, malformed};
@@ -14,7 +14,7 @@ const BYTES: usize = 16;
 /// The column of the comments.
 const COMMENT: usize = 34;
 
-/// A part of a file, a record or bytes that are none, and its number.
+/// The number of a part of a file, and the part: a record, or bytes that have the form of none.
 type Numbered<'a> = (usize, Part<'a>);
 
 fn receiver((_, part): &Numbered) -> Option<u8> {

@@ -17,13 +17,13 @@ const BAND_WIDTH: i32 = 1_200;
 /// The least width of a picture, for its title and its legend.
 const LEAST_WIDTH: i32 = 760;
 const MARGIN: i32 = 16;
-/// What is between heading, legend and notes.
+/// The gap between heading, legend and notes.
 const GAP: i32 = 8;
-/// Where lanes begin: the names of the controllers stand left of it.
+/// Where lanes begin. The names of the controllers stand left of that.
 const LANES: i32 = 114;
-/// What is between two lanes besides what each has above and below.
+/// The gap between what stands on a lane and what stands on the next.
 const LANE_GAP: i32 = 22;
-/// The row with the numbers of the events, and what is between two bands.
+/// The height of the row with the numbers of the events, and the gap between two bands.
 const HEAD: i32 = 20;
 const BAND_GAP: i32 = 30;
 /// At most this many messages of a panel are named, and this many bytes of a refused record.
@@ -33,7 +33,7 @@ const BYTES: usize = 24;
 const TITLE_LENGTH: usize = 100;
 const FACTS: usize = 20;
 
-/// The picture of what became of a run file.
+/// The picture of a run file that was played.
 pub fn svg(title: &str, play: &Play) -> String {
     let mut picture = Picture::new(play);
     if play.table.n > 0 {
@@ -42,7 +42,7 @@ pub fn svg(title: &str, play: &Play) -> String {
     picture.finish(title)
 }
 
-/// What a controller is at a moment.
+/// What a controller's panel shows at a moment, and whether the controller has stopped.
 #[derive(Clone, Copy)]
 struct Moment {
     sums: Sums,
@@ -55,7 +55,7 @@ struct Picture<'a> {
     /// The controllers now, and at the start of the band.
     now: [Moment; CONTROLLERS],
     start: [Moment; CONTROLLERS],
-    /// The columns of the band, and what they take from left to right.
+    /// The columns of the band, and the width that they take.
     columns: Vec<Column>,
     used: i32,
     bands: Canvas,
@@ -82,7 +82,7 @@ impl<'a> Picture<'a> {
         }
     }
 
-    /// All bands.
+    /// Draws all bands.
     fn run(&mut self) {
         let play = self.play;
         let mut checked = play.checked.as_slice();
@@ -220,7 +220,7 @@ impl<'a> Picture<'a> {
         lines
     }
 
-    /// The sync of its own that a set finished.
+    /// The controller's own sync that a set finished.
     fn finished(&self, c: u8, applied: &Applied) -> Option<Name> {
         let own = |name: &&Name| name.sender == c && self.kind(**name) == Payload::SYNC;
         applied.finished.and_then(|_| applied.names.iter().rfind(own)).copied()
@@ -260,7 +260,8 @@ impl<'a> Picture<'a> {
         column.into_iter().for_each(|column| self.add(column));
     }
 
-    /// The column of a record that was refused, at the lane of the controller that it names if it names one.
+    /// The column of a record that was refused. It stands at the lane of the controller that the record names, if there is
+    /// one.
     fn refused(&mut self, refused: &Refused) {
         self.signs.insert(Sign::Refused);
         let (all, number) = (self.play.table.controller_numbers(), self.play.steps.len() + 1);
@@ -304,7 +305,7 @@ impl<'a> Picture<'a> {
         self.used = 0;
     }
 
-    /// Where the lanes of a band are, with room for what stands on them, and where the band ends.
+    /// The heights of the lanes of a band, with room for what stands on them, and the height at which the band ends.
     fn lanes(&self, columns: &[Column], top: i32) -> (Vec<i32>, i32) {
         let mut reaches = vec![(LEAST_REACH, LEAST_REACH); self.play.table.n];
         for mark in columns.iter().flat_map(|column| &column.marks) {
@@ -321,7 +322,7 @@ impl<'a> Picture<'a> {
         (lanes.collect(), bottom)
     }
 
-    /// A lane with its label; after a stop it is pale.
+    /// Draws a lane with its label. After a stop the lane is pale.
     fn lane(&mut self, c: u8, y: i32, stop: Option<i32>, end: i32) {
         let Moment { sums, stopped } = self.start[usize::from(c) - 1];
         let label = Line::new(LEFT, format!("controller {c}"));
@@ -381,7 +382,7 @@ impl<'a> Picture<'a> {
     }
 }
 
-/// What the panels show in the end, and what is pending there.
+/// What the panels show in the end, what is pending there, and what was cut off there.
 fn end(play: &Play) -> Vec<Mark> {
     let panels = play.table.controller_numbers().filter_map(|c| Some((c, look(&play.table, c).ok()?)));
     let mut marks: Vec<Mark> = panels.map(|(c, panel)| end_of(play, c, &panel)).collect();
@@ -409,7 +410,7 @@ fn end_of(play: &Play, c: u8, panel: &Panel) -> Mark {
     mark
 }
 
-/// What messages are, in lines; nothing if there are none.
+/// The names of messages after a word for their state, in lines; none if there are no messages.
 fn facts(what: &str, names: &[Name]) -> Vec<String> {
     let mut words = vec![what.to_string()];
     words.extend(names.iter().take(NAMED).map(Name::to_string));
@@ -423,7 +424,7 @@ fn facts(what: &str, names: &[Name]) -> Vec<String> {
     }
 }
 
-/// What was refused, why, where it stands and what is there.
+/// What was refused and why, its offset and its bytes.
 fn refusal(play: &Play, refused: &Refused) -> Vec<Line> {
     let what = match play.table.n {
         0 => "The file".to_string(),

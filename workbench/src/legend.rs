@@ -6,7 +6,7 @@ use crate::svg::{class, Canvas, Line, BOLD, LEFT_SMALL, LEGEND, PLAIN};
 use furnacejade::Payload;
 use std::collections::BTreeSet;
 
-/// The rows of the legend, what is between two signs, and the length of an arrow there.
+/// The height of a row of the legend, the gap between two signs, and the length of an arrow.
 const ROW: i32 = 24;
 const GAP: i32 = 18;
 const SAMPLE_ARROW: i32 = 26;
@@ -67,7 +67,7 @@ impl Sign {
         }
     }
 
-    /// Marks as an example: some logs after the first have it.
+    /// An example of marks: the logs after the first have the message.
     fn marks(n: u8) -> Line {
         let logs = (1..=n.min(FEW)).filter(|log| *log > 1 || n == 1);
         let marks: Vec<play::Mark> = logs.map(|log| (log, n + 1 - log)).collect();
@@ -83,7 +83,7 @@ impl Sign {
         }
     }
 
-    /// Draws an example of it, from x on.
+    /// Draws an example of the sign, from x on.
     fn draw(self, n: u8, canvas: &mut Canvas, (x, y): (i32, i32)) {
         let arrow = format!("M{} {y}h{}", x + 3, SAMPLE_ARROW - 3);
         match self {
@@ -99,7 +99,8 @@ impl Sign {
     }
 }
 
-/// What signs mean, in rows between two edges and from a top edge on, for a run of n controllers; answers where they end.
+/// Draws what signs mean in a run of n controllers, in rows between two edges and below a top edge. Answers where the rows
+/// end.
 pub fn legend(signs: &BTreeSet<Sign>, n: u8, canvas: &mut Canvas, (left, right): (i32, i32), top: i32) -> i32 {
     let (mut x, mut y) = (left, top + 10);
     for sign in signs {
@@ -118,7 +119,8 @@ pub fn legend(signs: &BTreeSet<Sign>, n: u8, canvas: &mut Canvas, (left, right):
     }
 }
 
-/// Marks: of few controllers the place in each log, a dash where there is none; of more the logs that have one.
+/// Marks as text. In a run of few controllers it is the place in each log, with a dash for none; in others the logs that
+/// have a mark.
 pub fn marks_text(marks: &[play::Mark], n: u8) -> String {
     if n > FEW {
         return marks.iter().map(|(log, _)| log.to_string()).collect::<Vec<String>>().join(",");

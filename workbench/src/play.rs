@@ -7,13 +7,13 @@ use furnacejade::{
     SCRATCH,
 };
 
-/// What an event did, but for the set that it applied.
+/// What an event did. The set that it applied stands apart.
 #[derive(Debug)]
 pub enum Effect {
     /// A message was sent.
     Sent(Name),
-    /// The receiver read a message in a log, at this entry of it. The marks are those that it then has for the message, before
-    /// it applies anything; none if it has applied it already.
+    /// The receiver read this entry of a log, and there a message. The marks are those that the receiver then has for the
+    /// message, before it applies anything; none if it has applied the message already.
     Read { owner: u8, entry: usize, name: Name, heard: Heard, marks: Vec<Mark> },
     /// A log was cut: how many entries are kept, and which ones came after these.
     Stopped { kept: usize, lost: Vec<Name> },
@@ -21,23 +21,24 @@ pub enum Effect {
     LocalRead(Sums),
 }
 
-/// Who gave a mark, and the mark: the entry of that controller's log.
+/// A mark: the controller that gave it, and the place of the message in that controller's log.
 pub type Mark = (u8, u8);
 
 /// What the message of a handover was to its receiver.
 #[derive(Debug)]
 pub enum Heard {
-    /// Unknown: it was forwarded, as this entry of the receiver's own log.
+    /// Unknown: the receiver forwarded the message, as this entry of its own log.
     Forwarded { entry: usize },
-    /// Pending: the mark of the log's owner was noted.
+    /// Pending: the receiver noted the mark of the log's owner.
     Marked,
-    /// Pending, and its own message: its own mark was there from the start.
+    /// Pending, and the receiver's own message: its own mark was there from the start.
     Known,
-    /// Applied already: the entry was passed over.
+    /// Applied already: the receiver passed over the entry.
     Passed,
 }
 
-/// A set that a panel applied, with the sums that it then showed, and those that a finished sync of its own answered.
+/// A set that a panel applied, the sums that the panel then showed, and the answer of a sync of its own that the set
+/// finished.
 #[derive(Debug)]
 pub struct Applied {
     pub names: Vec<Name>,
@@ -48,7 +49,7 @@ pub struct Applied {
 /// An event that was accepted.
 #[derive(Debug)]
 pub struct Step {
-    /// From 1; also the number of its record in the file.
+    /// The number of the event, from 1, and of its record in the file.
     pub number: usize,
     pub record: Record,
     /// The controller that acted.
@@ -57,7 +58,7 @@ pub struct Step {
     pub applied: Option<Applied>,
 }
 
-/// A file or a record that was refused: where it begins, and what is there of it.
+/// A file or a record that was refused: why, where it begins, and what is there of it.
 #[derive(Debug)]
 pub struct Refused<'a> {
     pub refusal: Refusal,
@@ -65,13 +66,13 @@ pub struct Refused<'a> {
     pub bytes: &'a [u8],
 }
 
-/// An expectation that was reached, and what the panel showed there and then.
+/// An expectation that was reached.
 #[derive(Debug)]
 pub struct Checked {
     pub expectation: Expectation,
-    /// The events before it.
+    /// How many events come before the expectation.
     pub events: usize,
-    /// Nothing if there is no such panel.
+    /// What the panel showed; none if there is no such panel.
     pub shown: Option<Sums>,
 }
 
@@ -81,7 +82,7 @@ impl Checked {
     }
 }
 
-/// What became of a file.
+/// A file that was played.
 #[derive(Debug)]
 pub struct Play<'a> {
     pub file: &'a [u8],
@@ -90,11 +91,11 @@ pub struct Play<'a> {
     pub checked: Vec<Checked>,
     /// The expectations that were not reached.
     pub unreached: &'a [Expectation],
-    /// The table that the last accepted event left; the blank one if the file itself was refused.
+    /// The table that the last accepted event left; a blank table if the file itself was refused.
     pub table: Table,
 }
 
-/// Which controller acts in a record: the one that sends, receives, stops or reads.
+/// The controller that acts in a record: it sends, receives, stops or reads.
 pub fn actor(record: Record) -> u8 {
     match record {
         Record::Report { sender, .. }
@@ -110,7 +111,7 @@ pub fn name_of(message: &Message) -> Name {
     Name { sender: message.sender, number: message.number }
 }
 
-/// The controller of a number, from 1.
+/// A controller by its number, from 1.
 pub fn controller(table: &Table, number: u8) -> &Controller {
     &table.controllers[usize::from(number) - 1]
 }
@@ -131,12 +132,13 @@ pub fn sent(table: &Table) -> Vec<Name> {
     table.messages[..table.count].iter().map(name_of).collect()
 }
 
-/// The names of what has a state at a controller, in the order sent.
+/// The names of the messages that are in this state at a controller, in the order sent.
 pub fn in_state(table: &Table, c: u8, state: State) -> Vec<Name> {
     sent(table).into_iter().filter(|name| table.state(c, *name) == state).collect()
 }
 
-/// The names of what a controller holds, in the order sent: what is pending there, and at a stopped one what was cut off.
+/// The names of the messages that a controller holds, in the order sent. They are pending there, or were cut off when it
+/// stopped.
 pub fn held(table: &Table, c: u8) -> Vec<Name> {
     let pending = controller(table, c).pending.iter();
     sent(table).into_iter().zip(pending).filter(|(_, pending)| pending.held != 0).map(|(name, _)| name).collect()
@@ -149,7 +151,7 @@ fn marks(table: &Table, c: u8, slot: usize) -> Vec<Mark> {
     marks.map(|(f, mark)| (f, mark.0)).collect()
 }
 
-/// The marks of a message once an entry that gives one has been read.
+/// The marks of a message after a handover, with the mark that the entry gave if it gave one.
 fn marks_with(mut marks: Vec<Mark>, read: Mark, heard: &Heard) -> Vec<Mark> {
     if matches!(heard, Heard::Forwarded { .. } | Heard::Marked) {
         marks.push(read);
@@ -192,12 +194,12 @@ fn applied_by(answer: &Answer, table: &Table, c: u8) -> Option<Applied> {
     Some(Applied { names, sums, finished: answer.sync_answer() })
 }
 
-/// Plays a file up to its end, its first refusal or a number of events.
+/// Plays a file up to its end, its first refusal or its first `most` events.
 pub fn play<'a>(bytes: &'a [u8], expectations: &'a [Expectation], most: usize) -> Play<'a> {
     let (mut listing, mut scratch) = (vec![0; LISTING], [0; SCRATCH]);
     let (unreached, table) = (expectations, Table::BLANK);
     let mut play = Play { file: bytes, steps: vec![], refused: None, checked: vec![], unreached, table };
-    // Of the questions that are put to a whole file the call for a fresh table asks only two.
+    // A run of the whole file asks what is asked of a file. (A request for a fresh table does not ask for the length.)
     let refusal = run(bytes, &mut listing, &mut scratch).refusal.refusal();
     if let Some(refusal @ (Refusal::FileLength | Refusal::Version | Refusal::ControllerCount)) = refusal {
         let offset = usize::from(refusal == Refusal::ControllerCount);
@@ -227,7 +229,7 @@ pub fn play<'a>(bytes: &'a [u8], expectations: &'a [Expectation], most: usize) -
 }
 
 impl Play<'_> {
-    /// Checks the expectations that stand before an offset and were not reached yet.
+    /// Checks the expectations up to an offset that were not reached before.
     fn check(&mut self, offset: usize) {
         while let Some((expectation, others)) = self.unreached.split_first().filter(|(next, _)| next.offset <= offset) {
             let (expectation, events) = (*expectation, self.steps.len());

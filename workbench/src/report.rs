@@ -10,7 +10,7 @@ use std::fmt::Write;
 /// A cell of the table of panels names at most this many messages.
 const NAMED: usize = 12;
 
-/// Whether the file was carried out whole, so that every expectation was reached, and each held.
+/// Whether nothing was refused and every expectation held. (Where nothing is refused every expectation is reached.)
 pub fn succeeded(play: &Play) -> bool {
     play.refused.is_none() && play.checked.iter().all(Checked::holds)
 }
@@ -38,7 +38,7 @@ pub fn report(source: &Source, play: &Play) -> String {
     text
 }
 
-/// A line or two for each event, and one for each expectation, after the events before it.
+/// A line or two for each event, and a line for each expectation, after the events that come before it.
 fn events(text: &mut String, source: &Source, play: &Play) {
     let width = play.steps.iter().map(|step| record_text(step.record).len()).max().unwrap_or(0);
     let mut checked = play.checked.iter().peekable();
@@ -56,7 +56,7 @@ fn events(text: &mut String, source: &Source, play: &Play) {
     }
 }
 
-/// What came of an expectation.
+/// Whether an expectation held, and what the panel showed if it did not.
 fn expectation(source: &Source, play: &Play, checked: &Checked) -> String {
     let Expectation { place, panel, sums, .. } = checked.expectation;
     let shown = match checked.shown {
@@ -67,7 +67,8 @@ fn expectation(source: &Source, play: &Play, checked: &Checked) -> String {
     format!("{}: FAILED: {shown}", source.place(place))
 }
 
-/// What failed, a line for each with its place: expectations, the refusal, and expectations that were not reached.
+/// What failed: expectations, the refusal, and expectations that were not reached. Each has a line, which begins with its
+/// place.
 pub fn complaints(source: &Source, play: &Play) -> String {
     let failed = play.checked.iter().filter(|checked| !checked.holds());
     let mut lines: Vec<String> = failed.map(|checked| expectation(source, play, checked)).collect();
@@ -123,7 +124,7 @@ pub fn refusal(source: &Source, play: &Play, refused: &Refused) -> String {
     lines.iter().fold(head, |text, (what, line)| format!("{text}    {what:8} {line}\n"))
 }
 
-/// How many events were accepted, and what came of the expectations.
+/// How many events were accepted, and how many expectations held.
 fn outcome(source: &Source, play: &Play) -> String {
     let mut text = format!("{} accepted", count(play.steps.len(), "event", "events"));
     let all = source.expectations().len();
@@ -141,7 +142,7 @@ fn outcome(source: &Source, play: &Play) -> String {
     text
 }
 
-/// A row of the table of panels: what it says, and a cell of lines for each panel.
+/// A row of the table of panels: its title, and a cell for each panel, which has lines.
 type Row = (String, Vec<Vec<String>>);
 
 /// Every panel side by side.
@@ -188,7 +189,7 @@ fn register_text(Register { value, stamp }: Register) -> String {
     }
 }
 
-/// What is pending at a controller, with how many marks it has there.
+/// The messages that are pending at a controller, and how many marks each has there.
 fn pending(play: &Play, c: u8) -> Vec<String> {
     cell(&in_state(&play.table, c, State::Pending), |name| format!("{name} ({})", play.marks(c, *name).len()))
 }
@@ -205,7 +206,7 @@ fn cell(names: &[Name], line: impl Fn(&Name) -> String) -> Vec<String> {
     lines
 }
 
-/// The rows with their cells one below the other.
+/// The rows as text, with the cells of a column aligned.
 fn aligned(rows: &[Row]) -> String {
     let title = rows.iter().map(|row| row.0.len()).max().unwrap_or(0);
     let columns = rows.first().map_or(0, |row| row.1.len());

@@ -4,10 +4,11 @@ use crate::text::{assemble, Assembled, Expectation, Mistake, Place};
 use furnacejade::{records, Machine, Record, Refusal};
 use std::io::Read;
 
-/// No text has a byte below this one. Every record of a run file begins with two of them: its length and its kind.
+/// The least byte of the characters of a text. Every record of a run file begins with two lower bytes, its length and its
+/// kind.
 const LEAST_IN_TEXT: u8 = 9;
 
-/// The mark of the order of bytes, which some editors put before a text, and which is no part of it.
+/// The mark of the order of bytes. Some editors put it before a text; it is no part of the text.
 const ORDER_MARK: &str = "\u{FEFF}";
 
 /// What a file is taken for.
@@ -15,7 +16,7 @@ const ORDER_MARK: &str = "\u{FEFF}";
 pub enum Form {
     Text,
     Bytes,
-    /// Text if it begins as one.
+    /// A text if it begins as one.
     Either,
 }
 
@@ -35,7 +36,7 @@ pub fn read(path: &str) -> Result<Vec<u8>, String> {
     result.map_err(|error| format!("{}: {error}\n", shown(path)))
 }
 
-/// How a path is named in output.
+/// The name of a path in output.
 pub fn shown(path: &str) -> &str {
     match path {
         "-" => "standard input",
@@ -43,7 +44,8 @@ pub fn shown(path: &str) -> &str {
     }
 }
 
-/// Whether bytes begin as a text does, and not with a version and a number of controllers, which are control characters.
+/// Whether bytes begin as a text does. A run file begins with a version and a number of controllers, which are control
+/// characters.
 fn begins_as_text(bytes: &[u8]) -> bool {
     let in_text = |byte: &u8| b"\t\r\n".contains(byte) || !byte.is_ascii_control();
     !bytes.is_empty() && bytes.iter().take(2).all(in_text)
@@ -54,7 +56,7 @@ fn not_in_text(bytes: &[u8]) -> Option<(usize, u8)> {
     bytes.iter().copied().enumerate().find(|(_, byte)| *byte < LEAST_IN_TEXT)
 }
 
-/// Whether bytes are a text: they begin as one, with a character of ASCII, and none of them is one that no text has.
+/// Whether bytes look like a text: they begin as one, with a character of ASCII, and no byte is one that a text has not.
 pub fn is_text(bytes: &[u8]) -> bool {
     let bytes = bytes.strip_prefix(ORDER_MARK.as_bytes()).unwrap_or(bytes);
     begins_as_text(bytes) && bytes[0].is_ascii() && not_in_text(bytes).is_none()
@@ -83,7 +85,8 @@ fn in_file(name: &str, Place { line, column }: Place) -> String {
 }
 
 impl Source {
-    /// A file in one of its forms. Where bytes stand in the place of a text, `advice` says what takes bytes.
+    /// A file in one of its forms. If it looks like a run file where a text is expected, `advice` says what takes a run
+    /// file.
     pub fn load(path: &str, form: Form, advice: &str) -> Result<Source, String> {
         let (bytes, name) = (read(path)?, shown(path).to_string());
         if form == Form::Bytes || form == Form::Either && !begins_as_text(&bytes) {
@@ -101,8 +104,8 @@ impl Source {
         }
     }
 
-    /// The reports of a text whose amounts the engine refuses, a line for each. The engine itself is asked: it puts the
-    /// question for the amount before all that depend on what was sent, so that one machine serves for every report.
+    /// The reports of a text whose amounts the engine refuses, a line for each. The engine is asked. It puts the question
+    /// for the amount before all questions that depend on what was sent, so one machine serves for every report.
     pub fn notes(&self) -> String {
         let mut machine = Machine::new(1, 1).expect("a machine of one controller");
         let mut notes = String::new();

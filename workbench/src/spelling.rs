@@ -1,6 +1,6 @@
-//! What a misspelt word was to be.
+//! Suggestions for misspelt words.
 
-/// The question that a complaint about a word asks: "did you mean `report`?", if one of the known words is near.
+/// A question for a complaint about a word, "did you mean `report`?", if a known word is near.
 pub fn did_you_mean<'a>(word: &str, known: impl IntoIterator<Item = &'a str>) -> Option<String> {
     let word: Vec<char> = word.to_lowercase().chars().collect();
     let distances = known.into_iter().map(|other| (distance(&word, &other.chars().collect::<Vec<char>>()), other));
@@ -8,8 +8,8 @@ pub fn did_you_mean<'a>(word: &str, known: impl IntoIterator<Item = &'a str>) ->
     (distance <= word.len() / 3).then(|| format!("did you mean `{nearest}`?"))
 }
 
-/// How far a word is from another: how many of its letters are wrong, missing, too many, or exchanged with the next. A
-/// word that begins as the other does, up to the end of the shorter one, is as near as one with one wrong letter.
+/// How many letters of a word are wrong, missing, too many, or exchanged with the next one. A word that begins with the
+/// other, or with which the other begins, counts as one with one wrong letter.
 fn distance(word: &[char], other: &[char]) -> usize {
     if !word.is_empty() && (word.starts_with(other) || other.starts_with(word)) {
         return 1;

@@ -7,7 +7,7 @@ use furnacejade::{count_before, Name, State};
 use std::fmt::Write;
 use std::ops::RangeInclusive;
 
-/// A message that was sent, and a panel that is there, when the steps of a play have been carried out.
+/// A message that was sent in a play, and a panel that the play has.
 pub struct Question<'a> {
     pub play: &'a Play<'a>,
     pub name: Name,
@@ -41,7 +41,7 @@ impl Question<'_> {
         self.play.marks(self.panel, name).len()
     }
 
-    /// When it was sent, whether it was cut off, and whether the panel still applies anything.
+    /// When the message was sent, whether it was cut off, and whether the panel still applies anything.
     fn sent(&self) -> String {
         let Question { play, name, panel } = self;
         let mut text = String::new();
@@ -58,7 +58,7 @@ impl Question<'_> {
         text
     }
 
-    /// When it was applied, with what, and what the panel then showed.
+    /// When the message was applied, with which others, and what the panel then showed.
     fn applied(&self) -> String {
         let Some((step, applied)) = self.play.applied(self.name, self.panel) else { return String::new() };
         let others: Vec<Name> = applied.names.iter().copied().filter(|other| *other != self.name).collect();
@@ -70,7 +70,7 @@ impl Question<'_> {
         format!("applied at {event}, {set}; the panel then showed {}\n", sums(applied.sums))
     }
 
-    /// Which controllers have marked it, and how many are needed.
+    /// Which controllers have marked the message, and how many are needed.
     fn marks(&self) -> String {
         let Question { play, name, panel } = self;
         let marks = play.marks(*panel, *name);
@@ -94,7 +94,8 @@ impl Question<'_> {
         text
     }
 
-    /// Whether the panel may yet learn of a controller's mark: it runs, and the controller's log has the message, or may.
+    /// Whether the panel may yet learn of a controller's mark: the panel's controller runs, and the log of the other has the
+    /// message or may get it.
     fn may_mark(&self, f: u8) -> bool {
         let table = &self.play.table;
         let anywhere = || self.all().any(|owner| self.has(owner, self.name));
@@ -113,8 +114,9 @@ impl Question<'_> {
         ways.min_by_key(|(_, times)| *times).map(|(owner, times)| hand(reader, owner, times))
     }
 
-    /// The other pending messages that a message does not go before, with how many put it first and how many the other.
-    fn not_behind(&self, name: Name) -> Vec<(Name, usize, usize)> {
+    /// The other pending messages that a message does not go before. With each stand two counts: how many controllers put
+    /// the message first, and how many the other.
+    fn not_before(&self, name: Name) -> Vec<(Name, usize, usize)> {
         let Question { play, panel, .. } = self;
         let before = |first: Name, second: Name| count_before(&play.table, *panel, first, second).unwrap_or(0);
         let others = held(&play.table, *panel).into_iter().filter(|other| *other != name);
@@ -122,7 +124,7 @@ impl Question<'_> {
         counts.filter(|(_, first, _)| *first < play.majority()).collect()
     }
 
-    /// Which pending messages keep it out, and by what count.
+    /// Which pending messages keep the message out, and by what count.
     fn kept_out(&self) -> String {
         let Question { play, name, panel } = self;
         let needed = play.majority();
@@ -132,7 +134,7 @@ impl Question<'_> {
             let next = next.map_or(String::new(), |owner| format!(": {} applies it", hand(*panel, owner, 1)));
             return format!("\nall that is pending here has its marks, and sets are applied at handovers{next}\n");
         }
-        let others = self.not_behind(*name);
+        let others = self.not_before(*name);
         let what = if self.marks_of(*name) < needed { "does not go before, so far" } else { "kept out by" };
         let number = match others.len() {
             0 => "none".into(),
@@ -152,13 +154,13 @@ impl Question<'_> {
         text
     }
 
-    /// The message, what it does not go before, and what these do not go before, and so on.
+    /// The message, the messages that it does not go before, those that these do not go before, and so on.
     fn concerned(&self) -> Vec<Name> {
         let mut names = vec![self.name];
         let mut next = 0;
         let pending = self.play.table.state(self.panel, self.name) == State::Pending;
         while let Some(name) = names.get(next).copied().filter(|_| pending) {
-            let others = self.not_behind(name).into_iter().map(|(other, _, _)| other);
+            let others = self.not_before(name).into_iter().map(|(other, _, _)| other);
             let new: Vec<Name> = others.filter(|other| !names.contains(other)).collect();
             names.extend(new);
             next += 1;
@@ -166,7 +168,8 @@ impl Question<'_> {
         names
     }
 
-    /// What is unread here of this message and of those that concern it, and which of them are in too few logs.
+    /// What the panel's controller has not read of the message and of those that concern it, and which of these are in too
+    /// few logs.
     fn more(&self) -> String {
         let Question { play, panel, .. } = self;
         if !play.table.runs(*panel) {

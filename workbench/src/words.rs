@@ -1,16 +1,16 @@
-//! Events, sets and refusals in words. Each says what was read from an answer or from a table.
+//! Events, sets and refusals in words. What they say was read from an answer or from a table.
 
 use crate::play::{actor, controller, in_state, log, read, Applied, Effect, Heard, Play, Refused, Step};
 use crate::source::is_text;
 use crate::text::record_text;
 use furnacejade::{Class, Message, Name, Payload, Record, Refusal, State, Sums};
 
-/// One thing or several: "1 entry", "2 entries".
+/// A number of things: "1 entry", "2 entries".
 pub fn count(number: usize, one: &str, more: &str) -> String {
     format!("{number} {}", if number == 1 { one } else { more })
 }
 
-/// "1.1, 2.1 and 3.1".
+/// Things in a sentence: "1.1, 2.1 and 3.1".
 pub fn list<T: ToString>(things: &[T]) -> String {
     let texts: Vec<String> = things.iter().map(T::to_string).collect();
     match &texts[..] {
@@ -54,7 +54,7 @@ pub fn log_of(owner: u8, reader: u8) -> String {
     }
 }
 
-/// Which panels a run has.
+/// The range of the panels of a run.
 pub fn panels(n: usize) -> String {
     match n {
         1 => "the only panel is 1".into(),
@@ -62,7 +62,7 @@ pub fn panels(n: usize) -> String {
     }
 }
 
-/// What an event did, but for the set that it applied.
+/// What an event did. The set that it applied has a line of its own.
 pub fn effect(play: &Play, step: &Step) -> String {
     let c = step.controller;
     match &step.effect {
@@ -93,7 +93,7 @@ pub fn effect(play: &Play, step: &Step) -> String {
     }
 }
 
-/// A set with its messages and the panel's sums.
+/// A set that a panel applied, with its messages and the sums that the panel then shows.
 pub fn applied(play: &Play, step: &Step, Applied { names, sums: shown, finished }: &Applied) -> String {
     let c = step.controller;
     let messages: Vec<String> = names.iter().map(|name| message(play, *name)).collect();
@@ -119,7 +119,7 @@ fn forms(kind: u8) -> Vec<Record> {
     (1..16).filter_map(record).collect()
 }
 
-/// The version that a form belongs to, if it belongs to one alone.
+/// The version in which records have this form, if they have it in one version only.
 fn version_of(form: Record) -> Option<u8> {
     match form {
         Record::Report { .. } => Some(1),
@@ -128,15 +128,15 @@ fn version_of(form: Record) -> Option<u8> {
     }
 }
 
-/// What is wrong with the form of a record, of which these are the bytes that are there; nothing if it has the form of one
-/// of this version.
+/// What is wrong with the form of a record; none if it has the form of a record of this version. Of a record that is cut
+/// short these are the bytes that are there.
 pub fn malformed(bytes: &[u8], version: u8) -> Option<String> {
     let (length, rest) = bytes.split_first()?;
     if rest.len() < *length as usize {
         let there = count(rest.len(), "is", "are");
         return Some(format!("the length byte counts {}, and {there} there", count(*length as usize, "byte", "bytes")));
     }
-    let Some(kind) = rest.first() else { return Some("the length is 0, and so there is no kind".into()) };
+    let Some(kind) = rest.first() else { return Some("the length is 0, so there is no kind".into()) };
     if ![1, 2].contains(&version) && Record::from_bytes(bytes).is_some() {
         return None;
     }
@@ -206,7 +206,7 @@ pub fn reason(play: &Play, refused: &Refused) -> Option<String> {
     }
 }
 
-/// How much of a log a reader has read that has nothing left for it.
+/// How much of a log a reader has read who has read all of it.
 fn all_read(play: &Play, reader: u8, owner: u8) -> String {
     match controller(&play.table, owner).length {
         0 => format!("log {owner} has no entries"),
@@ -228,7 +228,7 @@ fn not_to_keep(play: &Play, owner: u8, kept: usize) -> String {
     }
 }
 
-/// What a controller has sent and not applied.
+/// The messages that a controller has sent and not applied.
 fn own_pending(play: &Play, c: u8) -> Option<String> {
     let mut own = in_state(&play.table, c, State::Pending);
     own.retain(|name| name.sender == c);
@@ -236,7 +236,7 @@ fn own_pending(play: &Play, c: u8) -> Option<String> {
     (!own.is_empty()).then(|| format!("{} of its own {is} pending at controller {c}", list(&own)))
 }
 
-/// The names of a log that a reader has not read, with their entries.
+/// The entries of a log that a reader has not read: their places and names.
 pub fn unread(play: &Play, owner: u8, reader: u8) -> Vec<(usize, Name)> {
     (1..).zip(log(&play.table, owner)).skip(read(&play.table, reader, owner)).collect()
 }

@@ -114,7 +114,7 @@ fn bytes_that_are_no_record_are_shown_with_their_offset() {
         "",
         "sync 1 # record 1, offset 2",
         "bytes 03 09 01 02 # record 2, offset 5: no kind has the number 9",
-        "bytes 00 # record 3, offset 9: the length is 0, and so there is no kind",
+        "bytes 00 # record 3, offset 9: the length is 0, so there is no kind",
         "report 1 +7 class 2 # record 4, offset 10: a report of version 1 has length 4, and this one 5: it names no class",
         "bytes 04 04 01 # record 5, offset 16: the length byte counts 4 bytes, and 2 are there",
     ];
@@ -156,21 +156,21 @@ const MISTAKES: &[(&str, &str)] = &[
     ("handover 1 <- 2", "3:1: no line begins with `handover`; did you mean `hand`?\n"),
     ("start 1", "3:1: no line begins with `start`; a line begins with one of version, controllers, report, sync, "),
     ("sync", "3:5: the sender is missing"),
-    ("sync 256", "3:6: `256` stands where the sender belongs, a number from 0 to 255"),
-    ("sync 1 2", "3:8: `2` is more than belongs here"),
-    ("  report 1 40000", "3:12: `40000` stands where the amount belongs, a number from -32768 to 32767; the engine accepts -360 to 360, and not 0\n"),
+    ("sync 256", "3:6: the sender must be a number from 0 to 255, not `256`\n"),
+    ("sync 1 2", "3:8: `2` is one word too many; a line reads: sync 1\n"),
+    ("  report 1 40000", "3:12: the amount must be a number from -32768 to 32767, not `40000`; the engine accepts -360 to 360, and not 0\n"),
     ("report 1 +5 klass 2", "3:13: `klass` stands where `class` belongs"),
-    ("report 1 +5 class XXL", "3:19: `XXL` stands where the class belongs: XL, L, M, S, or a number from 0 to 255"),
+    ("report 1 +5 class XXL", "3:19: the class, if it is not XL, L, M or S, must be a number from 0 to 255, not `XXL`\n"),
     ("hand 1 <-", "3:10: the owner of a log is missing"),
-    ("hand 1 <- 2 x 3", "3:13: `x` stands where the owner of a log belongs"),
+    ("hand 1 <- 2 x 3", "3:13: the owner of a log must be a number from 0 to 255, not `x`\n"),
     ("hand 1 - 2", "3:8: `-` stands where `<-` belongs"),
     ("stop 1 4", "3:8: `4` stands where `keep` belongs"),
-    ("stop 1 keep 65536", "3:13: `65536` stands where how many entries are kept belongs"),
+    ("stop 1 keep 65536", "3:13: the number of entries kept must be a number from 0 to 65535, not `65536`\n"),
     ("write 1 register 3 1500", "3:20: `1500` stands where `=` belongs"),
-    ("write 1 register 3 = 4294967296", "3:22: `4294967296` stands where the value belongs"),
+    ("write 1 register 3 = 4294967296", "3:22: the value must be a number from 0 to 4294967295, not `4294967296`\n"),
     ("expect 1 30", "3:12: what was withdrawn is missing"),
-    ("bytes 0g", "3:7: `0g` stands where bytes belong"),
-    ("bytes 1 2", "3:7: `1` stands where bytes belong"),
+    ("bytes 0g", "3:7: a byte must have two hexadecimal digits, not `0g`\n"),
+    ("bytes 1 2", "3:7: a byte must have two hexadecimal digits, not `1`\n"),
     ("version 1", "3:1: `version` stands where an event belongs"),
     ("\u{1b}[31mx 1", "3:1: no line begins with `\\u{1b}[31mx`"),
     ("# \u{e9}\n\u{e9} 1", "4:1: no line begins with `\u{e9}`"),
@@ -194,9 +194,9 @@ fn mistakes_have_a_file_a_line_and_a_column() {
 fn a_text_begins_with_its_head() {
     let heads = [
         ("", "1:1: the text ends before `version 1` or `version 2`"),
-        ("version 1", "2:1: the text ends before `controllers` and how many there are"),
+        ("version 1", "2:1: the text ends before a line such as `controllers 3`"),
         ("controllers 3", "1:1: `controllers` stands where `version 1` or `version 2` belongs"),
-        ("version 1\nsync 1", "2:1: `sync` stands where `controllers` and how many there are belongs"),
+        ("version 1\nsync 1", "2:1: `sync` stands where a line such as `controllers 3` belongs"),
     ];
     for (text, wanted) in heads {
         assert_eq!(complaint(&["assemble", "-"], text.as_bytes()), format!("standard input:{wanted}\n"));
@@ -375,7 +375,7 @@ fn a_refusal_has_its_place_and_its_reason() {
 /// Lines after a head of version 1 and three controllers, the number of the question that refuses the last, and the reason.
 const REASONS: &[(&str, u8, &str)] = &[
     ("bytes 04 01 01", 5, "the length byte counts 4 bytes, and 2 are there"),
-    ("bytes 00", 6, "the length is 0, and so there is no kind"),
+    ("bytes 00", 6, "the length is 0, so there is no kind"),
     ("bytes 01 07", 6, "no kind has the number 7"),
     ("report 1 +5 class 1", 7, "a report of version 1 has length 4, and this one 5: it names no class"),
     ("hand 1 <- 4", 8, "the run has controllers 1 to 3, and none is 4"),
