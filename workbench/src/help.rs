@@ -71,6 +71,7 @@ workbench why FILE MESSAGE PANEL [--after EVENT] [--text | --bytes]
 Says when a panel applied a message: `workbench why FILE 3.1 2` asks about message 3.1 at panel 2. If the panel has not
 applied the message, it says
 
+    whether the message was cut off, and so will never be applied;
     which controllers have marked the message, and how many are needed;
     which pending messages it does not go before, and how many controllers put it before each of them;
     which handovers would bring more marks.
