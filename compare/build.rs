@@ -9,7 +9,7 @@ struct Fault {
     edits: Vec<Edit>,
 }
 
-/// The text `old` gives way to `new`, where `before` stands in front of it.
+/// Replaces the text `old` by `new`, in the place that has `before` right before it.
 #[derive(Default)]
 struct Edit {
     before: String,

@@ -1,6 +1,7 @@
 /* Writes every field of a table from C, one at a time, and sees through the calls that the engine reads it there, and that it
- * reads nothing else; sees that equal calls make equal tables byte for byte, whatever stood in their memory before; and lends
- * random bytes as a table, which the engine answers like any other. */
+ * reads nothing else; sees that equal calls make equal tables byte for byte, whatever stood in their memory before; writes
+ * every record, and files into places that are too small; and lends random bytes as a table, which the engine answers like any
+ * other. */
 #include <stdio.h>
 #include <stdlib.h>
 #include <string.h>
@@ -11,27 +12,38 @@ static furnacejade_table good;
 static uint8_t scratch[FURNACEJADE_SCRATCH];
 static unsigned tests;
 
+/* One event, of a record. */
+static uint8_t play(furnacejade_table *table, furnacejade_record record, furnacejade_answer *answer) {
+    memset(answer, 0xA5, sizeof *answer);
+    unsigned refusal = furnacejade_play(table, record, scratch, sizeof scratch, answer);
+    if (refusal != answer->refusal) {
+        printf("furnacejade_play returned another refusal than it answered\n");
+        exit(EXIT_FAILURE);
+    }
+    return answer->refusal;
+}
+
 static uint8_t look(const furnacejade_table *table, size_t controller) {
     furnacejade_look_answer answer;
     memset(&answer, 0xA5, sizeof answer);
     furnacejade_look(table, controller, &answer);
-    return answer.number;
+    return answer.refusal;
 }
 
 static uint8_t event(furnacejade_table *table, const uint8_t *bytes, size_t length, furnacejade_answer *answer) {
     memset(answer, 0xA5, sizeof *answer);
     size_t left = furnacejade_event(table, bytes, length, scratch, sizeof scratch, answer);
-    if (answer->number != 0 && left != length) {
+    if (answer->refusal != 0 && left != length) {
         printf("a refused event used bytes\n");
         exit(EXIT_FAILURE);
     }
-    return answer->number;
+    return answer->refusal;
 }
 
 static void expect(uint8_t got, uint8_t wanted, const char *field, size_t i, size_t j) {
     tests++;
     if (got == wanted) return;
-    printf("%s, %zu %zu: number %d, not %d\n", field, i, j, got, wanted);
+    printf("%s, %zu %zu: %d, not %d\n", field, i, j, got, wanted);
     exit(EXIT_FAILURE);
 }
 
@@ -44,7 +56,7 @@ static void expect_sums(furnacejade_sums got, furnacejade_sums wanted, const cha
     expect((uint8_t)(got.added == wanted.added && got.withdrawn == wanted.withdrawn), 1, field, i, j);
 }
 
-/* With this field changed, question 4 gives this number. */
+/* With this field changed, a look answers this refusal number. */
 #define CHANGED(field, value, wanted, i, j)              \
     do {                                                 \
         furnacejade_table t = good;                      \
@@ -53,7 +65,7 @@ static void expect_sums(furnacejade_sums got, furnacejade_sums wanted, const cha
     } while (0)
 
 /* With this field changed the table is not well formed; with that one it still is. */
-#define BREAKS(field, value, i, j) CHANGED(field, value, FURNACEJADE_TABLE, i, j)
+#define BREAKS(field, value, i, j) CHANGED(field, value, FURNACEJADE_REFUSED_TABLE, i, j)
 #define FREE(field, value, i, j) CHANGED(field, value, FURNACEJADE_ACCEPTED, i, j)
 
 /* The class of controller c's report in a table of version 2: each class comes. */
@@ -64,13 +76,13 @@ static void start(uint8_t version) {
     static furnacejade_fresh_answer fresh;
     static furnacejade_answer answer;
     furnacejade_fresh(version, FURNACEJADE_CONTROLLERS, &fresh);
-    expect(fresh.number, 0, "fresh", version, 0);
+    expect(fresh.refusal, 0, "fresh", version, 0);
     expect((uint8_t)fresh.table.version, version, "version", version, 0);
     good = fresh.table;
     for (uint8_t c = 1; c <= FURNACEJADE_CONTROLLERS; c++) {
         const uint8_t report[] = {4, 1, c, 0, c}, classed[] = {5, 1, c, 0, c, class_of(c)};
-        uint8_t number = version == 2 ? event(&good, classed, sizeof classed, &answer) : event(&good, report, sizeof report, &answer);
-        expect(number, 0, "report", c, version);
+        uint8_t refusal = version == 2 ? event(&good, classed, sizeof classed, &answer) : event(&good, report, sizeof report, &answer);
+        expect(refusal, 0, "report", c, version);
     }
     expect(look(&good, 1), 0, "good table", version, 0);
 }
@@ -84,7 +96,7 @@ static void classes(uint8_t version) {
         expect(good.messages[s].payload.weight_class, version == 2 ? class_of(s + 1) : 0, "weight_class", s, version);
         for (unsigned k = 0; k < 256; k++) {
             int fair = version == 2 ? k >= FURNACEJADE_CLASS_XL && k <= FURNACEJADE_CLASS_S : k == FURNACEJADE_CLASS_NONE;
-            CHANGED(messages[s].payload.weight_class, (uint8_t)k, fair ? FURNACEJADE_ACCEPTED : FURNACEJADE_TABLE, s, k);
+            CHANGED(messages[s].payload.weight_class, (uint8_t)k, fair ? FURNACEJADE_ACCEPTED : FURNACEJADE_REFUSED_TABLE, s, k);
         }
     }
 }
@@ -228,7 +240,7 @@ static void writes(void) {
     }
 }
 
-/* Of two controllers: what stands above n, behind the count and behind a log's end is neither tested nor used. */
+/* Of two controllers: what stands above n, after the last message and after a log's end is neither tested nor used. */
 static void unused(void) {
     static furnacejade_fresh_answer fresh;
     static furnacejade_answer answer;
@@ -257,54 +269,73 @@ static void unused(void) {
     expect((uint8_t)answer.size, 1, "two of two", 0, 0);
 }
 
-/* This writer, lent one byte too few, writes nothing. */
-#define NO_ROOM(call)                                            \
-    do {                                                         \
-        uint8_t small[7];                                        \
-        memset(small, 0xA5, sizeof small);                       \
-        expect((uint8_t)furnacejade_put_##call, 0, #call, 0, 0); \
-        expect(small[0], 0xA5, #call, 0, 1);                     \
-    } while (0)
-
 /* The same run in both versions. */
 static const uint8_t plain[] = {1, 3, 4, 1, 1, 0xFE, 0x98, 3, 3, 2, 1, 3, 3, 2, 2, 2, 2, 3, 3, 3, 1, 2, 4, 4, 2, 0, 1, 3, 3, 1, 3, 2, 5, 1,
                                 3, 3, 3, 1, 3, 3, 3, 1, 3, 3, 3, 3, 3, 3, 3, 3, 7, 6, 3, 8, 0xA1, 0xB2, 0xC3, 0xD4};
 static const uint8_t classed[] = {2, 3, 5, 1, 1, 0xFE, 0x98, 4, 3, 3, 2, 1, 3, 3, 2, 2, 2, 2, 3, 3, 3, 1, 2, 4, 4, 2, 0, 1, 3, 3, 1, 3, 2, 5, 1,
                                   3, 3, 3, 1, 3, 3, 3, 1, 3, 3, 3, 3, 3, 3, 3, 3, 7, 6, 3, 8, 0xA1, 0xB2, 0xC3, 0xD4};
 
-/* The writers give that file, byte for byte. */
-static void written(uint8_t version, const uint8_t *file, size_t size) {
-    uint8_t out[sizeof classed];
-    size_t at = furnacejade_put_head(out, sizeof out, version, 3);
-    if (version == 2) at += furnacejade_put_classed_report(out + at, sizeof out - at, 1, -360, FURNACEJADE_CLASS_S);
-    else at += furnacejade_put_report(out + at, sizeof out - at, 1, -360);
-    at += furnacejade_put_handover(out + at, sizeof out - at, 2, 1);
-    at += furnacejade_put_handover(out + at, sizeof out - at, 2, 2);
-    at += furnacejade_put_sync(out + at, sizeof out - at, 3);
-    at += furnacejade_put_handover(out + at, sizeof out - at, 1, 2);
-    at += furnacejade_put_stop(out + at, sizeof out - at, 2, 1);
-    at += furnacejade_put_handover(out + at, sizeof out - at, 1, 3);
-    at += furnacejade_put_local_read(out + at, sizeof out - at, 1);
-    for (uint8_t owner = 1; owner <= 3; owner += 2)
-        for (int entry = 0; entry < 2; entry++) at += furnacejade_put_handover(out + at, sizeof out - at, 3, owner);
-    at += furnacejade_put_write(out + at, sizeof out - at, 3, 8, 0xA1B2C3D4);
-    expect((uint8_t)at, (uint8_t)size, "written", version, 0);
-    expect((uint8_t)(memcmp(out, file, size) == 0), 1, "written", version, 1);
+/* The records of that run, one after the other; one of 0 bytes after the last. */
+static furnacejade_record record_at(uint8_t version, size_t i) {
+    switch (i) {
+    case 0: return version == 2 ? furnacejade_record_classed_report(1, -360, FURNACEJADE_CLASS_S) : furnacejade_record_report(1, -360);
+    case 1: return furnacejade_record_handover(2, 1);
+    case 2: return furnacejade_record_handover(2, 2);
+    case 3: return furnacejade_record_sync(3);
+    case 4: return furnacejade_record_handover(1, 2);
+    case 5: return furnacejade_record_stop(2, 1);
+    case 6: return furnacejade_record_handover(1, 3);
+    case 7: return furnacejade_record_local_read(1);
+    case 8: case 9: return furnacejade_record_handover(3, 1);
+    case 10: case 11: return furnacejade_record_handover(3, 3);
+    case 12: return furnacejade_record_write(3, 8, 0xA1B2C3D4);
+    default: return (furnacejade_record){0, {0}};
+    }
 }
 
-/* The writers need room, and the words of a number can be had. */
-static void writers(void) {
-    written(1, plain, sizeof plain);
-    written(2, classed, sizeof classed);
-    NO_ROOM(head(small, 1, 2, 3));
-    NO_ROOM(report(small, 4, 1, 1));
-    NO_ROOM(classed_report(small, 5, 1, 1, 1));
-    NO_ROOM(sync(small, 2, 1));
-    NO_ROOM(handover(small, 3, 1, 1));
-    NO_ROOM(stop(small, 4, 1, 1));
-    NO_ROOM(local_read(small, 2, 1));
-    NO_ROOM(write(small, 7, 1, 1, 1));
-    expect((uint8_t)strcmp(furnacejade_question(FURNACEJADE_FULL), "Has the run fewer than 64 messages?"), 0, "question", 12, 0);
+/* Writes that file into a place with this room, and looks at each result. Whether all of it fitted. */
+static int written(uint8_t version, uint8_t *out, size_t room, size_t *length) {
+    int fits = furnacejade_put_head(out, room, length, version, 3);
+    expect((uint8_t)fits, room >= 2, "head fits", version, room);
+    for (size_t i = 0; record_at(version, i).length > 0; i++) {
+        size_t before = *length, bytes = record_at(version, i).length;
+        int expected = fits && room - before >= bytes;
+        fits = furnacejade_put_record(out, room, length, record_at(version, i));
+        expect((uint8_t)fits, (uint8_t)expected, "record fits", i, room);
+        expect((uint8_t)(*length == (fits ? before + bytes : FURNACEJADE_NO_ROOM)), 1, "length", i, room);
+    }
+    return fits;
+}
+
+/* The records and the two functions that put them into a file give that file, byte for byte. Into a place that is too small
+ * they write what fits and nothing after it, and leave a length that the run of a file refuses without a look at its bytes. */
+static void files(uint8_t version, const uint8_t *file, size_t size) {
+    static furnacejade_run_answer run;
+    uint8_t out[sizeof classed + 1];
+    size_t length;
+    for (size_t room = 0; room <= size; room++) {
+        memset(out, 0xA5, sizeof out);
+        expect((uint8_t)written(version, out, room, &length), room == size, "file fits", version, room);
+        expect((uint8_t)(length == (room == size ? size : FURNACEJADE_NO_ROOM)), 1, "file's length", version, room);
+        for (size_t i = room; i < sizeof out; i++) expect(out[i], 0xA5, "bytes after the room", room, i);
+    }
+    expect((uint8_t)(memcmp(out, file, size) == 0), 1, "written", version, 0);
+    furnacejade_run(out, FURNACEJADE_NO_ROOM, scratch, 0, scratch, 0, &run);
+    expect(run.refusal, FURNACEJADE_REFUSED_FILE_LENGTH, "a file that did not fit", version, 0);
+}
+
+/* A record of a length that none has is not put, header and library are of one state, and the words of a number can be had. */
+static void words(void) {
+    uint8_t out[16];
+    size_t length = 0;
+    furnacejade_record odd = furnacejade_record_sync(1);
+    memset(out, 0xA5, sizeof out);
+    odd.length = FURNACEJADE_LONGEST_RECORD + 1;
+    expect((uint8_t)furnacejade_put_record(out, sizeof out, &length, odd), 0, "odd record", 0, 0);
+    expect(out[0], 0xA5, "odd record", 0, 1);
+    expect((uint8_t)(furnacejade_interface() == FURNACEJADE_INTERFACE), 1, "interface", 0, 0);
+    expect((uint8_t)strcmp(furnacejade_question(FURNACEJADE_REFUSED_FULL), "Has the run fewer than 64 messages?"), 0, "question", 12, 0);
+    expect((uint8_t)strcmp(furnacejade_question(FURNACEJADE_ACCEPTED), "none: accepted"), 0, "question", 0, 0);
     expect((uint8_t)strcmp(furnacejade_question(255), "no such number"), 0, "question", 255, 0);
 }
 
@@ -330,7 +361,7 @@ static void bytes(const uint8_t *file, size_t size) {
         size_t after[2];
         for (int d = 0; d < 2; d++) {
             after[d] = furnacejade_event(&fresh[d].table, record, left, area[d], sizeof area[d], &answer[d]);
-            expect(answer[d].number, 0, "event", e, (size_t)d);
+            expect(answer[d].refusal, 0, "event", e, (size_t)d);
             memset(area[d], -d, sizeof area[d]);
         }
         expect((uint8_t)(memcmp(&fresh[0].table, &fresh[1].table, sizeof good) == 0), 1, "table's bytes", e, 0);
@@ -339,9 +370,9 @@ static void bytes(const uint8_t *file, size_t size) {
     }
     for (int d = 0; d < 2; d++) {
         furnacejade_event(&fresh[d].table, refused, sizeof refused, area[d], sizeof area[d], &answer[d]);
-        expect(answer[d].number, FURNACEJADE_STOPPED, "refused", 0, (size_t)d);
+        expect(answer[d].refusal, FURNACEJADE_REFUSED_STOPPED, "refused", 0, (size_t)d);
         furnacejade_run(file, size, listing[d], sizeof listing[d], area[d], sizeof area[d], &run[d]);
-        expect(run[d].number, 0, "run", 0, (size_t)d);
+        expect(run[d].refusal, 0, "run", 0, (size_t)d);
         expect((uint8_t)(memcmp(&run[d].table, &fresh[1 - d].table, sizeof good) == 0), 1, "run's table's bytes", 0, (size_t)d);
     }
 }
@@ -352,19 +383,19 @@ static void zeros(void) {
     static const uint8_t later[] = {3, 3};
     static furnacejade_fresh_answer fresh;
     static furnacejade_run_answer run;
-    const struct { size_t version, n; uint8_t number; } refused[] = {
-        {0, 3, FURNACEJADE_VERSION}, {3, 3, FURNACEJADE_VERSION}, {257, 3, FURNACEJADE_VERSION},
-        {0, 0, FURNACEJADE_VERSION}, {1, 0, FURNACEJADE_COUNT},   {2, 8, FURNACEJADE_COUNT},
+    const struct { size_t version, n; uint8_t refusal; } refused[] = {
+        {0, 3, FURNACEJADE_REFUSED_VERSION}, {3, 3, FURNACEJADE_REFUSED_VERSION},          {257, 3, FURNACEJADE_REFUSED_VERSION},
+        {0, 0, FURNACEJADE_REFUSED_VERSION}, {1, 0, FURNACEJADE_REFUSED_CONTROLLER_COUNT}, {2, 8, FURNACEJADE_REFUSED_CONTROLLER_COUNT},
     };
     for (size_t i = 0; i < sizeof refused / sizeof refused[0]; i++) {
         memset(&fresh, 0xA5, sizeof fresh);
         furnacejade_fresh(refused[i].version, refused[i].n, &fresh);
-        expect(fresh.number, refused[i].number, "refused fresh", refused[i].version, refused[i].n);
+        expect(fresh.refusal, refused[i].refusal, "refused fresh", refused[i].version, refused[i].n);
         expect((uint8_t)(memcmp(&fresh.table, &zero, sizeof zero) == 0), 1, "refused table's bytes", i, 0);
     }
     memset(&run, 0xA5, sizeof run);
     furnacejade_run(later, sizeof later, scratch, 0, scratch, 0, &run);
-    expect(run.number, FURNACEJADE_VERSION, "refused file", 0, 0);
+    expect(run.refusal, FURNACEJADE_REFUSED_VERSION, "refused file", 0, 0);
     expect((uint8_t)(memcmp(&run.table, &zero, sizeof zero) == 0), 1, "refused file's table's bytes", 0, 0);
 }
 
@@ -391,7 +422,7 @@ static void answers(void) {
     expect(answer.names[63].sender, 0, "names.sender", 63, 0);
     memset(&run, 0xA5, sizeof run);
     furnacejade_run(synced, sizeof synced, listing, sizeof listing, scratch, sizeof scratch, &run);
-    expect(run.number, 0, "run.number", 0, 0);
+    expect(run.refusal, 0, "run.refusal", 0, 0);
     expect((uint8_t)run.events, 5, "run.events", 0, 0);
     static const char lines[] = "3 1 30 7 1.1 1.2\n5 1 30 7 1.3\n";
     expect((uint8_t)run.written, sizeof lines - 1, "run.written", 0, 0);
@@ -411,21 +442,20 @@ static void local_reads(uint8_t version) {
     static const furnacejade_name none[FURNACEJADE_MESSAGES];
     static furnacejade_fresh_answer fresh;
     static furnacejade_answer answer;
-    uint8_t record[6];
     furnacejade_fresh(version, 1, &fresh);
     for (size_t i = 0; i < 2; i++) {
-        size_t length = version == 2 ? furnacejade_put_classed_report(record, sizeof record, 1, amounts[i], FURNACEJADE_CLASS_M)
-                                     : furnacejade_put_report(record, sizeof record, 1, amounts[i]);
-        expect(event(&fresh.table, record, length, &answer), 0, "report before a local read", version, i);
+        furnacejade_record in_class = furnacejade_record_classed_report(1, amounts[i], FURNACEJADE_CLASS_M);
+        furnacejade_record report = version == 2 ? in_class : furnacejade_record_report(1, amounts[i]);
+        expect(play(&fresh.table, report, &answer), 0, "report before a local read", version, i);
     }
-    expect(event(&fresh.table, read, sizeof read, &answer), FURNACEJADE_READ_PENDING, "local read", version, 0);
+    expect(event(&fresh.table, read, sizeof read, &answer), FURNACEJADE_REFUSED_READ_PENDING, "local read", version, 0);
     expect(event(&fresh.table, handover, sizeof handover, &answer), 0, "handover before a local read", version, 0);
     furnacejade_table before = fresh.table;
     memset(&answer, 0xA5, sizeof answer);
     memset(scratch, 0xA5, sizeof scratch);
     size_t left = furnacejade_event(&fresh.table, read, sizeof read, scratch, sizeof scratch, &answer);
     expect((uint8_t)left, 1, "local read's rest", version, 0);
-    expect(answer.number, 0, "local read", version, 1);
+    expect(answer.refusal, 0, "local read", version, 1);
     expect(answer.finished, 0, "local read's finished", version, 0);
     expect_sums(answer.sums, reported, "local read's sums", version, 0);
     expect((uint8_t)answer.size, 0, "local read's size", version, 0);
@@ -447,21 +477,19 @@ static void class_sums(void) {
     furnacejade_look_answer shown;
     furnacejade_fresh(2, 1, &fresh);
     for (uint8_t i = 0; i < 5; i++) {
-        uint8_t record[6];
-        size_t length = furnacejade_put_classed_report(record, sizeof record, 1, amounts[i], class_of(i));
-        expect(event(&fresh.table, record, length, &answer), 0, "classed report", i, 0);
+        expect(play(&fresh.table, furnacejade_record_classed_report(1, amounts[i], class_of(i)), &answer), 0, "classed report", i, 0);
         expect(event(&fresh.table, handover, sizeof handover, &answer), 0, "classed handover", i, 0);
     }
     for (size_t c = 1; c <= 2; c++) {
         memset(&shown, 0xA5, sizeof shown);
         furnacejade_look(&fresh.table, c, &shown);
-        expect(shown.number, c == 1 ? FURNACEJADE_ACCEPTED : FURNACEJADE_CONTROLLER, "look", c, 0);
+        expect(shown.refusal, c == 1 ? FURNACEJADE_ACCEPTED : FURNACEJADE_REFUSED_CONTROLLER, "look", c, 0);
         expect_sums(shown.panel.sums, c == 1 ? whole : zero_sums, "look.sums", c, 0);
         for (size_t k = 0; k < FURNACEJADE_CLASSES; k++) expect_sums(shown.panel.classes[k], c == 1 ? classes[k] : zero_sums, "look.classes", c, k);
     }
 }
 
-/* How many put the one before the other, and the number, of an answer that was dirty before. */
+/* How many put the one before the other, and the refusal, of an answer that was dirty before. */
 static furnacejade_count_answer count(const furnacejade_table *table, size_t controller, furnacejade_name first, furnacejade_name second) {
     furnacejade_count_answer answer;
     memset(&answer, 0xA5, sizeof answer);
@@ -469,8 +497,8 @@ static furnacejade_count_answer count(const furnacejade_table *table, size_t con
     return answer;
 }
 
-static void expect_count(furnacejade_count_answer got, uint8_t number, size_t wanted, const char *field, size_t i, size_t j) {
-    expect(got.number, number, field, i, j);
+static void expect_count(furnacejade_count_answer got, uint8_t refusal, size_t wanted, const char *field, size_t i, size_t j) {
+    expect(got.refusal, refusal, field, i, j);
     expect((uint8_t)(got.count == wanted), 1, field, i, j);
 }
 
@@ -510,14 +538,14 @@ static void counts(void) {
     const furnacejade_name one = {1, {1}}, none = {0, {0}};
     memset(t.controllers[0].pending[0].marks, 1, FURNACEJADE_CONTROLLERS);
     furnacejade_table before = t;
-    expect_count(count(&t, 0, one, none), FURNACEJADE_CONTROLLER, 0, "count at", 0, 0);
+    expect_count(count(&t, 0, one, none), FURNACEJADE_REFUSED_CONTROLLER, 0, "count at", 0, 0);
     expect_count(count(&t, 1, one, none), 0, FURNACEJADE_CONTROLLERS, "count at", 1, 0);
-    expect_count(count(&t, 8, one, none), FURNACEJADE_CONTROLLER, 0, "count at", 8, 0);
-    expect_count(count(&t, 257, one, none), FURNACEJADE_CONTROLLER, 0, "count at", 257, 0);
+    expect_count(count(&t, 8, one, none), FURNACEJADE_REFUSED_CONTROLLER, 0, "count at", 8, 0);
+    expect_count(count(&t, 257, one, none), FURNACEJADE_REFUSED_CONTROLLER, 0, "count at", 257, 0);
     expect((uint8_t)(memcmp(&t, &before, sizeof t) == 0), 1, "count's table", 0, 0);
     t.version = 3;
-    expect_count(count(&t, 1, one, none), FURNACEJADE_TABLE, 0, "count in a table of version 3", 1, 0);
-    expect_count(count(&t, 0, one, none), FURNACEJADE_TABLE, 0, "count in a table of version 3", 0, 0);
+    expect_count(count(&t, 1, one, none), FURNACEJADE_REFUSED_TABLE, 0, "count in a table of version 3", 1, 0);
+    expect_count(count(&t, 0, one, none), FURNACEJADE_REFUSED_TABLE, 0, "count in a table of version 3", 0, 0);
 }
 
 /* What a look shows of each register: controller 1, alone, sets each to its own value and then register 8 once more. A write
@@ -527,28 +555,25 @@ static void registers(void) {
     static furnacejade_fresh_answer fresh;
     static furnacejade_answer answer;
     furnacejade_look_answer shown;
-    uint8_t record[8];
     furnacejade_fresh(1, 1, &fresh);
     for (uint8_t i = 0; i <= FURNACEJADE_REGISTERS; i++) {
         uint8_t r = i < FURNACEJADE_REGISTERS ? (uint8_t)(i + 1) : FURNACEJADE_REGISTERS;
-        size_t length = furnacejade_put_write(record, sizeof record, 1, r, UINT32_MAX - i);
-        expect(event(&fresh.table, record, length, &answer), FURNACEJADE_NOT_SYNCED, "write without a sync", i, 0);
+        furnacejade_record write = furnacejade_record_write(1, r, UINT32_MAX - i);
+        expect(play(&fresh.table, write, &answer), FURNACEJADE_REFUSED_NOT_SYNCED, "write without a sync", i, 0);
         expect(event(&fresh.table, sync, sizeof sync, &answer), 0, "sync before a write", i, 0);
-        expect(event(&fresh.table, record, length, &answer), FURNACEJADE_OWN_PENDING, "write before the sync is applied", i, 0);
+        expect(play(&fresh.table, write, &answer), FURNACEJADE_REFUSED_OWN_PENDING, "write before the sync is applied", i, 0);
         expect(event(&fresh.table, handover, sizeof handover, &answer), 0, "handover before a write", i, 0);
-        expect(event(&fresh.table, record, length, &answer), 0, "write", i, 0);
+        expect(play(&fresh.table, write, &answer), 0, "write", i, 0);
         expect((uint8_t)answer.size, 0, "write's size", i, 0);
         expect(event(&fresh.table, handover, sizeof handover, &answer), 0, "handover after a write", i, 0);
         expect(answer.finished, 0, "write's finished", i, 0);
     }
-    for (uint8_t r = 0; r <= FURNACEJADE_REGISTERS + 1; r += FURNACEJADE_REGISTERS + 1) {
-        size_t length = furnacejade_put_write(record, sizeof record, 1, r, 1);
-        expect(event(&fresh.table, record, length, &answer), FURNACEJADE_REGISTER, "register", r, 0);
-    }
+    for (uint8_t r = 0; r <= FURNACEJADE_REGISTERS + 1; r += FURNACEJADE_REGISTERS + 1)
+        expect(play(&fresh.table, furnacejade_record_write(1, r, 1), &answer), FURNACEJADE_REFUSED_REGISTER, "register", r, 0);
     for (size_t c = 1; c <= 2; c++) {
         memset(&shown, 0xA5, sizeof shown);
         furnacejade_look(&fresh.table, c, &shown);
-        expect(shown.number, c == 1 ? FURNACEJADE_ACCEPTED : FURNACEJADE_CONTROLLER, "look", c, 0);
+        expect(shown.refusal, c == 1 ? FURNACEJADE_ACCEPTED : FURNACEJADE_REFUSED_CONTROLLER, "look", c, 0);
         expect_sums(shown.panel.sums, zero_sums, "look.sums", c, 0);
         for (uint8_t r = 1; r <= FURNACEJADE_REGISTERS; r++) {
             furnacejade_register first = {UINT32_MAX - (r - 1u), {1, 1}}, second = {UINT32_MAX - r, {2, 1}}, none = {0, {0, 0}};
@@ -593,7 +618,9 @@ int main(void) {
     writes();
     counts();
     unused();
-    writers();
+    files(1, plain, sizeof plain);
+    files(2, classed, sizeof classed);
+    words();
     bytes(plain, sizeof plain);
     bytes(classed, sizeof classed);
     zeros();

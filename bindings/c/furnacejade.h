@@ -15,12 +15,21 @@
  *     that it has not written. The proofs speak of memory in which every byte has been set once, no matter to what.
  * Nothing else is asked: every pattern of bytes is a table, and a call answers it.
  *
- * Tables as bytes. A table has no padding: its size is the sum of the sizes of its fields, which is asserted below. So
+ * At the start, see that header and library are of one state:
+ *
+ *     if (furnacejade_interface() != FURNACEJADE_INTERFACE) return EXIT_FAILURE;
+ *
+ * Reading a table. Its fields may be read, and so may those of answers; "OVER A TABLE" below has functions for what a caller
+ * asks most. Only the calls should write to a table. They refuse one that is not well formed (question 4), but that is a test
+ * of form and no checksum.
+ *
+ * Comparing by bytes. A table has no padding: its size is the sum of the sizes of its fields, which is asserted below. So
  * two tables have the same fields exactly if memcmp finds them equal, equal calls make equal tables byte for byte, and a
  * table may be copied, saved, sent and hashed as sizeof(furnacejade_table) bytes, between x86-64 programs that were built
- * with the same version of this header. Answers have padding, which a call may leave as anything, old bytes of the stack
- * among them: furnacejade_answer at bytes 2, 3 and 12 to 15, furnacejade_look_answer at 1 to 3, furnacejade_fresh_answer,
- * furnacejade_run_answer and furnacejade_count_answer at 1 to 7. Compare, save and send answers field by field. */
+ * with one FURNACEJADE_INTERFACE. Answers and records are not to be compared by bytes. Answers have padding, which a call may
+ * leave as anything, old bytes of the stack among them: furnacejade_answer at bytes 2, 3 and 12 to 15,
+ * furnacejade_look_answer at 1 to 3, furnacejade_fresh_answer, furnacejade_run_answer and furnacejade_count_answer at 1 to 7.
+ * Compare, save and send answers field by field. */
 #ifndef FURNACEJADE_H
 #define FURNACEJADE_H
 
@@ -35,14 +44,19 @@ extern "C" {
 #endif
 
 enum {
-    FURNACEJADE_CONTROLLERS = 7, /* at most so many controllers */
-    FURNACEJADE_MESSAGES = 64,   /* at most so many messages in a run */
-    FURNACEJADE_CLASSES = 5,     /* a panel shows the sums of so many classes, of none among them */
-    FURNACEJADE_REGISTERS = 8,   /* a panel shows so many registers */
-    FURNACEJADE_SCRATCH = 4096,  /* an event asks for so many bytes of scratch */
-    FURNACEJADE_LISTING = 16384, /* no run file fills so many bytes of listing */
-    FURNACEJADE_ABSENT = 255     /* the mark of a controller that is not known to have forwarded a message */
+    FURNACEJADE_INTERFACE = 1,      /* the state of this header; furnacejade_interface() answers that of the library */
+    FURNACEJADE_CONTROLLERS = 7,    /* the most controllers that a run can have */
+    FURNACEJADE_MESSAGES = 64,      /* the most messages that a run can have */
+    FURNACEJADE_CLASSES = 5,        /* the classes of which a panel shows sums, FURNACEJADE_CLASS_NONE among them */
+    FURNACEJADE_REGISTERS = 8,      /* the registers that a panel shows */
+    FURNACEJADE_SCRATCH = 4096,     /* the bytes of scratch that an event asks for */
+    FURNACEJADE_LISTING = 16384,    /* more bytes of listing than any run file fills */
+    FURNACEJADE_LONGEST_RECORD = 8, /* the bytes of the longest record, a write */
+    FURNACEJADE_ABSENT = 255        /* the mark of a controller that is not known to have forwarded a message */
 };
+
+/* The length of a run file that did not fit into its place. No file has it: furnacejade_run refuses it by question 1. */
+#define FURNACEJADE_NO_ROOM ((size_t)-1)
 
 /* Weight classes. A report of version 2 names one of the four; a report of version 1, and every sync and write, has none. */
 enum {
@@ -53,44 +67,47 @@ enum {
     FURNACEJADE_CLASS_S = 4
 };
 
-/* Refusal numbers, each with its name (FURNACEJADE_ stands before it) and the question that was the first to be answered
- * no. What a caller does after each stands in README.md, "Refusal numbers". */
-#define FURNACEJADE_REFUSALS(X)                                                                    \
-    X(0, ACCEPTED, "none: accepted")                                                               \
-    X(1, FILE_LENGTH, "Has the file 2 to 65,535 bytes?")                                           \
-    X(2, VERSION, "Is the version 1 or 2?")                                                        \
-    X(3, COUNT, "Is the number of controllers from 1 to 7?")                                       \
-    X(4, TABLE, "Is the table well formed?")                                                       \
-    X(5, RECORD, "Are the length byte and all the bytes it counts there?")                         \
-    X(6, KIND, "Is there a kind, from 1 to 6?")                                                    \
-    X(7, LENGTH, "Is the length that of the kind?")                                                \
-    X(8, CONTROLLER, "Is every controller named from 1 to n?")                                     \
-    X(9, AMOUNT, "Is a report's amount from -360 to 360 and not 0?")                               \
-    X(10, STOPPED, "Is the sender, receiver, or controller to be stopped or read still running?")  \
-    X(11, OWN_PENDING, "Has the sender of a sync or write no message of its own pending?")         \
-    X(12, FULL, "Has the run fewer than 64 messages?")                                             \
-    X(13, NO_ENTRY, "Does the log have an entry that the receiver has not read?")                  \
-    X(14, KEPT, "Is the length kept at most the log's, and at least every read position in it?")   \
-    X(15, SCRATCH_LENGTH, "Has the scratch area 4,096 bytes or more?")                             \
-    X(16, LISTING_LENGTH, "Does the line fit in what is left of the listing?")                     \
-    X(17, CLASS, "Is the class of a report of version 2 from 1 to 4?")                             \
-    X(18, READ_PENDING, "Has the controller of a local read no message of its own pending?")       \
-    X(19, REGISTER, "Is the register of a write from 1 to 8?")                                     \
+/* Refusal numbers, each with its name (FURNACEJADE_REFUSED_ stands before it) and the question that was the first to be
+ * answered no. Number 0, FURNACEJADE_ACCEPTED, is no refusal. What a caller does after each stands in docs/API.md,
+ * "Refusal numbers". Question 4 is a test of form and no checksum: a table in which a report of 30 eggs was changed to 31
+ * passes. */
+#define FURNACEJADE_REFUSALS(X)                                                                   \
+    X(1, FILE_LENGTH, "Has the file 2 to 65,535 bytes?")                                          \
+    X(2, VERSION, "Is the version 1 or 2?")                                                       \
+    X(3, CONTROLLER_COUNT, "Is the number of controllers from 1 to 7?")                           \
+    X(4, TABLE, "Is the table well formed?")                                                      \
+    X(5, RECORD, "Are the length byte and all the bytes it counts there?")                        \
+    X(6, KIND, "Is there a kind, from 1 to 6?")                                                   \
+    X(7, RECORD_LENGTH, "Is the length that of the kind?")                                        \
+    X(8, CONTROLLER, "Is every controller named from 1 to n?")                                    \
+    X(9, AMOUNT, "Is a report's amount from -360 to 360 and not 0?")                              \
+    X(10, STOPPED, "Is the sender, receiver, or controller to be stopped or read still running?") \
+    X(11, OWN_PENDING, "Has the sender of a sync or write no message of its own pending?")        \
+    X(12, FULL, "Has the run fewer than 64 messages?")                                            \
+    X(13, NO_ENTRY, "Does the log have an entry that the receiver has not read?")                 \
+    X(14, KEPT, "Is the length kept at most the log's, and at least every read position in it?")  \
+    X(15, SCRATCH, "Has the scratch area 4,096 bytes or more?")                                   \
+    X(16, LISTING, "Does the line fit in what is left of the listing?")                           \
+    X(17, CLASS, "Is the class of a report of version 2 from 1 to 4?")                            \
+    X(18, READ_PENDING, "Has the controller of a local read no message of its own pending?")      \
+    X(19, REGISTER, "Is the register of a write from 1 to 8?")                                    \
     X(20, NOT_SYNCED, "Is the latest message of a write's sender a sync that it has applied?")
 
 enum {
-#define FURNACEJADE_NUMBER(number, name, question) FURNACEJADE_##name = number,
+    FURNACEJADE_ACCEPTED = 0,
+#define FURNACEJADE_NUMBER(number, name, question) FURNACEJADE_REFUSED_##name = number,
     FURNACEJADE_REFUSALS(FURNACEJADE_NUMBER)
 #undef FURNACEJADE_NUMBER
 };
 
-/* The words of a refusal number:
+/* The question of a refusal number:
  *
- *     if (answer.number != FURNACEJADE_ACCEPTED)
- *         fprintf(stderr, "refused by question %d: %s\n", answer.number, furnacejade_question(answer.number));
+ *     if (answer.refusal != FURNACEJADE_ACCEPTED)
+ *         fprintf(stderr, "refused by question %d: %s\n", answer.refusal, furnacejade_question(answer.refusal));
  */
-static inline const char *furnacejade_question(unsigned number) {
-    switch (number) {
+static inline const char *furnacejade_question(unsigned refusal) {
+    switch (refusal) {
+    case FURNACEJADE_ACCEPTED: return "none: accepted";
 #define FURNACEJADE_CASE(number, name, question) \
     case number: return question;
         FURNACEJADE_REFUSALS(FURNACEJADE_CASE)
@@ -183,35 +200,35 @@ typedef struct {
 
 /* What furnacejade_event answers. */
 typedef struct {
-    uint8_t number;                               /* the refusal number, 0 if accepted */
+    uint8_t refusal;                              /* the refusal number, 0 if accepted */
     uint8_t finished;                             /* 1 if a sync of the receiver's own is in the set applied, else 0 */
     furnacejade_sums sums;                        /* then that sync's answer, the sums after the set; what an accepted local
                                                      read gives, with finished 0; else zeros */
     size_t size;                                  /* how many messages the set has */
-    furnacejade_name names[FURNACEJADE_MESSAGES]; /* their names, by sender and then number; zeros behind them */
+    furnacejade_name names[FURNACEJADE_MESSAGES]; /* their names, by sender and then number; zeros after them */
 } furnacejade_answer;
 
 /* What furnacejade_fresh answers. */
 typedef struct {
-    uint8_t number;          /* the refusal number, 0 if accepted */
+    uint8_t refusal;         /* the refusal number, 0 if accepted */
     furnacejade_table table; /* the fresh table; all zero if refused */
 } furnacejade_fresh_answer;
 
 /* What furnacejade_look answers. */
 typedef struct {
-    uint8_t number;          /* the refusal number, 0 if accepted */
+    uint8_t refusal;         /* the refusal number, 0 if accepted */
     furnacejade_panel panel; /* what the panel shows; zero if refused */
 } furnacejade_look_answer;
 
 /* What furnacejade_count_before answers. */
 typedef struct {
-    uint8_t number; /* the refusal number, 0 if accepted */
-    size_t count;   /* how many controllers put the first message before the second, 0 to n; 0 if refused */
+    uint8_t refusal; /* the refusal number, 0 if accepted */
+    size_t count;    /* how many controllers put the first message before the second, 0 to n; 0 if refused */
 } furnacejade_count_answer;
 
 /* What furnacejade_run answers. */
 typedef struct {
-    uint8_t number;          /* the refusal number, 0 if the whole file was accepted */
+    uint8_t refusal;         /* the refusal number, 0 if the whole file was accepted */
     size_t events;           /* how many events were accepted */
     size_t written;          /* how many bytes of the listing were written */
     furnacejade_table table; /* the last table; all zero after refusals 1 to 3 */
@@ -270,22 +287,22 @@ FURNACEJADE_AT(furnacejade_panel, sums, 0);
 FURNACEJADE_AT(furnacejade_panel, classes, 8);
 FURNACEJADE_AT(furnacejade_panel, registers, 48);
 FURNACEJADE_BYTES(furnacejade_answer, 152);
-FURNACEJADE_AT(furnacejade_answer, number, 0);
+FURNACEJADE_AT(furnacejade_answer, refusal, 0);
 FURNACEJADE_AT(furnacejade_answer, finished, 1);
 FURNACEJADE_AT(furnacejade_answer, sums, 4);
 FURNACEJADE_AT(furnacejade_answer, size, 16);
 FURNACEJADE_AT(furnacejade_answer, names, 24);
 FURNACEJADE_BYTES(furnacejade_fresh_answer, 6040);
-FURNACEJADE_AT(furnacejade_fresh_answer, number, 0);
+FURNACEJADE_AT(furnacejade_fresh_answer, refusal, 0);
 FURNACEJADE_AT(furnacejade_fresh_answer, table, 8);
 FURNACEJADE_BYTES(furnacejade_look_answer, 116);
-FURNACEJADE_AT(furnacejade_look_answer, number, 0);
+FURNACEJADE_AT(furnacejade_look_answer, refusal, 0);
 FURNACEJADE_AT(furnacejade_look_answer, panel, 4);
 FURNACEJADE_BYTES(furnacejade_count_answer, 16);
-FURNACEJADE_AT(furnacejade_count_answer, number, 0);
+FURNACEJADE_AT(furnacejade_count_answer, refusal, 0);
 FURNACEJADE_AT(furnacejade_count_answer, count, 8);
 FURNACEJADE_BYTES(furnacejade_run_answer, 6056);
-FURNACEJADE_AT(furnacejade_run_answer, number, 0);
+FURNACEJADE_AT(furnacejade_run_answer, refusal, 0);
 FURNACEJADE_AT(furnacejade_run_answer, events, 8);
 FURNACEJADE_AT(furnacejade_run_answer, written, 16);
 FURNACEJADE_AT(furnacejade_run_answer, table, 24);
@@ -314,103 +331,195 @@ FURNACEJADE_FULLY(furnacejade_table,
 #undef FURNACEJADE_BYTES
 #undef FURNACEJADE_ASSERT
 
-/* WRITERS of a run file's parts, each into the first bytes of a buffer that has room for so many. Each returns how many
- * bytes it wrote, or 0, with nothing written, if they do not fit. They ask nothing of the values: that is the event's.
- * A report is written for files and tables of one version; the other records are the same in both.
+/* RECORDS. Each is made by value, so that no place can be too small for it. Nothing is asked of the fields here: the event
+ * that is made of the record answers what is wrong with them. A report is written for tables and files of one version; the
+ * other records are the same in both.
  *
- *     size_t size = furnacejade_put_head(file, sizeof file, 2, 3);
- *     size += furnacejade_put_classed_report(file + size, sizeof file - size, 1, 30, FURNACEJADE_CLASS_XL);
- *     size += furnacejade_put_handover(file + size, sizeof file - size, 2, 1);
+ *     furnacejade_play(table, furnacejade_record_handover(2, 1), scratch, sizeof scratch, &answer);
  */
+typedef struct {
+    size_t length; /* how many bytes the record has, its length byte among them */
+    uint8_t bytes[FURNACEJADE_LONGEST_RECORD];
+} furnacejade_record;
 
-/* The two bytes that a run file begins with: its version, 1 or 2, and the number of controllers. */
-static inline size_t furnacejade_put_head(uint8_t *out, size_t room, uint8_t version, uint8_t n) {
-    if (room < 2) return 0;
-    out[0] = version;
-    out[1] = n;
-    return 2;
+/* Kind 1 in version 1: a report of an amount by its sender. Any number of a sender's reports may be pending. */
+static inline furnacejade_record furnacejade_record_report(uint8_t sender, int16_t amount) {
+    furnacejade_record record = {5, {4, 1, sender, (uint8_t)((uint16_t)amount >> 8), (uint8_t)((uint16_t)amount & 255)}};
+    return record;
 }
 
-/* Kind 1 in version 1: a report of an amount by its sender, 5 bytes. Any number of a sender's reports may be pending. */
-static inline size_t furnacejade_put_report(uint8_t *out, size_t room, uint8_t sender, int16_t amount) {
-    if (room < 5) return 0;
-    out[0] = 4;
-    out[1] = 1;
-    out[2] = sender;
-    out[3] = (uint8_t)((uint16_t)amount >> 8);
-    out[4] = (uint8_t)((uint16_t)amount & 255);
-    return 5;
+/* Kind 1 in version 2: a report of an amount of one weight class by its sender. */
+static inline furnacejade_record furnacejade_record_classed_report(uint8_t sender, int16_t amount, uint8_t weight_class) {
+    furnacejade_record record = {
+        6, {5, 1, sender, (uint8_t)((uint16_t)amount >> 8), (uint8_t)((uint16_t)amount & 255), weight_class}};
+    return record;
 }
 
-/* Kind 1 in version 2: a report of an amount of one weight class by its sender, 6 bytes. */
-static inline size_t furnacejade_put_classed_report(uint8_t *out, size_t room, uint8_t sender, int16_t amount, uint8_t weight_class) {
-    if (room < 6) return 0;
-    out[0] = 5;
-    out[1] = 1;
-    out[2] = sender;
-    out[3] = (uint8_t)((uint16_t)amount >> 8);
-    out[4] = (uint8_t)((uint16_t)amount & 255);
-    out[5] = weight_class;
-    return 6;
+/* Kind 2: a sync by its sender. The handover with which the sender applies it answers finished 1 and the sums. A message is
+ * finished when its own sender has applied it: every message of any controller that was finished before the sync was sent is
+ * in these sums. A sync is refused (11) while a message of the sender's own is pending. */
+static inline furnacejade_record furnacejade_record_sync(uint8_t sender) {
+    furnacejade_record record = {3, {2, 2, sender}};
+    return record;
 }
 
-/* Kind 2: a sync by its sender, 3 bytes. The handover with which the sender applies it answers finished 1 and the sums. In them
- * is every message of any controller that was finished, which is applied by the one who sent it, before the sync was sent. It
- * is refused (11) while a message of the sender's own is pending. */
-static inline size_t furnacejade_put_sync(uint8_t *out, size_t room, uint8_t sender) {
-    if (room < 3) return 0;
-    out[0] = 2;
-    out[1] = 2;
-    out[2] = sender;
-    return 3;
+/* Kind 3: a handover to a receiver of the next entry of an owner's log. */
+static inline furnacejade_record furnacejade_record_handover(uint8_t receiver, uint8_t owner) {
+    furnacejade_record record = {4, {3, 3, receiver, owner}};
+    return record;
 }
 
-/* Kind 3: a handover to a receiver of the next entry of an owner's log, 4 bytes. */
-static inline size_t furnacejade_put_handover(uint8_t *out, size_t room, uint8_t receiver, uint8_t owner) {
-    if (room < 4) return 0;
-    out[0] = 3;
-    out[1] = 3;
-    out[2] = receiver;
-    out[3] = owner;
-    return 4;
+/* Kind 4: a stop of a controller, whose log is cut to the length kept. */
+static inline furnacejade_record furnacejade_record_stop(uint8_t controller, uint16_t kept) {
+    furnacejade_record record = {5, {4, 4, controller, (uint8_t)(kept >> 8), (uint8_t)(kept & 255)}};
+    return record;
 }
 
-/* Kind 4: a stop of a controller, whose log is cut to the length kept, 5 bytes. */
-static inline size_t furnacejade_put_stop(uint8_t *out, size_t room, uint8_t controller, uint16_t kept) {
-    if (room < 5) return 0;
-    out[0] = 4;
-    out[1] = 4;
-    out[2] = controller;
-    out[3] = (uint8_t)(kept >> 8);
-    out[4] = (uint8_t)(kept & 255);
-    return 5;
+/* Kind 5: a local read of a controller's sums. It sends no message and leaves the table as it is. The sums stand in the
+ * answer, and may lack what is finished elsewhere. It is refused (18) while a message of the controller's own is pending. */
+static inline furnacejade_record furnacejade_record_local_read(uint8_t controller) {
+    furnacejade_record record = {3, {2, 5, controller}};
+    return record;
 }
 
-/* Kind 5: a local read of a controller's sums, 3 bytes. It sends no message and leaves the table as it is; the sums stand in
- * the answer, and may lack what is finished elsewhere. It is refused (18) while a message of the controller's own is pending. */
-static inline size_t furnacejade_put_local_read(uint8_t *out, size_t room, uint8_t controller) {
-    if (room < 3) return 0;
-    out[0] = 2;
-    out[1] = 5;
-    out[2] = controller;
-    return 3;
-}
-
-/* Kind 6: a write of a register, 1 to 8, by its sender, 8 bytes. Its sender's latest message is a sync that the sender has
- * applied: right behind a finished sync the write is accepted, and else refused (20), or (11) while a message of the
+/* Kind 6: a write of a register, 1 to 8, by its sender. Its sender sends a sync first, applies it, and then writes before it
+ * sends anything else. A write is refused (20) if the sender's latest message is no sync, and (11) while a message of the
  * sender's own is pending. */
-static inline size_t furnacejade_put_write(uint8_t *out, size_t room, uint8_t sender, uint8_t reg, uint32_t value) {
-    if (room < 8) return 0;
-    out[0] = 7;
-    out[1] = 6;
-    out[2] = sender;
-    out[3] = reg;
-    out[4] = (uint8_t)(value >> 24);
-    out[5] = (uint8_t)(value >> 16 & 255);
-    out[6] = (uint8_t)(value >> 8 & 255);
-    out[7] = (uint8_t)(value & 255);
-    return 8;
+static inline furnacejade_record furnacejade_record_write(uint8_t sender, uint8_t reg, uint32_t value) {
+    furnacejade_record record = {8, {7, 6, sender, reg, (uint8_t)(value >> 24), (uint8_t)(value >> 16 & 255),
+                                     (uint8_t)(value >> 8 & 255), (uint8_t)(value & 255)}};
+    return record;
 }
+
+/* RUN FILES. A file is written from its head on into a place with room for a given number of bytes, and *length counts what
+ * has been written. Each function returns 1 if its bytes fit. Otherwise it writes nothing and returns 0, and *length becomes
+ * FURNACEJADE_NO_ROOM and stays that, whatever is put after it. The compiler warns where the result is not looked at.
+ *
+ *     size_t length;
+ *     if (!furnacejade_put_head(file, sizeof file, &length, 1, 3)
+ *         || !furnacejade_put_record(file, sizeof file, &length, furnacejade_record_report(1, 30))
+ *         || !furnacejade_put_record(file, sizeof file, &length, furnacejade_record_handover(2, 1))) return EXIT_FAILURE;
+ */
+#if defined(__GNUC__)
+#define FURNACEJADE_USE_RESULT __attribute__((warn_unused_result))
+#else
+#define FURNACEJADE_USE_RESULT
+#endif
+
+/* The two bytes that a run file begins with: its version, 1 or 2, and the number of controllers. It sets *length. */
+FURNACEJADE_USE_RESULT static inline int furnacejade_put_head(uint8_t *file, size_t room, size_t *length, uint8_t version, uint8_t n) {
+    *length = FURNACEJADE_NO_ROOM;
+    if (room < 2) return 0;
+    file[0] = version;
+    file[1] = n;
+    *length = 2;
+    return 1;
+}
+
+/* One more record at the end of the file. */
+FURNACEJADE_USE_RESULT static inline int furnacejade_put_record(uint8_t *file, size_t room, size_t *length, furnacejade_record record) {
+    size_t end = *length;
+    *length = FURNACEJADE_NO_ROOM;
+    if (end > room || record.length > sizeof record.bytes || room - end < record.length) return 0;
+    for (size_t i = 0; i < record.length; i++) file[end + i] = record.bytes[i];
+    *length = end + record.length;
+    return 1;
+}
+#undef FURNACEJADE_USE_RESULT
+
+/* OVER A TABLE. What a caller asks most of a table, read from its fields. These functions are tested, and not proved as the
+ * calls are. They change nothing and take any table, also one that is not well formed. A controller outside 1 to n has no
+ * log, has sent nothing and does not run. */
+
+/* n, and at most 7. */
+static inline size_t furnacejade_controllers(const furnacejade_table *t) {
+    if (t->n > FURNACEJADE_CONTROLLERS) return FURNACEJADE_CONTROLLERS;
+    return t->n;
+}
+
+/* How many messages were sent, and at most 64. */
+static inline size_t furnacejade_messages(const furnacejade_table *t) {
+    if (t->count > FURNACEJADE_MESSAGES) return FURNACEJADE_MESSAGES;
+    return t->count;
+}
+
+/* A controller by its number; NULL outside 1 to n. */
+static inline const furnacejade_controller *furnacejade_controller_of(const furnacejade_table *t, size_t c) {
+    return c == 0 || c > furnacejade_controllers(t) ? NULL : &t->controllers[c - 1];
+}
+
+/* Whether a controller runs. Question 10 asks this of the controller that acts. */
+static inline int furnacejade_runs(const furnacejade_table *t, size_t c) {
+    const furnacejade_controller *controller = furnacejade_controller_of(t, c);
+    return controller && controller->running;
+}
+
+/* The name of the latest message of a sender, which is the one with the greatest number; 0.0 if it has sent none. After an
+ * accepted report, sync or write of the sender it is the message just sent. Question 20 asks whether it is an applied sync.
+ *
+ *     furnacejade_name sent = furnacejade_latest(table, 1);
+ *     printf("sent %d.%d\n", sent.sender, sent.number.value);
+ */
+static inline furnacejade_name furnacejade_latest(const furnacejade_table *t, size_t sender) {
+    furnacejade_name latest = {0, {0}};
+    if (!furnacejade_controller_of(t, sender)) return latest;
+    for (size_t slot = 0; slot < furnacejade_messages(t); slot++) {
+        const furnacejade_message *message = &t->messages[slot];
+        if (message->sender != sender || message->number.value < latest.number.value) continue;
+        latest.sender = message->sender;
+        latest.number = message->number;
+    }
+    return latest;
+}
+
+/* The states of a message at a controller (docs/RULES.md, section 3). */
+enum {
+    FURNACEJADE_UNKNOWN = 0, /* the controller has not heard of it, or no message has this name */
+    FURNACEJADE_PENDING = 1, /* the controller has heard of it, and has not applied it */
+    FURNACEJADE_APPLIED = 2, /* the controller has applied it */
+    FURNACEJADE_CUT_OFF = 3  /* its sender stopped, and its entry in the sender's log went with the cut: nobody will apply it */
+};
+
+/* The state of a message at a controller. A message that was cut off has that state wherever it is not applied, at its
+ * stopped sender too, where it stays pending for good. (It can be applied only where its sender is the only controller.) */
+static inline unsigned furnacejade_state(const furnacejade_table *t, size_t c, furnacejade_name message) {
+    const furnacejade_controller *controller = furnacejade_controller_of(t, c);
+    const furnacejade_controller *sender = furnacejade_controller_of(t, message.sender);
+    size_t slot = 0;
+    while (slot < furnacejade_messages(t)
+           && (t->messages[slot].sender != message.sender || t->messages[slot].number.value != message.number.value)) slot++;
+    if (!controller || !sender || slot == furnacejade_messages(t)) return FURNACEJADE_UNKNOWN;
+    if (controller->applied[slot]) return FURNACEJADE_APPLIED;
+    if (!sender->running && message.number.value > sender->length) return FURNACEJADE_CUT_OFF;
+    return controller->pending[slot].held ? FURNACEJADE_PENDING : FURNACEJADE_UNKNOWN;
+}
+
+/* How many entries of an owner's log a receiver has not read. Question 13 asks whether there is one. */
+static inline size_t furnacejade_unread(const furnacejade_table *t, size_t receiver, size_t owner) {
+    const furnacejade_controller *reader = furnacejade_controller_of(t, receiver), *log = furnacejade_controller_of(t, owner);
+    if (!reader || !log || log->length < reader->read[owner - 1]) return 0;
+    return log->length - reader->read[owner - 1];
+}
+
+/* The least length that a stop of a controller may keep, which is the greatest read position that anybody has in its log, and
+ * the greatest, which is the log's length. Question 14 asks whether the length kept is one from the least to the greatest. */
+static inline size_t furnacejade_least_kept(const furnacejade_table *t, size_t c) {
+    size_t least = 0;
+    if (!furnacejade_controller_of(t, c)) return 0;
+    for (size_t reader = 0; reader < furnacejade_controllers(t); reader++)
+        if (least < t->controllers[reader].read[c - 1]) least = t->controllers[reader].read[c - 1];
+    return least;
+}
+static inline size_t furnacejade_most_kept(const furnacejade_table *t, size_t c) {
+    const furnacejade_controller *controller = furnacejade_controller_of(t, c);
+    return controller ? controller->length : 0;
+}
+
+/* THE CALLS. */
+
+/* The number of the interface that the library was built with. It is FURNACEJADE_INTERFACE, or header and library do not
+ * belong together. The number goes up whenever a struct, a constant, a refusal or a call changes. */
+size_t furnacejade_interface(void);
 
 /* A fresh table of n controllers, 1 to 7: all run, nothing was sent. Its version, 1 or 2, says whether its reports name a
  * class, and stays. Questions 2 and 3 are put. Takes 4 KB of stack.
@@ -422,21 +531,31 @@ static inline size_t furnacejade_put_write(uint8_t *out, size_t room, uint8_t se
 void furnacejade_fresh(size_t version, size_t n, furnacejade_fresh_answer *answer);
 
 /* One event: bytes is the rest of a file from a record on, and the record with which it begins is carried out. The table's
- * version says how long a report is. Questions 4 to 15 are put: 9 and 12 to reports, 11 and 12 to syncs and writes, 13 to
- * handovers, 14 to stops, the others to all; and to a report of version 2 question 17, behind 9, to a local read 18, behind
- * 10, to a write 19, behind 8, and 20, behind 12. Returns how many bytes are left: the unread rest is the last so many of
- * bytes. An accepted event leaves the table as the rules say and the first 4,096 scratch bytes zero. A refused one leaves
- * table and scratch as they were, and the record in the rest: a loop that goes on must step over it, by 1 + its length byte.
- * Takes 24 KB of stack.
+ * version says how long a report is. Questions 4 to 8, 10 and 15 are put to every record; besides them 9 and 12 to a report,
+ * and 17 after 9 in version 2; 11 and 12 to a sync; 13 to a handover; 14 to a stop; 18 to a local read; 19, 11, 12 and 20 to a
+ * write. Returns how many bytes are left: the unread rest is that many bytes at the end of bytes. An accepted event leaves the
+ * table as the rules say and the first 4,096 scratch bytes zero. A refused one leaves table and scratch as they were, and the
+ * record in the rest: a loop that goes on must step over it, by 1 + its length byte. Takes 24 KB of stack.
  *
- *     uint8_t record[6];
- *     size_t length = furnacejade_put_classed_report(record, sizeof record, 1, 30, FURNACEJADE_CLASS_XL);
- *     size_t left = furnacejade_event(table, record, length, scratch, sizeof scratch, &answer);
- *     length = furnacejade_put_local_read(record, sizeof record, 2);
- *     furnacejade_event(table, record, length, scratch, sizeof scratch, &answer);
- *     if (answer.number == FURNACEJADE_ACCEPTED) printf("2 reads %u %u\n", answer.sums.added, answer.sums.withdrawn);
+ *     while (size > 0) {
+ *         size_t left = furnacejade_event(table, bytes, size, scratch, sizeof scratch, &answer);
+ *         if (answer.refusal != FURNACEJADE_ACCEPTED) break;
+ *         bytes += size - left;
+ *         size = left;
+ *     }
  */
 size_t furnacejade_event(furnacejade_table *t, const uint8_t *bytes, size_t bytes_length, uint8_t *scratch, size_t scratch_length, furnacejade_answer *answer);
+
+/* One event, of a record. Returns its refusal number, 0 if accepted.
+ *
+ *     furnacejade_play(table, furnacejade_record_classed_report(1, 30, FURNACEJADE_CLASS_XL), scratch, sizeof scratch, &answer);
+ *     if (furnacejade_play(table, furnacejade_record_local_read(2), scratch, sizeof scratch, &answer) == FURNACEJADE_ACCEPTED)
+ *         printf("2 reads %u %u\n", answer.sums.added, answer.sums.withdrawn);
+ */
+static inline unsigned furnacejade_play(furnacejade_table *t, furnacejade_record record, uint8_t *scratch, size_t scratch_length, furnacejade_answer *answer) {
+    furnacejade_event(t, record.bytes, record.length, scratch, scratch_length, answer);
+    return answer->refusal;
+}
 
 /* A panel look at controller c, 1 to n, running or stopped. Questions 4 and 8 are put. Nothing but the answer is written.
  * Takes 16 KB of stack.
@@ -444,7 +563,7 @@ size_t furnacejade_event(furnacejade_table *t, const uint8_t *bytes, size_t byte
  *     furnacejade_look_answer look;
  *     furnacejade_look(table, 2, &look);
  *     const furnacejade_sums *whole = &look.panel.sums, *xl = &look.panel.classes[FURNACEJADE_CLASS_XL];
- *     if (look.number == FURNACEJADE_ACCEPTED)
+ *     if (look.refusal == FURNACEJADE_ACCEPTED)
  *         printf("panel 2 shows %u %u, of XL %u %u\n", whole->added, whole->withdrawn, xl->added, xl->withdrawn);
  *     const furnacejade_register *belt = &look.panel.registers[0];
  *     printf("register 1 is %u, set by %d\n", belt->value, belt->stamp.writer);
@@ -452,25 +571,26 @@ size_t furnacejade_event(furnacejade_table *t, const uint8_t *bytes, size_t byte
 void furnacejade_look(const furnacejade_table *t, size_t c, furnacejade_look_answer *answer);
 
 /* How many of the controllers 1 to n put the first message before the second at controller c, 1 to n, running or stopped: of the
- * marks that c keeps, so many are smaller for the first than for the second. An absent mark is greater than every number, and
- * not less than another absent one. If the count is at least the majority, n / 2 + 1, the first goes before the second. A
- * message that is not pending at c, or is not of the run, has every mark absent there: before it a pending message counts its
- * marks, and it counts 0 before any. A message counts 0 before itself. Questions 4 and 8 are put, 8 to c alone: a name may hold
- * anything. Nothing but the answer is written. Takes 21 KB of stack.
+ * marks that c keeps, those are counted that are smaller for the first than for the second. An absent mark is greater than
+ * every number, and not less than another absent one. If the count is at least the majority, n / 2 + 1, the first goes before
+ * the second. A message that is not pending at c, or is not of the run, has every mark absent there. So a pending message
+ * counts all its marks before a message that is not pending, and a message that is not pending counts 0 before every other. A
+ * message counts 0 before itself. Questions 4 and 8 are put, 8 to c alone: a name may hold anything. Nothing but the answer is
+ * written. Takes 21 KB of stack.
  *
  *     const furnacejade_name first = {3, {1}}, second = {1, {1}};
  *     furnacejade_count_answer before;
  *     furnacejade_count_before(table, 3, &first, &second, &before);
- *     if (before.number == FURNACEJADE_ACCEPTED)
+ *     if (before.refusal == FURNACEJADE_ACCEPTED)
  *         printf("%zu put 3.1 before 1.1, %zu needed\n", before.count, table->n / 2 + 1);
  */
 void furnacejade_count_before(const furnacejade_table *t, size_t c, const furnacejade_name *first, const furnacejade_name *second, furnacejade_count_answer *answer);
 
 /* A whole run file, from a fresh table of its own, which has the file's version, up to the first refusal. Its lines, one for
- * each set applied, are written into the listing from the start on; the bytes behind them stay. A local read counts as an
- * event and has no line. Also where a record is refused, the listing keeps the lines before it, the answer has the table that
- * they left, and the first 4,096 scratch bytes are zero if any event was accepted. A file refused by questions 1 to 3 changes
- * neither listing nor scratch. Takes 16 KB of stack.
+ * each set applied, are written into the listing from the start on; the bytes after them stay. A local read counts as an
+ * event and has no line. Where a record is refused, the listing keeps the lines of the events before it, the answer has the
+ * table that they left, and the first 4,096 scratch bytes are zero if any event was accepted. A file refused by questions 1 to
+ * 3 changes neither listing nor scratch. Takes 16 KB of stack.
  *
  *     static uint8_t listing[FURNACEJADE_LISTING];
  *     furnacejade_run(file, size, listing, sizeof listing, scratch, sizeof scratch, &run);

@@ -1,26 +1,24 @@
 /* Five lanes of one machine: trays, two of one lane under way at once, eggs taken back, local reads, a sync, a set point, a lane
- * that stops, and what is left when no majority runs. Records are written with the header's writers, everything that waits is
- * handed over, and refusals are printed in words. */
+ * that stops, and what is left when no majority runs. Everything that waits is handed over, and refusals are printed in words. */
 #include <stdio.h>
 #include <stdlib.h>
 
 #include "furnacejade.h"
 
-enum { LANES = 5, BELT_SPEED = 1 /* its register */, LONGEST = 8 /* bytes of a record of version 1 */ };
+enum { LANES = 5, BELT_SPEED = 1 /* its register */ };
 
 static furnacejade_fresh_answer start;
 static furnacejade_table *const table = &start.table;
 static furnacejade_answer answer;
 
 /* Carries out one record. */
-static uint8_t play(const uint8_t *record, size_t length) {
+static unsigned play(furnacejade_record record) {
     static uint8_t scratch[FURNACEJADE_SCRATCH];
-    furnacejade_event(table, record, length, scratch, sizeof scratch, &answer);
-    return answer.number;
+    return furnacejade_play(table, record, scratch, sizeof scratch, &answer);
 }
 
 static void print_refusal(void) {
-    printf("refused, %d: %s\n", answer.number, furnacejade_question(answer.number));
+    printf("refused, %d: %s\n", answer.refusal, furnacejade_question(answer.refusal));
 }
 
 static furnacejade_sums shown(size_t lane) {
@@ -32,35 +30,29 @@ static furnacejade_sums shown(size_t lane) {
 /* What was added, and what was withdrawn. */
 static void print_sums(furnacejade_sums sums, const char *end) { printf("%u %u%s", sums.added, sums.withdrawn, end); }
 
-/* An accepted report, sync or write is the table's last message; its number is its place in its sender's log. */
-static void print_sent(void) {
-    if (answer.number != FURNACEJADE_ACCEPTED) {
+/* Sends a report, sync or write of a lane, and prints the name of the message. */
+static void send(uint8_t lane, furnacejade_record record) {
+    if (play(record) != FURNACEJADE_ACCEPTED) {
         print_refusal();
         return;
     }
-    const furnacejade_message *sent = &table->messages[table->count - 1];
-    printf("sent as %d.%d\n", sent->sender, sent->number.value);
+    furnacejade_name sent = furnacejade_latest(table, lane);
+    printf("sent as %d.%d\n", sent.sender, sent.number.value);
 }
 
 static void report(uint8_t lane, int16_t amount) {
-    uint8_t record[LONGEST];
     printf("lane %d reports %d: ", lane, amount);
-    play(record, furnacejade_put_report(record, sizeof record, lane, amount));
-    print_sent();
+    send(lane, furnacejade_record_report(lane, amount));
 }
 
 static void sync(uint8_t lane) {
-    uint8_t record[LONGEST];
     printf("lane %d syncs: ", lane);
-    play(record, furnacejade_put_sync(record, sizeof record, lane));
-    print_sent();
+    send(lane, furnacejade_record_sync(lane));
 }
 
 static void set_belt_speed(uint8_t lane, uint32_t value) {
-    uint8_t record[LONGEST];
     printf("lane %d sets the belt speed to %u: ", lane, value);
-    play(record, furnacejade_put_write(record, sizeof record, lane, BELT_SPEED, value));
-    print_sent();
+    send(lane, furnacejade_record_write(lane, BELT_SPEED, value));
 }
 
 static void print_belt_speed(size_t lane) {
@@ -72,16 +64,14 @@ static void print_belt_speed(size_t lane) {
 }
 
 static void local_read(uint8_t lane) {
-    uint8_t record[LONGEST];
     printf("lane %d reads its own sums: ", lane);
-    if (play(record, furnacejade_put_local_read(record, sizeof record, lane)) == FURNACEJADE_ACCEPTED) print_sums(answer.sums, "\n");
+    if (play(furnacejade_record_local_read(lane)) == FURNACEJADE_ACCEPTED) print_sums(answer.sums, "\n");
     else print_refusal();
 }
 
 static void stop(uint8_t lane, size_t kept) {
-    uint8_t record[LONGEST];
-    printf("lane %d stops, %zu of %zu entries kept: ", lane, kept, table->controllers[lane - 1].length);
-    if (play(record, furnacejade_put_stop(record, sizeof record, lane, (uint16_t)kept)) == FURNACEJADE_ACCEPTED) printf("done\n");
+    printf("lane %d stops, %zu of %zu entries kept: ", lane, kept, furnacejade_most_kept(table, lane));
+    if (play(furnacejade_record_stop(lane, (uint16_t)kept)) == FURNACEJADE_ACCEPTED) printf("done\n");
     else print_refusal();
 }
 
@@ -96,19 +86,18 @@ static void print_set(uint8_t receiver) {
     print_sums(answer.sums, "\n");
 }
 
-/* Hands over the next entry of one log for as long as there is one. Refusal 13 says that there is none, and 10 that the
- * receiver has stopped; any other would be a fault of this program. */
+/* Hands over all that a receiver has not read of one log. */
 static unsigned drain(uint8_t receiver, uint8_t owner) {
-    uint8_t record[LONGEST];
-    size_t length = furnacejade_put_handover(record, sizeof record, receiver, owner);
     unsigned handovers = 0;
-    while (play(record, length) == FURNACEJADE_ACCEPTED) {
+    while (furnacejade_runs(table, receiver) && furnacejade_unread(table, receiver, owner) > 0) {
+        if (play(furnacejade_record_handover(receiver, owner)) != FURNACEJADE_ACCEPTED) {
+            print_refusal();
+            exit(EXIT_FAILURE);
+        }
         handovers++;
         print_set(receiver);
     }
-    if (answer.number == FURNACEJADE_NO_ENTRY || answer.number == FURNACEJADE_STOPPED) return handovers;
-    print_refusal();
-    exit(EXIT_FAILURE);
+    return handovers;
 }
 
 /* Goes round all pairs until a round finds nothing. */
@@ -124,8 +113,9 @@ static void hand_over_all(void) {
 }
 
 int main(void) {
+    if (furnacejade_interface() != FURNACEJADE_INTERFACE) return EXIT_FAILURE;
     furnacejade_fresh(1, LANES, &start);
-    if (start.number != FURNACEJADE_ACCEPTED) return EXIT_FAILURE;
+    if (start.refusal != FURNACEJADE_ACCEPTED) return EXIT_FAILURE;
     report(1, 30);
     report(1, 12); /* the next tray does not wait for the first */
     local_read(1); /* 18: hand over and try again */
@@ -147,8 +137,8 @@ int main(void) {
     print_belt_speed(1);
     hand_over_all();
     print_belt_speed(1);
-    stop(1, table->controllers[0].length);
-    stop(2, table->controllers[1].length);
+    stop(1, furnacejade_most_kept(table, 1));
+    stop(2, furnacejade_most_kept(table, 2));
     report(3, 6); /* sent, but two of five are no majority */
     hand_over_all();
     return EXIT_SUCCESS;

@@ -55,7 +55,7 @@ static furnacejade_name name_of(const char *text) {
 static size_t count_before(const furnacejade_table *table, size_t controller, furnacejade_name first, furnacejade_name second) {
     furnacejade_count_answer answer;
     furnacejade_count_before(table, controller, &first, &second, &answer);
-    if (answer.number != FURNACEJADE_ACCEPTED) exit(EXIT_FAILURE);
+    if (answer.refusal != FURNACEJADE_ACCEPTED) exit(EXIT_FAILURE);
     return answer.count;
 }
 
@@ -74,14 +74,14 @@ int main(int arguments, char **argument) {
     if (length < 2) return EXIT_FAILURE;
     static furnacejade_fresh_answer start;
     furnacejade_fresh(run[0], run[1], &start);
-    if (start.number != FURNACEJADE_ACCEPTED) return EXIT_FAILURE;
+    if (start.refusal != FURNACEJADE_ACCEPTED) return EXIT_FAILURE;
     furnacejade_table *table = &start.table;
     size_t at = 2;
     for (unsigned number = 1; at < length; number++) {
         static furnacejade_answer answer;
         const uint8_t *record = run + at;
         size_t left = furnacejade_event(table, record, length - at, scratch, sizeof scratch, &answer);
-        if (answer.number != FURNACEJADE_ACCEPTED) return EXIT_FAILURE;
+        if (answer.refusal != FURNACEJADE_ACCEPTED) return EXIT_FAILURE;
         at = length - left;
         printf("%u:", number);
         for (size_t i = 0; i < answer.size; i++) printf(" %d.%d", answer.names[i].sender, answer.names[i].number.value);

@@ -7,12 +7,12 @@ fn main() {
     let folder = std::env::var("ENGINE_LIB")
         .unwrap_or_else(|_| format!("{}/../../target/staticlib", env!("CARGO_MANIFEST_DIR")));
     let archive = format!("{folder}/libengine.a");
-    // Documentation and lints need no archive, and a build script does not learn what it runs for: so this is a warning.
-    // Where a program is built, it stands above the linker's error.
+    // Documentation and lints need no archive, and a build script does not learn what it runs for: so this is a
+    // warning. Where a program is built, it stands above the linker's error.
     if !Path::new(&archive).exists() {
         println!(
-            "cargo::warning={archive} is missing, and no program can be linked without it. Run `rt staticlib engine` in \
-             the repository, or set ENGINE_LIB to the folder that holds libengine.a."
+            "cargo::warning={archive} is missing, and no program can be linked without it. Run `rt staticlib engine` \
+             in the repository, or set ENGINE_LIB to the folder that holds libengine.a."
         );
     }
     println!("cargo::rerun-if-changed={archive}");

@@ -1,6 +1,6 @@
 //! Plays a run file, read from standard input, event by event: the set applied, what a finished sync or a local read
-//! gives, and then a look at every panel. At the end it prints the sums of each class, if the file is of version 2, and the
-//! registers that were written, as each panel shows them. `bindings/worked.run`, `bindings/classes.run`,
+//! gives, and then a look at every panel. At the end it prints the sums of each class, if the file is of version 2, and
+//! the registers that were written, as each panel shows them. `bindings/worked.run`, `bindings/classes.run`,
 //! `bindings/underway.run`, `bindings/settings.run` and `bindings/reading.run` are the runs of docs/RULES.md, sections
 //! 19, 25, 26, 28 and 29.
 //!

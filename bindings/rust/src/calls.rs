@@ -1,6 +1,6 @@
-//! The library's calls as they are, with its own integer types. Each writes its whole answer, refused or not, to a place that
-//! the caller lends. What a call answers and leaves is proved in `crates/engine`. This file is the boundary, which nothing
-//! proves: it only passes arguments on.
+//! The library's calls as they are, with its own integer types. Each writes its whole answer, refused or not, to a
+//! place that the caller lends. What a call answers and leaves is proved in `crates/engine`. This file is the boundary,
+//! which nothing proves: it only passes arguments on.
 
 use crate::{Answer, CountAnswer, FreshAnswer, LookAnswer, Name, RunAnswer, Table};
 
@@ -34,8 +34,8 @@ extern "C" {
     );
 }
 
-// The library asks of its pointers that they are not null, are aligned as their types are, and may be read or written for
-// their length, and that what is written overlaps nothing else. Every reference and slice below has all of this.
+// The library asks of its pointers that they are not null, are aligned as their types are, and may be read or written
+// for their length, and that what is written overlaps nothing else. Every reference and slice below has all of this.
 
 /// The interface that the library was built with.
 #[must_use]
@@ -47,7 +47,8 @@ pub fn interface() -> usize {
 /// One event, of the record with which the bytes begin. Answers how many bytes are unread: the last ones of `bytes`.
 pub fn event(table: &mut Table, bytes: &[u8], scratch: &mut [u8], answer: &mut Answer) -> usize {
     let (area, length) = (scratch.as_mut_ptr(), scratch.len());
-    // SAFETY: all pointers come from references; table, scratch and answer are borrowed to be written, so nothing overlaps.
+    // SAFETY: all pointers come from references; table, scratch and answer are borrowed to be written, so nothing
+    // overlaps.
     unsafe { furnacejade_event(table, bytes.as_ptr(), bytes.len(), area, length, answer) }
 }
 
@@ -73,6 +74,7 @@ pub fn fresh(version: usize, n: usize, answer: &mut FreshAnswer) {
 pub fn run(bytes: &[u8], listing: &mut [u8], scratch: &mut [u8], answer: &mut RunAnswer) {
     let (lines, room) = (listing.as_mut_ptr(), listing.len());
     let (area, length) = (scratch.as_mut_ptr(), scratch.len());
-    // SAFETY: all pointers come from references; listing, scratch and answer are borrowed to be written, so nothing overlaps.
+    // SAFETY: all pointers come from references; listing, scratch and answer are borrowed to be written, so nothing
+    // overlaps.
     unsafe { furnacejade_run(bytes.as_ptr(), bytes.len(), lines, room, area, length, answer) }
 }

@@ -6,8 +6,8 @@ use core::fmt::{Display, Formatter};
 use core::mem::{offset_of, size_of};
 use core::str::FromStr;
 
-/// The interface that this package was written for. It goes up whenever a struct, a constant, a refusal or a call changes.
-/// [`interface`](crate::interface) says which one the library was built with.
+/// The interface that this package was written for. It goes up whenever a struct, a constant, a refusal or a call
+/// changes. [`interface`](crate::interface) says which one the library was built with.
 pub const INTERFACE: usize = 1;
 
 /// The greatest number of controllers of a run.
@@ -77,7 +77,8 @@ pub struct Message {
 /// use furnacejade::Name;
 /// let name = Name::new(3, 1);
 /// assert_eq!((name.to_string().as_str(), "3.1".parse()), ("3.1", Ok(name)));
-/// assert_eq!("3".parse::<Name>().unwrap_err().to_string(), "a message is named by its sender and its number, as in 3.1");
+/// let error = "3".parse::<Name>().unwrap_err();
+/// assert_eq!(error.to_string(), "a message is named by its sender and its number, as in 3.1");
 /// ```
 #[repr(C)]
 #[derive(Clone, Copy, Debug, PartialEq, Eq, PartialOrd, Ord, Hash)]
@@ -118,9 +119,9 @@ pub struct Controller {
     pub running: u8,
 }
 
-/// The table of a run, which its owner keeps and lends to each call. Its fields may be read at any time. Any values may be
-/// lent: a table that is not well formed is refused by [`Refusal::Table`](crate::Refusal::Table). That is a test of form and
-/// no checksum: an amount that was changed from 30 to 31 passes.
+/// The table of a run, which its owner keeps and lends to each call. Its fields may be read at any time. Any values may
+/// be lent: a table that is not well formed is refused by [`Refusal::Table`](crate::Refusal::Table). That is a test of
+/// form and no checksum: an amount that was changed from 30 to 31 passes.
 ///
 /// What most programs ask of a table has a function: [`latest`](Table::latest), [`state`](Table::state),
 /// [`unread`](Table::unread), [`kept`](Table::kept) and [`runs`](Table::runs).
@@ -199,8 +200,8 @@ pub struct Answer {
     pub refusal: RefusalNumber,
     /// 1 if a sync of the receiver's own is in the set applied, else 0.
     pub finished: u8,
-    /// If `finished` is 1, the answer of that sync, which is the sums after the set. After a local read, the sums that it
-    /// gives. Else zeros.
+    /// If `finished` is 1, the answer of that sync, which is the sums after the set. After a local read, the sums that
+    /// it gives. Else zeros.
     pub sums: Sums,
     /// How many messages were applied as one set.
     pub size: usize,
@@ -371,8 +372,8 @@ impl Table {
     /// The table that lies in these bytes. Every pattern of bytes is a table, though few are well formed.
     #[must_use]
     pub fn from_bytes(bytes: &[u8; size_of::<Table>()]) -> Table {
-        // SAFETY: both types have one size, and every field of a table is a number, of which every pattern of bytes is a
-        // value.
+        // SAFETY: both types have one size, and every field of a table is a number, of which every pattern of bytes is
+        // a value.
         unsafe { core::mem::transmute(*bytes) }
     }
 }
@@ -440,14 +441,15 @@ impl Answer {
         names: [Name::BLANK; MESSAGES],
     };
 
-    /// The set applied, by sender and then number. It is empty if nothing was applied. (Of an answer made by hand, at most the
-    /// names that it has a place for.)
+    /// The set applied, by sender and then number. It is empty if nothing was applied. (Of an answer made by hand, at
+    /// most the names that it has a place for.)
     #[must_use]
     pub fn applied(&self) -> &[Name] {
         &self.names[..self.size.min(MESSAGES)]
     }
 
-    /// The answer of the sync that the event finished: its sender's sums after the set applied. None if it finished none.
+    /// The answer of the sync that the event finished: its sender's sums after the set applied. None if it finished
+    /// none.
     #[must_use]
     pub fn sync_answer(&self) -> Option<Sums> {
         (self.finished != 0).then_some(self.sums)

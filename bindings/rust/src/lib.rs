@@ -1,8 +1,8 @@
 //! Safe calls of the event engine for machines whose controllers keep one count without a master. The package is
 //! `no_std` and allocates nothing.
 //!
-//! A [`Machine`] owns the [`Table`] that holds the whole machine: all controllers, what each has sent, read and applied. An
-//! event is a [`Record`]. Controllers are numbered from 1.
+//! A [`Machine`] owns the [`Table`] that holds the whole machine: all controllers, what each has sent, read and
+//! applied. An event is a [`Record`]. Controllers are numbered from 1.
 //!
 //! ```
 //! use furnacejade::{Machine, Record, Refusal, Sums};
@@ -10,8 +10,8 @@
 //! # fn main() -> Result<(), Refusal> {
 //! let mut machine = Machine::new(1, 2)?; // version 1, 2 controllers
 //!
-//! // Controller 1 reports 5 eggs. Controller 2 reads the report in 1's log and forwards it, and 1 reads that in 2's log. Now
-//! // more than half of them back the report, and panel 1 applies it.
+//! // Controller 1 reports 5 eggs. Controller 2 reads the report in 1's log and forwards it, and 1 reads that in 2's
+//! // log. Now more than half of them back the report, and panel 1 applies it.
 //! machine.play(Record::Report { sender: 1, amount: 5 })?;
 //! machine.play(Record::Handover { receiver: 2, owner: 1 })?;
 //! let answer = machine.play(Record::Handover { receiver: 1, owner: 2 })?;
@@ -27,11 +27,11 @@
 //! # }
 //! ```
 //!
-//! No call trusts its caller: any table, any bytes and any lengths are answered. What cannot be carried out is refused with
-//! the first question that is answered no, a [`Refusal`], and a refused call changes nothing that was lent to it. Only the
-//! [`run`] of a file, which ends at the first record that is refused, keeps what the records before it did: their lines in
-//! the listing, and zeros in the first [`SCRATCH`] bytes of scratch if an event was accepted. A file that is refused by
-//! questions 1 to 3 changes nothing.
+//! No call trusts its caller: any table, any bytes and any lengths are answered. What cannot be carried out is refused
+//! with the first question that is answered no, a [`Refusal`], and a refused call changes nothing that was lent to it.
+//! Only the [`run`] of a file, which ends at the first record that is refused, keeps what the records before it did:
+//! their lines in the listing, and zeros in the first [`SCRATCH`] bytes of scratch if an event was accepted. A file
+//! that is refused by questions 1 to 3 changes nothing.
 //!
 //! # Report weight classes
 //!
@@ -53,8 +53,8 @@
 //!
 //! # Read a count at a lane
 //!
-//! A local read gives what the controller's panel shows, without a message, once the controller has applied all that it has
-//! sent. It may lack what is finished elsewhere:
+//! A local read gives what the controller's panel shows, without a message, once the controller has applied all that it
+//! has sent. It may lack what is finished elsewhere:
 //!
 //! ```
 //! use furnacejade::{Machine, Record, Refusal, Sums};
@@ -71,8 +71,8 @@
 //!
 //! # Read a count that is never stale
 //!
-//! A message is finished when its own sender has applied it. What was finished before a sync was sent is in the answer of the
-//! sync:
+//! A message is finished when its own sender has applied it. What was finished before a sync was sent is in the answer
+//! of the sync:
 //!
 //! ```
 //! use furnacejade::{Machine, Record, Refusal, Sums};
@@ -95,8 +95,8 @@
 //!
 //! # Set a belt speed
 //!
-//! A supervisor sets one of eight registers at any lane, right after a sync of that lane is finished. Every panel shows the
-//! write with the greatest [`Stamp`] among those that its controller has applied:
+//! A supervisor sets one of eight registers at any lane, right after a sync of that lane is finished. Every panel shows
+//! the write with the greatest [`Stamp`] among those that its controller has applied:
 //!
 //! ```
 //! use furnacejade::{Machine, Record, Refusal, Register, Stamp};
@@ -117,7 +117,8 @@
 //!
 //! # Follow a message
 //!
-//! A table says the name of the message that a controller has just sent, where it has arrived, and what is left to read:
+//! A table says the name of the message that a controller has just sent, where it has arrived, and what is left to
+//! read:
 //!
 //! ```
 //! use furnacejade::{Machine, Name, Record, Refusal, State};
@@ -184,8 +185,8 @@
 //!
 //! # Run a file
 //!
-//! A run file is a [`head`] and records. [`run`] carries out a whole file and writes a line for each set applied; [`records`]
-//! reads it without carrying it out:
+//! A run file is a [`head`] and records. [`run`] carries out a whole file and writes a line for each set applied;
+//! [`records`] reads it without carrying it out:
 //!
 //! ```
 //! use furnacejade::{head, records, run, Record, RefusalNumber, LISTING, SCRATCH};
@@ -231,15 +232,15 @@ pub use queries::State;
 pub use record::{head, records, Part, Record, RecordBytes, Records, LONGEST_RECORD};
 pub use refusal::{Refusal, RefusalNumber};
 
-/// The interface that the library was built with. If it is not [`INTERFACE`], the library is of another state of the sources
-/// than this package, and no other call may be made.
+/// The interface that the library was built with. If it is not [`INTERFACE`], the library is of another state of the
+/// sources than this package, and no other call may be made.
 #[must_use]
 pub fn interface() -> usize {
     calls::interface()
 }
 
-/// A fresh table of n controllers, 1 to 7, that all run and have sent nothing. Its version, 1 or 2, says whether its reports
-/// name a class, and stays.
+/// A fresh table of n controllers, 1 to 7, that all run and have sent nothing. Its version, 1 or 2, says whether its
+/// reports name a class, and stays.
 ///
 /// # Errors
 ///
@@ -251,11 +252,12 @@ pub fn fresh(version: u8, n: u8) -> Result<Table, Refusal> {
     Ok(answer.table)
 }
 
-/// Carries out the record with which the bytes begin. Gives its answer and the bytes after the record. The answer has the set
-/// applied, and the sums of a finished sync or of a local read. The table's version says whether a report has a class byte.
+/// Carries out the record with which the bytes begin. Gives its answer and the bytes after the record. The answer has
+/// the set applied, and the sums of a finished sync or of a local read. The table's version says whether a report has a
+/// class byte.
 ///
-/// An accepted event needs [`SCRATCH`] bytes of scratch, and leaves them zero. A refused one leaves table and scratch as they
-/// were.
+/// An accepted event needs [`SCRATCH`] bytes of scratch, and leaves them zero. A refused one leaves table and scratch
+/// as they were.
 ///
 /// # Errors
 ///
@@ -279,12 +281,12 @@ pub fn look(table: &Table, controller: u8) -> Result<Panel, Refusal> {
     Ok(answer.panel)
 }
 
-/// How many of the controllers 1 to n put the first message before the second at a controller, 1 to n, running or stopped.
-/// The first goes before the second if that is a majority, `n / 2 + 1` or more.
+/// How many of the controllers 1 to n put the first message before the second at a controller, 1 to n, running or
+/// stopped. The first goes before the second if that is a majority, `n / 2 + 1` or more.
 ///
-/// The count is of the marks that the controller keeps: how many are smaller for the first message than for the second. An
-/// absent mark is greater than every number, and not less than another absent one. A message that is not pending there, or is
-/// not of the run, has only absent marks. A name may hold anything.
+/// The count is of the marks that the controller keeps: how many are smaller for the first message than for the second.
+/// An absent mark is greater than every number, and not less than another absent one. A message that is not pending
+/// there, or is not of the run, has only absent marks. A name may hold anything.
 ///
 /// # Errors
 ///
@@ -296,9 +298,9 @@ pub fn count_before(table: &Table, controller: u8, first: Name, second: Name) ->
     Ok(answer.count)
 }
 
-/// Carries out a whole file, up to its end or the first record that is refused, and writes a line into the listing for each set
-/// applied. The answer has the refusal that ended the run, the number of events accepted before it, the number of bytes
-/// written, and the last table. Of a file that is refused by questions 1 to 3, all but the refusal is blank.
+/// Carries out a whole file, up to its end or the first record that is refused, and writes a line into the listing for
+/// each set applied. The answer has the refusal that ended the run, the number of events accepted before it, the number
+/// of bytes written, and the last table. Of a file that is refused by questions 1 to 3, all but the refusal is blank.
 #[must_use]
 pub fn run(bytes: &[u8], listing: &mut [u8], scratch: &mut [u8]) -> RunAnswer {
     let mut answer = RunAnswer::BLANK;

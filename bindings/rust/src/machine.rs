@@ -4,7 +4,8 @@ use crate::{count_before, event, fresh, look, Answer, Name, Panel, Record, Refus
 use core::fmt::{Debug, Formatter};
 use core::ops::RangeInclusive;
 
-/// A machine: a [`Table`] that is always well formed, and the scratch that events need. It takes 10 KB and allocates nothing.
+/// A machine: a [`Table`] that is always well formed, and the scratch that events need. It takes 10 KB and allocates
+/// nothing.
 ///
 /// ```
 /// use furnacejade::{Machine, Record, Refusal, Sums};
@@ -28,8 +29,8 @@ pub struct Machine {
 }
 
 impl Machine {
-    /// A machine of n controllers, 1 to 7, that all run and have sent nothing. Its version, 1 or 2, says whether its reports
-    /// name a class, and stays.
+    /// A machine of n controllers, 1 to 7, that all run and have sent nothing. Its version, 1 or 2, says whether its
+    /// reports name a class, and stays.
     ///
     /// # Errors
     ///
@@ -38,8 +39,8 @@ impl Machine {
         Ok(Machine { table: fresh(version, n)?, scratch: [0; SCRATCH] })
     }
 
-    /// A machine that goes on from a table. The table is tested for its form alone: an amount that was changed from 30 to 31
-    /// passes.
+    /// A machine that goes on from a table. The table is tested for its form alone: an amount that was changed from 30
+    /// to 31 passes.
     ///
     /// # Errors
     ///
@@ -50,8 +51,8 @@ impl Machine {
         Ok(Machine { table, scratch: [0; SCRATCH] })
     }
 
-    /// Carries out one event. The answer has the set applied, and the sums of a finished sync or of a local read. A refused
-    /// event changes nothing.
+    /// Carries out one event. The answer has the set applied, and the sums of a finished sync or of a local read. A
+    /// refused event changes nothing.
     ///
     /// # Errors
     ///
@@ -69,7 +70,8 @@ impl Machine {
         look(&self.table, controller)
     }
 
-    /// How many controllers put the first message before the second at a controller: [`count_before`] in the machine's table.
+    /// How many controllers put the first message before the second at a controller: [`count_before`] in the machine's
+    /// table.
     ///
     /// # Errors
     ///

@@ -1,6 +1,6 @@
 //! What a table says of its messages, logs and controllers. These functions read its fields and call no library. They
-//! answer for every table, well formed or not: of more than 7 controllers and of more than 64 messages they read those that
-//! have a place, and a controller outside 1 to n has no log, has sent nothing and does not run.
+//! answer for every table, well formed or not: of more than 7 controllers and of more than 64 messages they read those
+//! that have a place, and a controller outside 1 to n has no log, has sent nothing and does not run.
 
 use crate::{Controller, Name, Table, CONTROLLERS};
 use core::ops::RangeInclusive;
@@ -14,8 +14,8 @@ pub enum State {
     Pending,
     /// The controller has applied the message.
     Applied,
-    /// The controller has not applied the message and never will: its sender has stopped, and the message's entry in the
-    /// sender's log went with the cut. At its stopped sender it stays pending for good, and is cut off there too.
+    /// The controller has not applied the message and never will: its sender has stopped, and the message's entry in
+    /// the sender's log went with the cut. At its stopped sender it stays pending for good, and is cut off there too.
     CutOff,
 }
 
@@ -28,8 +28,8 @@ impl Table {
         1..=last
     }
 
-    /// The latest message of a sender: of all that it has sent, the one with the greatest number. Right after an accepted
-    /// report, sync or write it is the message just sent. Question 20 asks whether it is an applied sync.
+    /// The latest message of a sender: of all that it has sent, the one with the greatest number. Right after an
+    /// accepted report, sync or write it is the message just sent. Question 20 asks whether it is an applied sync.
     #[must_use]
     pub fn latest(&self, sender: u8) -> Option<Name> {
         self.controller(sender)?;
@@ -58,7 +58,8 @@ impl Table {
         }
     }
 
-    /// How many entries of the owner's log the receiver has not read. A handover is refused by question 13 if there is none.
+    /// How many entries of the owner's log the receiver has not read. A handover is refused by question 13 if there is
+    /// none.
     #[must_use]
     pub fn unread(&self, receiver: u8, owner: u8) -> usize {
         let (Some(log), Some(position)) = (self.controller(owner), self.read_position(receiver, owner)) else {
@@ -67,8 +68,8 @@ impl Table {
         log.length.saturating_sub(position)
     }
 
-    /// The lengths that a stop of the controller may keep of its log: from the greatest read position that any controller has
-    /// in it to its length. Question 14 asks for one of these. None if there is no such controller.
+    /// The lengths that a stop of the controller may keep of its log: from the greatest read position that any
+    /// controller has in it to its length. Question 14 asks for one of these. None if there is no such controller.
     #[must_use]
     pub fn kept(&self, controller: u8) -> Option<RangeInclusive<usize>> {
         let longest = self.controller(controller)?.length;

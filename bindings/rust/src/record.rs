@@ -1,4 +1,5 @@
-//! Records and run files: a record as a type that writes its own bytes, and the records of a file. Nothing is allocated.
+//! Records and run files: a record as a type that writes its own bytes, and the records of a file. Nothing is
+//! allocated.
 
 use crate::ClassNumber;
 use core::fmt::{Debug, Formatter};
@@ -11,7 +12,8 @@ pub const LONGEST_RECORD: usize = 8;
 /// One event. Its fields may hold anything: the engine answers a record that it cannot carry out with a refusal.
 #[derive(Clone, Copy, Debug, PartialEq, Eq, Hash)]
 pub enum Record {
-    /// In version 1, a sender reports an amount of eggs, -360 to 360 and not 0. Any number of its reports may be pending.
+    /// In version 1, a sender reports an amount of eggs, -360 to 360 and not 0. Any number of its reports may be
+    /// pending.
     Report {
         /// The controller that sends the report.
         sender: u8,
@@ -27,9 +29,9 @@ pub enum Record {
         /// The number of the eggs' class, [`Class::Xl`](crate::Class::Xl) to [`Class::S`](crate::Class::S).
         class: ClassNumber,
     },
-    /// A sender asks for its sums, and gets them when it applies the sync. They have in them every message that was finished
-    /// before the sync was sent. (A message is finished when its own sender has applied it.) The sender must have no message
-    /// of its own pending.
+    /// A sender asks for its sums, and gets them when it applies the sync. They have in them every message that was
+    /// finished before the sync was sent. (A message is finished when its own sender has applied it.) The sender must
+    /// have no message of its own pending.
     Sync {
         /// The controller that sends the sync.
         sender: u8,
@@ -48,8 +50,8 @@ pub enum Record {
         /// How many entries of its log are kept; [`Table::kept`](crate::Table::kept) says how many may be.
         kept: u16,
     },
-    /// A controller asks for the sums that its panel shows. It sends no message, and the table stays as it is. The sums may
-    /// lack what is finished elsewhere. The controller must have no message of its own pending.
+    /// A controller asks for the sums that its panel shows. It sends no message, and the table stays as it is. The sums
+    /// may lack what is finished elsewhere. The controller must have no message of its own pending.
     LocalRead {
         /// The controller that reads.
         controller: u8,
@@ -102,8 +104,8 @@ impl Record {
         }
     }
 
-    /// The record of which these are all the bytes, whatever its fields hold; none if no record has this form. Both forms of
-    /// a report are read, whatever the version.
+    /// The record of which these are all the bytes, whatever its fields hold; none if no record has this form. Both
+    /// forms of a report are read, whatever the version.
     ///
     /// ```
     /// use furnacejade::Record;
@@ -202,8 +204,8 @@ impl<const N: usize> PartialEq<[u8; N]> for RecordBytes {
     }
 }
 
-/// The two bytes with which a run file begins: its version, 1 or 2, and its number of controllers. The bytes of its records
-/// follow.
+/// The two bytes with which a run file begins: its version, 1 or 2, and its number of controllers. The bytes of its
+/// records follow.
 ///
 /// ```
 /// use furnacejade::{head, Record};

@@ -22,8 +22,8 @@ macro_rules! refusals {
                 #[doc = concat!("Question ", $number, ": ", $question)]
                 $name,
             )*
-            /// A number that no question of this package has. It stands in an answer that was made by hand, or in one of
-            /// a later library.
+            /// A number that no question of this package has. It stands in an answer that was made by hand, or in one
+            /// of a later library.
             Unknown(NonZeroU8),
         }
 
@@ -94,7 +94,8 @@ impl Display for Refusal {
 
 impl Error for Refusal {}
 
-/// What an answer holds of its refusal: the question's number, and 0 where the call was accepted. Any byte may stand there.
+/// What an answer holds of its refusal: the question's number, and 0 where the call was accepted. Any byte may stand
+/// there.
 ///
 /// ```
 /// use furnacejade::{Refusal, RefusalNumber};

@@ -1,5 +1,5 @@
-//! The calls as a user makes them: the worked run, a run with classes, one with reports under way, one with a set point,
-//! one with a stale read, the count of "goes before", and what a refusal leaves.
+//! The calls as a user makes them: the worked run, a run with classes, one with reports under way, one with a set
+//! point, one with a stale read, the count of "goes before", and what a refusal leaves.
 
 use furnacejade::{calls, count_before, event, fresh, head, look, run};
 use furnacejade::{
@@ -121,7 +121,8 @@ fn a_sync_has_what_was_finished_before_it_was_sent_and_a_local_read_may_lack_it(
     assert_eq!(&listing[..answer.written], b"3 1 30 0 1.1\n8 2 30 0 1.1 2.2\n");
     let (table, answers) = events_of(READING);
     assert_eq!(table, answer.table);
-    // Event 3 finishes 1.1. The local read of event 4 lacks it, and the sync of event 5, which event 8 finishes, has it.
+    // Event 3 finishes 1.1. The local read of event 4 lacks it, and the sync of event 5, which event 8 finishes, has
+    // it.
     assert_eq!(answers[2].applied(), [Name::new(1, 1)]);
     assert_eq!(answers[3], Answer::BLANK);
     assert_eq!(answers[7].applied(), [Name::new(1, 1), Name::new(2, 2)]);

@@ -47,7 +47,7 @@ pub fn pending_table(n: usize, held: usize, chain: bool) -> Table {
     }
     let (mut answer, mut after) = (Answer::BLANK, t.clone());
     Reference.event(&mut after, &handover(1, 2), &mut [0; SCRATCH], &mut answer);
-    assert_eq!((answer.number.number(), answer.size), (0, if chain { 0 } else { held }), "the table is as described");
+    assert_eq!((answer.refusal.0, answer.size), (0, if chain { 0 } else { held }), "the table is as described");
     t
 }
 
@@ -89,7 +89,7 @@ pub fn of_sixty_four(file: &[u8], applied: usize) -> (Table, Vec<u8>) {
         }
         rest = left;
     }
-    last.expect("such a handover")
+    last.expect("a handover that applies that many")
 }
 
 /// The last handover to controller 1 of seven that finishes its sync, the 64th message, and the table before it.

@@ -14,7 +14,8 @@ use furnacejade::{Answer, Table};
 use std::hint::black_box;
 use std::time::{Duration, Instant};
 
-/// How many calls a figure is the mean of, and how often it is taken, library and reference in turn, for the least.
+/// A figure is the mean of this many calls. It is taken this often, library and reference in turn, and the least is
+/// printed.
 const CALLS: usize = 100;
 const ROUNDS: usize = 20;
 
@@ -37,7 +38,7 @@ fn event(engine: &dyn Engine, table: &Table, bytes: &[u8]) -> f64 {
     })
 }
 
-/// A count of "goes before" of these two at a controller.
+/// A count of "goes before" of two messages at a controller.
 fn count(engine: &dyn Engine, table: &Table, controller: usize) -> f64 {
     let ([first, second], mut t) = (last_two(table), table.clone());
     let asked = [Asked { controller, first, second }];
@@ -141,7 +142,7 @@ fn rows_with_registers() {
     let [synced, last, full] = [1, MAX_MESSAGES - 1, MAX_MESSAGES].map(|messages| to_table(&with_writes(messages).0));
     let (applying, handover) = applying_write();
     let file = file_of(1, 7, &with_writes(MAX_MESSAGES).1);
-    row("n = 7: write behind the first sync", |e| event(e, &synced, &write(1, 1, 1500)));
+    row("n = 7: write after the first sync", |e| event(e, &synced, &write(1, 1, 1500)));
     row("n = 7: write as the 64th message", |e| event(e, &last, &write(1, 1, 1500)));
     row("n = 7: write refused by question 19", |e| event(e, &last, &write(1, 9, 1500)));
     row("n = 7: write refused by question 20, nothing sent", |e| event(e, &fresh, &write(1, 1, 1500)));

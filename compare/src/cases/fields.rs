@@ -35,8 +35,8 @@ impl Place<'_> {
 /// A field: its controller, or 0 if it is no controller's, and its name.
 type Field = (usize, &'static str);
 
-/// Every number of a table with its field, those of one field in order. A struct is taken apart whole, so that a field
-/// that is new in it cannot be forgotten here.
+/// Every number of a table with its field; the numbers of one field stand in order. A struct is taken apart whole, so
+/// that a new field of it cannot be forgotten here.
 fn visit(t: &mut Table, mut see: impl FnMut(Field, Place)) {
     let Table { version, n, count, messages, controllers } = t;
     see((0, "version"), Place::Long(version));
@@ -81,8 +81,8 @@ fn columns(t: &Table) -> Vec<Column> {
     columns
 }
 
-/// The table from which a text gives the differences: what a field that it does not name holds is harmless, one that
-/// did not exist when the text was written included.
+/// The table from which a text gives the differences. A field that the text does not name keeps the value that it has
+/// here, which is harmless; so does a field that did not exist when the text was written.
 pub fn plain_table() -> Table {
     Table { n: 0, ..to_table(&State::fresh(1, 7)) }
 }
@@ -121,7 +121,7 @@ fn named(name: &str) -> (usize, &str) {
     of_controller.map_or((0, name), |(c, name)| (c.parse().expect("a controller"), name))
 }
 
-/// Sets the field of such a line.
+/// Sets the field that a line names.
 pub fn set_field(t: &mut Table, line: &str) {
     let mut words = line.split_whitespace();
     let name = named(words.next().expect("the name of a field"));

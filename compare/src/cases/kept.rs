@@ -1,5 +1,5 @@
 //! The kept cases: the text files of the folder `cases`, or of the folder that `CASES` names. They always run first.
-//! What stands in folders below it is no kept case.
+//! Files in folders below it are no kept cases.
 
 use super::Case;
 

@@ -58,8 +58,8 @@ pub fn asked_in(calls: &[Call]) -> Vec<Asked> {
 }
 
 impl Case {
-    /// The calls, each alone but for counts of "goes before" in a row. There may be very many of these on one table,
-    /// which the reference then reads once.
+    /// The calls, each alone; only counts of "goes before" in a row stay together. There may be very many of these on
+    /// one table, which the reference then reads once.
     pub fn counts_together(&self) -> impl Iterator<Item = &[Call]> {
         self.calls.chunk_by(|one, next| one.asked().is_some() && next.asked().is_some())
     }
@@ -77,7 +77,7 @@ impl Case {
         Case { head: Head::File { bytes, listing: LISTING, scratch: SCRATCH }, calls: vec![] }
     }
 
-    /// The same of the case's own file, if it has one.
+    /// The case's own file alone, if it has one.
     pub fn into_file_alone(self) -> Option<Case> {
         match self.head {
             Head::File { bytes, .. } => Some(Case::file_alone(bytes)),

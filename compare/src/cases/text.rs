@@ -7,9 +7,9 @@
 
 use super::fields::{plain_table, set_field, table_text};
 use super::{Asked, Call, Case, Head};
-use furnacejade::{MessageNumber, Name};
 
-/// How many bytes are repeated eight times or more where these bytes begin, no more than a record has, and how often.
+/// The length of the part that these bytes begin with eight times or more in a row, and how often they do. The part is
+/// no longer than a record.
 fn repeated(bytes: &[u8]) -> Option<(usize, usize)> {
     let times = |size: usize| bytes.chunks_exact(size).take_while(|part| *part == &bytes[..size]).count();
     (1..=8).map(|size| (size, times(size))).find(|(_, times)| *times >= 8)
@@ -48,12 +48,6 @@ pub fn from_hexadecimal(text: &str) -> Vec<u8> {
         }
     }
     bytes
-}
-
-fn name_of(text: &str) -> Name {
-    let (sender, number) = text.split_once('.').expect("sender.number");
-    let byte = |text: &str| text.parse().expect("a number below 256");
-    Name { sender: byte(sender), number: MessageNumber(byte(number)) }
 }
 
 impl Case {
@@ -98,7 +92,7 @@ impl Case {
             ("event", _) => self.calls.push(Call::Event { bytes: from_hexadecimal(words[1]), scratch: number(3) }),
             ("look", _) => self.calls.push(Call::Look(number(1))),
             ("before", _) => {
-                let (first, second) = (name_of(words[2]), name_of(words[3]));
+                let [first, second] = [2, 3].map(|place: usize| words[place].parse().expect("sender.number"));
                 self.calls.push(Call::CountBefore(Asked { controller: number(1), first, second }));
             }
             (_, Head::Table(t)) => set_field(t, line),

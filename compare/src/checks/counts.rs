@@ -4,7 +4,7 @@
 use super::subsets;
 use crate::cases::Asked;
 use crate::reference::{self, precedes, to_state, well_formed, Marks, State};
-use furnacejade::{CountAnswer, Name, Refusal, Table};
+use furnacejade::{CountAnswer, Name, RefusalNumber, Table};
 use std::collections::HashMap;
 
 /// The marks of a message that is pending at a controller.
@@ -13,7 +13,7 @@ pub fn pending<'a>(state: &'a State, c: usize, name: &Name) -> Option<&'a Marks>
     state.controllers[c - 1].pending.get(&name)
 }
 
-/// What a count must be, as far as that is told by what is pending alone, and whether it must be a majority's.
+/// What holds of one count, as far as what is pending there tells it.
 fn law(state: &State, asked: &Asked, count: usize) -> Result<(), &'static str> {
     let (n, c) = (state.n, asked.controller);
     let says = |holds: bool, what| if holds { Ok(()) } else { Err(what) };
@@ -34,15 +34,15 @@ fn law(state: &State, asked: &Asked, count: usize) -> Result<(), &'static str> {
     }
 }
 
-/// What holds of all counts on one table: those of a refused call are 0, each is within its laws, and both ways round
-/// they are at most n together.
+/// What holds of all counts on one table: a refused call counts 0, each count keeps its laws, and both ways round they
+/// are at most n together.
 pub fn laws(t: &Table, asked: &[Asked], answers: &[CountAnswer]) -> Result<(), String> {
     let state = well_formed(t).then(|| to_state(t));
     let mut counts = HashMap::new();
     for (asked, answer) in asked.iter().zip(answers) {
         let Asked { controller, first, second } = asked;
         let broken = |what: &str| format!("count: {what}: {} at {controller} of {first} and {second}", answer.count);
-        if answer.number != Refusal::ACCEPTED {
+        if answer.refusal != RefusalNumber::ACCEPTED {
             if answer.count != 0 {
                 return Err(broken("a refused call counts"));
             }

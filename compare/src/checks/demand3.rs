@@ -11,7 +11,7 @@ pub type Name = (usize, usize);
 /// Two sums: of the amounts above 0, and of those below 0 with the sign dropped.
 pub type Sums = (usize, usize);
 
-/// What an event answers besides its number and its set.
+/// What an event answers besides its refusal and its set.
 pub struct Figures {
     pub finished: u8,
     pub sums: Sums,
@@ -40,7 +40,8 @@ struct Content {
     write: Option<Written>,
 }
 
-/// Whether no stamp of the one is later than the other's, or the other way round; and equal stamps have equal values.
+/// Whether no stamp of one is later than the same register's stamp in the other, or the other way round; and whether
+/// equal stamps have equal values.
 fn ordered(one: &[Register; 8], other: &[Register; 8]) -> bool {
     let all = |holds: fn(&Register, &Register) -> bool| one.iter().zip(other).all(|(a, b)| holds(a, b));
     all(|a, b| a.0 != b.0 || a.1 == b.1) && (all(|a, b| a.0 <= b.0) || all(|a, b| a.0 >= b.0))
@@ -64,7 +65,7 @@ fn line_of(text: &str) -> Option<(usize, Line)> {
 }
 
 pub struct Ledger {
-    /// That of the request for a fresh table, or of the file.
+    /// The version of the request for a fresh table, or of the file.
     version: usize,
     n: usize,
     logs: Vec<Vec<Name>>,
@@ -117,7 +118,7 @@ impl Ledger {
         }
     }
 
-    /// An event call with its bytes and its answer. A record of a file has no figures but those of its line.
+    /// An event call with its bytes and its answer. A record of a file has no other figures than its line.
     pub fn event(&mut self, bytes: &[u8], number: u8, set: &[Name], figures: Option<Figures>) {
         if number != 0 {
             self.expect(set.is_empty(), || "a refused event answers a set".into());
@@ -158,8 +159,8 @@ impl Ledger {
         (1..=self.n).for_each(|r| self.in_order(r));
     }
 
-    /// A write of c: its date is one more than the greatest of its register among the writes that c has applied. No
-    /// other write of that register has its stamp.
+    /// A write of c: its date is one more than the greatest date of its register among the writes that c has applied.
+    /// No other write of that register has its stamp.
     fn write(&mut self, c: usize, register: usize, value: u32) {
         if !(1..=8).contains(&register) {
             return self.expect(false, || format!("an accepted write of register {register}"));
@@ -261,8 +262,8 @@ impl Ledger {
         }
     }
 
-    /// An accepted local read: it gives the sums over what its controller has applied, in which is all that it has
-    /// sent.
+    /// An accepted local read: it gives the sums of what its controller has applied, and that is all that it has sent,
+    /// or more.
     fn local_read(&mut self, c: usize, sums: Option<Sums>) {
         let own = self.sent.range((c, 0)..(c + 1, 0)).map(|(name, _)| *name);
         let missing: Vec<Name> = own.filter(|name| !self.applied[c - 1].contains(name)).collect();
@@ -334,8 +335,8 @@ impl Ledger {
         self.expect(sums == right, || format!("{c} shows {sums:?}, not {right:?}"));
     }
 
-    /// A local read of a controller at which the ending speaks, lent enough scratch. What it gives are the ending's
-    /// sums, since they are those over what was applied.
+    /// A local read of a controller at which the ending speaks, lent enough scratch. It gives the ending's
+    /// sums, since these are the sums of what was applied.
     pub fn ending_read(&mut self, c: usize, number: u8, sums: Sums) {
         self.expect(number == 0, || format!("the ending: a local read of {c} is refused"));
         self.local_read(c, Some(sums));
@@ -373,8 +374,8 @@ impl Ledger {
         place.filter(|_| !self.applied[c - 1].contains(&name))
     }
 
-    /// A count of "goes before" with its answer. It moves nothing. Every table of a list is well formed, so that only a
-    /// controller that is none is refused.
+    /// A count of "goes before" with its answer. It moves nothing. Every table of a list is well formed, so only a
+    /// number that is no controller's is refused.
     pub fn count(&mut self, c: usize, [first, second]: [Name; 2], number: u8, count: usize) {
         if c < 1 || c > self.n {
             return self.expect((number, count) == (8, 0), || format!("a count at {c} answers {number} and {count}"));

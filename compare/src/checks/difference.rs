@@ -7,7 +7,7 @@ use crate::cases::{asked_in, Asked, Call, Case, Head};
 use crate::engines::Engine;
 use crate::reference::calls::LOCAL_READ;
 use crate::reference::{meaning, well_formed};
-use furnacejade::{LookAnswer, Refusal, RunAnswer, Table};
+use furnacejade::{LookAnswer, RefusalNumber, RunAnswer, Table};
 
 /// What a file run leaves.
 struct RunLeft {
@@ -54,14 +54,14 @@ fn differ_plain(what: &str, same: bool) -> Result<(), String> {
 fn event(a: &mut Side, b: &mut Side, bytes: &[u8], scratch: usize) -> Result<(), String> {
     let before = b.table.clone();
     let (right, found) = (a.event(bytes, scratch), b.event(bytes, scratch));
-    differ("event: number", right.answer.number, found.answer.number)?;
+    differ("event: refusal", right.answer.refusal, found.answer.refusal)?;
     differ("event: set", set(&right.answer), set(&found.answer))?;
     differ("event: finished", right.answer.finished, found.answer.finished)?;
     differ("event: sums", right.answer.sums, found.answer.sums)?;
     differ_plain("event: answer", right.answer == found.answer)?;
     differ("event: bytes left", right.bytes, found.bytes)?;
     differ_plain("event: scratch", right.scratch == found.scratch)?;
-    if found.answer.number != Refusal::ACCEPTED {
+    if found.answer.refusal != RefusalNumber::ACCEPTED {
         return differ_plain("event: table of a refused event", before == b.table);
     }
     if bytes[1] == LOCAL_READ {
@@ -74,7 +74,7 @@ fn event(a: &mut Side, b: &mut Side, bytes: &[u8], scratch: usize) -> Result<(),
 fn look(a: &Side, b: &Side, c: usize) -> Result<(), String> {
     let before = b.table.clone();
     let (right, found) = (a.engine.look(&a.table, c), b.engine.look(&b.table, c));
-    differ("look: number", right.number, found.number)?;
+    differ("look: refusal", right.refusal, found.refusal)?;
     differ("look: sums", right.panel.sums, found.panel.sums)?;
     differ("look: classes", &right.panel.classes, &found.panel.classes)?;
     let shown = |answer: &LookAnswer| answer.panel.registers.map(register);
@@ -90,7 +90,7 @@ fn counts(a: &mut Side, b: &mut Side, asked: &[Asked]) -> Result<(), String> {
     differ_plain("count: table", before.as_bytes() == b.table.as_bytes())?;
     counts::laws(&before, asked, &found)?;
     for (right, found) in right.iter().zip(&found) {
-        differ("count: number", right.number, found.number)?;
+        differ("count: refusal", right.refusal, found.refusal)?;
         differ("count: count", right.count, found.count)?;
     }
     Ok(())
@@ -100,7 +100,7 @@ fn counts(a: &mut Side, b: &mut Side, asked: &[Asked]) -> Result<(), String> {
 fn file(a: &dyn Engine, b: &dyn Engine, bytes: &[u8], lent: [usize; 2]) -> Result<(Table, Table), String> {
     let [listing, scratch] = lent;
     let (right, found) = (run(a, bytes, listing, scratch), run(b, bytes, listing, scratch));
-    differ("file: number", right.answer.number, found.answer.number)?;
+    differ("file: refusal", right.answer.refusal, found.answer.refusal)?;
     differ("file: events", right.answer.events, found.answer.events)?;
     differ("file: written", right.answer.written, found.answer.written)?;
     differ_plain("file: listing", right.listing == found.listing)?;
@@ -111,7 +111,7 @@ fn file(a: &dyn Engine, b: &dyn Engine, bytes: &[u8], lent: [usize; 2]) -> Resul
 
 fn fresh(a: &dyn Engine, b: &dyn Engine, version: usize, n: usize) -> Result<(Table, Table), String> {
     let (right, found) = (a.fresh(version, n), b.fresh(version, n));
-    differ("fresh: number", right.number, found.number)?;
+    differ("fresh: refusal", right.refusal, found.refusal)?;
     differ_plain("fresh: table", same_table(&right.table, &found.table))?;
     Ok((right.table, found.table))
 }

@@ -1,6 +1,6 @@
 //! A reading that is never stale, checked over one list of calls. A message is finished by the handover by which its
 //! sender applies it, and begun when it is sent. Whatever was finished before a message was begun is found where that
-//! message is finished. This goes by the list's order alone, and asks nothing of what contains what.
+//! message is finished. Only the list's order counts here; which set contains which is not asked.
 
 use super::demand3::{Name, Stamp, Sums};
 use std::collections::{BTreeMap, BTreeSet};
@@ -133,7 +133,7 @@ impl NeverStale {
         }
     }
 
-    /// A message is sent by a controller that has applied so much.
+    /// A message is sent by a controller that has applied these.
     pub fn begin(&mut self, name: Name, applied: &BTreeSet<Name>) {
         self.begun.insert(name, self.now.clone());
         if !self.now.messages.is_subset(applied) {

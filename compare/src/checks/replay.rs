@@ -7,7 +7,7 @@ use crate::cases::records::local_read;
 use crate::cases::{Call, Case, Head};
 use crate::engines::Engine;
 use crate::reference::SCRATCH;
-use furnacejade::{LookAnswer, Refusal, Table};
+use furnacejade::{LookAnswer, RefusalNumber, Table};
 
 /// The ledger and the table with which a list begins, if the head gives one.
 fn list_head(case: &Case, engine: &dyn Engine) -> Option<(Ledger, Table)> {
@@ -15,13 +15,13 @@ fn list_head(case: &Case, engine: &dyn Engine) -> Option<(Ledger, Table)> {
         Head::Table(_) => None,
         Head::Fresh { version, n } => {
             let fresh = engine.fresh(*version, *n);
-            (fresh.number == Refusal::ACCEPTED).then(|| (Ledger::new(*version, *n), fresh.table))
+            (fresh.refusal == RefusalNumber::ACCEPTED).then(|| (Ledger::new(*version, *n), fresh.table))
         }
         Head::File { bytes, listing, scratch } => {
             let (mut listing, mut scratch) = (Lent::new(*listing), Lent::new(*scratch));
             let run = engine.run(bytes, listing.lent(), scratch.lent());
             let ledger = || Ledger::file(bytes, run.events, &listing.lent()[..run.written]);
-            (!(1..=3).contains(&run.number.number())).then(ledger).map(|ledger| (ledger, run.table))
+            (!(1..=3).contains(&run.refusal.0)).then(ledger).map(|ledger| (ledger, run.table))
         }
     }
 }
@@ -40,15 +40,15 @@ pub fn ledger_of(case: &Case, engine: &dyn Engine) -> Option<Ledger> {
     let (mut ledger, table) = list_head(case, engine)?;
     let mut side = Side { engine, table };
     let look = |ledger: &mut Ledger, t: &Table, c: usize| {
-        let LookAnswer { number, panel } = engine.look(t, c);
+        let LookAnswer { refusal, panel } = engine.look(t, c);
         let (classes, registers) = (panel.classes.map(sums), panel.registers.map(register));
-        ledger.look(c, number.number(), sums(panel.sums), classes, registers);
+        ledger.look(c, refusal.0, sums(panel.sums), classes, registers);
     };
     for step in 0..=case.calls.len() {
         for c in ledger.ended() {
             look(&mut ledger, &side.table, c);
             let answer = side.event(&local_read(c), SCRATCH).answer;
-            ledger.ending_read(c, answer.number.number(), sums(answer.sums));
+            ledger.ending_read(c, answer.refusal.0, sums(answer.sums));
         }
         if ledger.broken().is_some() {
             break;
@@ -57,13 +57,13 @@ pub fn ledger_of(case: &Case, engine: &dyn Engine) -> Option<Ledger> {
             Some(Call::Event { bytes, scratch }) => {
                 let answer = side.event(bytes, *scratch).answer;
                 let figures = Figures { finished: answer.finished, sums: sums(answer.sums) };
-                ledger.event(bytes, answer.number.number(), &set(&answer), Some(figures));
+                ledger.event(bytes, answer.refusal.0, &set(&answer), Some(figures));
             }
             Some(Call::Look(c)) => look(&mut ledger, &side.table, *c),
             Some(Call::CountBefore(asked)) => {
                 let answer = &engine.counts_before(&mut side.table, &[*asked])[0];
                 let names = [asked.first, asked.second].map(|x| (x.sender as usize, x.number.0 as usize));
-                ledger.count(asked.controller, names, answer.number.number(), answer.count);
+                ledger.count(asked.controller, names, answer.refusal.0, answer.count);
             }
             None => {}
         }

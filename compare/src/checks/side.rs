@@ -1,10 +1,10 @@
-//! One side of a comparison: an engine, the table that it goes on with, and memory that is lent to it. And what it
+//! One side of a comparison: an engine, the table that it goes on with, the memory that is lent to it, and what it
 //! answers in plain numbers.
 
 use super::demand3;
 use crate::engines::library::DIRTY_SUMS;
 use crate::engines::Engine;
-use furnacejade::{Answer, MessageNumber, Name, Refusal, Register, Sums, Table};
+use furnacejade::{Answer, MessageNumber, Name, RefusalNumber, Register, Sums, Table};
 
 const GUARD: usize = 64;
 
@@ -26,7 +26,7 @@ impl Lent {
 
 fn dirty_answer() -> Answer {
     let name = Name { sender: 0xA5, number: MessageNumber(0xA5) };
-    Answer { number: Refusal::from(0xA5), finished: 0xA5, sums: DIRTY_SUMS, size: 77, names: [name; 64] }
+    Answer { refusal: RefusalNumber(0xA5), finished: 0xA5, sums: DIRTY_SUMS, size: 77, names: [name; 64] }
 }
 
 /// An engine, and the table that it goes on with.

@@ -16,11 +16,11 @@ use furnacejade::{CountAnswer, ForwardNumber, Table};
 type Sent = (usize, usize);
 
 impl Script<'_> {
-    /// The number and the count.
+    /// The refusal and the count.
     fn before(&mut self, c: usize, first: Sent, second: Sent) -> (u8, usize) {
         let asked = Asked { controller: c, first: name(first.0, first.1), second: name(second.0, second.1) };
-        let CountAnswer { number, count } = self.engine.counts_before(&mut self.table, &[asked])[0];
-        (number.number(), count)
+        let CountAnswer { refusal, count } = self.engine.counts_before(&mut self.table, &[asked])[0];
+        (refusal.0, count)
     }
 
     /// Both ways round, if both are accepted.
@@ -75,7 +75,7 @@ fn worked_run(engine: &dyn Engine) -> Result<(), String> {
     expect(rests.len() + 1 == WORKED.len(), "counts in the worked run: all its events")?;
     for (event, counts) in WORKED.iter().enumerate() {
         if event > 0 {
-            expect(s.number(rests[event - 1].to_vec()) == 0, "counts in the worked run: its events")?;
+            expect(s.refusal(rests[event - 1].to_vec()) == 0, "counts in the worked run: its events")?;
         }
         for (c, both) in (1..).zip(counts) {
             let edge = format!("counts in the worked run: at {c} after event {event}");
@@ -90,7 +90,7 @@ fn forced_out(engine: &dyn Engine) -> Result<(), String> {
     let WholeRun { file, .. } = named("one message that is taken out forces another out");
     let (mut s, (one, two, three)) = (Script::fresh(engine, 1, 3), ((1, 1), (2, 1), (3, 1)));
     for (event, rest) in (1..).zip(rests(&file)) {
-        expect(s.number(rest.to_vec()) == 0, "counts where one forces another out: its events")?;
+        expect(s.refusal(rest.to_vec()) == 0, "counts where one forces another out: its events")?;
         let right = match event {
             9 => [(two, three, [1, 1]), (one, three, [2, 1]), (one, two, [1, 2])],
             11 => [(two, three), (one, three), (one, two)].map(|(first, second)| (first, second, [0, 0])),
@@ -103,12 +103,12 @@ fn forced_out(engine: &dyn Engine) -> Result<(), String> {
     Ok(())
 }
 
-/// For each n, two messages of which all, none or one of the controllers have a smaller mark for the one; equal marks
-/// and absent ones; and marks above n, which do not count.
+/// For each n, two messages: all, none or one of the controllers have a smaller mark for the first; equal marks and
+/// absent ones; and marks above n, which do not count.
 fn most_and_least(engine: &dyn Engine) -> Result<(), String> {
     for n in 1..=7 {
         let mut s = Script::fresh(engine, 1, n);
-        expect(s.number(report(1, 5)) == 0 && s.number(report(1, 5)) == 0, "two reports under way")?;
+        expect(s.refusal(report(1, 5)) == 0 && s.refusal(report(1, 5)) == 0, "two reports under way")?;
         let both = |s: &mut Script, first: [u8; 7], second: [u8; 7]| {
             s.mark(1, 0, first);
             s.mark(1, 1, second);
@@ -139,7 +139,7 @@ fn most_and_least(engine: &dyn Engine) -> Result<(), String> {
 fn questions(engine: &dyn Engine) -> Result<(), String> {
     for n in 1..=7 {
         let mut s = Script::fresh(engine, 1, n);
-        expect(s.number(report(1, 5)) == 0, "a report")?;
+        expect(s.refusal(report(1, 5)) == 0, "a report")?;
         let far = [n + 1, 8, 255, 256, 257, (1 << 32) + 1, (1 << 63) + 1, usize::MAX];
         for (first, second) in [((1, 1), (0, 0)), ((1, 1), (n + 1, 1)), ((1, 1), (255, 255))] {
             for c in [0].into_iter().chain(far) {
@@ -172,7 +172,7 @@ fn names(engine: &dyn Engine) -> Result<(), String> {
     let first = [report(1, 5), handover(2, 1), handover(1, 2), handover(2, 2)];
     let then = [report(1, 5), report(1, 5), sync(3), handover(2, 1), stop(1, 2), handover(3, 1)];
     for record in first.into_iter().chain(then) {
-        expect(s.number(record) == 0, "a run with messages of every sort")?;
+        expect(s.refusal(record) == 0, "a run with messages of every sort")?;
     }
     let all =
         [(1, 1), (1, 2), (1, 3), (3, 1), (2, 1), (1, 4), (1, 64), (4, 1), (0, 1), (255, 1), (1, 0), (1, 65), (1, 255)];
@@ -202,10 +202,10 @@ fn names(engine: &dyn Engine) -> Result<(), String> {
 fn last_slots(engine: &dyn Engine) -> Result<(), String> {
     let mut s = Script::fresh(engine, 1, 2);
     for _ in 1..=64 {
-        expect(s.number(report(1, 1)) == 0, "64 reports under way")?;
+        expect(s.refusal(report(1, 1)) == 0, "64 reports under way")?;
     }
     for _ in 1..=64 {
-        expect(s.number(handover(2, 1)) == 0, "64 reports are heard of")?;
+        expect(s.refusal(handover(2, 1)) == 0, "64 reports are heard of")?;
     }
     for (c, (one, other)) in [1, 2].into_iter().flat_map(|c| [(63, 64), (1, 64), (1, 2)].map(|pair| (c, pair))) {
         expect(s.both(c, (1, one), (1, other)) == Some([1, 0]), "the first and the last of 64 messages")?;
@@ -220,13 +220,13 @@ fn worked_list(engine: &dyn Engine, events: usize) -> Ledger {
     for rest in rests(&file).into_iter().take(events) {
         let answer = s.answer(rest, SCRATCH);
         let figures = Figures { finished: answer.finished, sums: side::sums(answer.sums) };
-        ledger.event(rest, answer.number.number(), &side::set(&answer), Some(figures));
+        ledger.event(rest, answer.refusal.0, &side::set(&answer), Some(figures));
     }
     ledger
 }
 
-/// The checker of lists works out the same counts from the logs; and it says so where one is too great or too small,
-/// where a controller is refused, and where one that is none is let through.
+/// The checker of lists works out the same counts from the logs; and it says so where a count is too great or too
+/// small, where a controller is refused, and where a number that is no controller's is let through.
 fn checker(engine: &dyn Engine) -> Result<(), String> {
     for (events, counts) in WORKED.iter().enumerate() {
         for (c, way) in (0..=4).flat_map(|c| [(c, 0), (c, 1)]) {
@@ -261,7 +261,7 @@ fn checker(engine: &dyn Engine) -> Result<(), String> {
 fn cut_off(engine: &dyn Engine) -> Result<(), String> {
     let mut s = Script::fresh(engine, 1, 4);
     for record in [report(1, 5), report(1, 6), handover(2, 1), handover(2, 2), stop(1, 1)] {
-        expect(s.number(record) == 0, "a run with a message that is cut off")?;
+        expect(s.refusal(record) == 0, "a run with a message that is cut off")?;
     }
     expect(s.both(1, (1, 1), (1, 2)) == Some([1, 0]), "two that are pending where it stopped")?;
     expect(s.before(2, (1, 1), (1, 1)) == (0, 0), "two marks before itself")?;

@@ -19,7 +19,7 @@ pub fn same_run(
     let lend = |engine: &dyn Engine| {
         let (mut lines, mut area) = (vec![7; listing], vec![7; scratch]);
         let run = engine.run(file, &mut lines, &mut area);
-        ((run.number.number(), run.events, run.written), lines, area)
+        ((run.refusal.0, run.events, run.written), lines, area)
     };
     let found = lend(engine);
     expect(found == lend(&Reference), edge)?;
@@ -49,7 +49,7 @@ fn short_files(engine: &dyn Engine) -> Result<(), String> {
     let header = file_of(1, 3, &[]);
     for (file, number) in [(&header[..1], 1), (&header, 0), (&[1, 8], 3)] {
         let run = engine.run(file, &mut [], &mut []);
-        expect((run.number.number(), run.events, run.written) == (number, 0, 0), "short files")?;
+        expect((run.refusal.0, run.events, run.written) == (number, 0, 0), "short files")?;
     }
     Ok(())
 }

@@ -21,7 +21,7 @@ struct List {
     wrong: Option<String>,
 }
 
-/// A call with its answer; of a handover the sums are those of its line.
+/// A call with its answer. The sums of a handover are the sums of its line.
 enum Said {
     Event { record: Vec<u8>, set: Vec<Name>, finished: u8, sums: Sums },
     Look { c: usize, shown: Box<Shown> },
@@ -47,7 +47,7 @@ fn names_in(text: &str) -> Vec<Name> {
     text.split_whitespace().filter_map(name).collect()
 }
 
-/// In version 1 the sums are those of class 0.
+/// In version 1 the sums are the sums of class 0.
 fn look_in(version: usize, c: usize, answer: &str) -> Said {
     let (mut classes, mut registers) = ([(0, 0); 5], [((0, 0), 0); 8]);
     let mut parts = answer.split(';');
@@ -169,7 +169,7 @@ impl List {
         }
         let ((records, lines), mut listing) = (records_and_listing(&self.calls), vec![7; LISTING]);
         let run = engine.run(&file_of(self.version, self.n, &records), &mut listing, &mut [7; SCRATCH]);
-        let right = run.number.number() == 0 && listing[..run.written] == *lines.as_bytes();
+        let right = run.refusal.0 == 0 && listing[..run.written] == *lines.as_bytes();
         expect(right, &format!("{}: its listing", self.what))
     }
 }
@@ -179,13 +179,13 @@ fn gives(script: &mut Script, call: &Said) -> bool {
     match call {
         Said::Event { record, set, finished, sums } => {
             let (answer, right) = (script.answer(record, SCRATCH), figures(set, *finished, *sums));
-            let found = (answer.number.number(), side::set(&answer), answer.finished, side::sums(answer.sums));
+            let found = (answer.refusal.0, side::set(&answer), answer.finished, side::sums(answer.sums));
             found == (0, set.clone(), right.finished, right.sums)
         }
         Said::Look { c, shown } => {
-            let LookAnswer { number, panel } = script.engine.look(&script.table, *c);
+            let LookAnswer { refusal, panel } = script.engine.look(&script.table, *c);
             let (classes, registers) = (panel.classes.map(side::sums), panel.registers.map(side::register));
-            let found = (number.number(), side::sums(panel.sums), classes, registers);
+            let found = (refusal.0, side::sums(panel.sums), classes, registers);
             found == (0, shown.sums, shown.classes, shown.registers)
         }
     }

@@ -17,26 +17,26 @@ fn local_reads(engine: &dyn Engine) -> Result<(), String> {
             answer == Answer { sums: sums(both), ..Answer::BLANK } && before == s.table
         };
         for (record, number) in [([2, 7, 1], 6), ([1, 5, 1], 7), ([0, 5, 1], 6), ([3, 5, 1], 5), ([2, 5, 0], 8)] {
-            expect(s.number(record.to_vec()) == number, "a local read that 5 to 8 refuse")?;
+            expect(s.refusal(record.to_vec()) == number, "a local read that 5 to 8 refuse")?;
         }
-        expect(s.number(vec![3, 5, 1, 0]) == 7 && s.number(local_read(3)) == 8, "a local read that 7 and 8 refuse")?;
+        expect(s.refusal(vec![3, 5, 1, 0]) == 7 && s.refusal(local_read(3)) == 8, "a local read that 7 and 8 refuse")?;
         expect(gives(&mut s, 1, (0, 0)) && gives(&mut s, 2, (0, 0)), "a local read of a fresh table")?;
-        expect(s.answer(&local_read(1), SCRATCH - 1).number.number() == 15, "15 is put to a local read")?;
-        expect(s.number(report_in(version, 1, -30)) == 0 && s.number(local_read(1)) == 18, "a pending report")?;
-        expect(s.answer(&local_read(1), 0).number.number() == 18, "18 before 15")?;
-        expect(s.number(sync(2)) == 0 && s.number(local_read(2)) == 18, "a pending sync")?;
+        expect(s.answer(&local_read(1), SCRATCH - 1).refusal.0 == 15, "15 is put to a local read")?;
+        expect(s.refusal(report_in(version, 1, -30)) == 0 && s.refusal(local_read(1)) == 18, "a pending report")?;
+        expect(s.answer(&local_read(1), 0).refusal.0 == 18, "18 before 15")?;
+        expect(s.refusal(sync(2)) == 0 && s.refusal(local_read(2)) == 18, "a pending sync")?;
         let mut stopped = Script { engine, table: s.table.clone() };
-        expect(stopped.number(stop(1, 1)) == 0 && stopped.number(local_read(1)) == 10, "10 before 18")?;
+        expect(stopped.refusal(stop(1, 1)) == 0 && stopped.refusal(local_read(1)) == 10, "10 before 18")?;
         for (r, o) in [(2, 1), (1, 2), (1, 2), (1, 1), (1, 1)] {
-            expect(s.number(handover(r, o)) == 0, "handovers before a local read")?;
+            expect(s.refusal(handover(r, o)) == 0, "handovers before a local read")?;
         }
         // 1 has applied its report and 2's sync; 2 has both pending.
-        expect(gives(&mut s, 1, (0, 30)) && s.number(local_read(2)) == 18, "a local read of what was applied")?;
-        expect(s.number(stop(2, 2)) == 0 && s.number(local_read(2)) == 10, "a local read of a stopped controller")?;
+        expect(gives(&mut s, 1, (0, 30)) && s.refusal(local_read(2)) == 18, "a local read of what was applied")?;
+        expect(s.refusal(stop(2, 2)) == 0 && s.refusal(local_read(2)) == 10, "a local read of a stopped controller")?;
     }
     let mut s = Script::fresh(engine, 1, 2);
-    expect(s.number(report(1, 5)) == 0 && s.number(handover(2, 1)) == 0, "a report that another has pending")?;
-    expect(s.number(local_read(2)) == 0, "messages of others may be pending at a local read")
+    expect(s.refusal(report(1, 5)) == 0 && s.refusal(handover(2, 1)) == 0, "a report that another has pending")?;
+    expect(s.refusal(local_read(2)) == 0, "messages of others may be pending at a local read")
 }
 
 /// As many events as a file can have, and one byte more; and events with numbers of four and five digits before a line.
@@ -52,7 +52,7 @@ fn many_local_reads(engine: &dyn Engine) -> Result<(), String> {
         let mut listing = vec![7; LISTING];
         let run = engine.run(&file, &mut listing, &mut [7; SCRATCH]);
         let expected = format!("{} 1 5 0 1.1\n{} 1 5 7 1.2\n", count + 2, count + 4);
-        let found = (run.number.number(), run.events, &listing[..run.written]);
+        let found = (run.refusal.0, run.events, &listing[..run.written]);
         expect(found == (0, count + 4, expected.as_bytes()), "a line after many local reads")?;
     }
     Ok(())

@@ -14,7 +14,7 @@ pub fn dense_run(version: usize) -> Vec<u8> {
     let mut script = Script::fresh(&Reference, version, 7);
     let mut records = Vec::new();
     let mut accepted = |record: Vec<u8>| {
-        let yes = script.number(record.clone()) == 0;
+        let yes = script.refusal(record.clone()) == 0;
         if yes {
             records.push(record);
         }

@@ -10,10 +10,10 @@ use crate::reference::{LISTING, SCRATCH};
 fn majorities(engine: &dyn Engine) -> Result<(), String> {
     for (n, majority) in (1..).zip([1, 2, 2, 3, 3, 4, 4]) {
         let mut s = Script::fresh(engine, 1, n);
-        s.number(report(1, 5));
+        s.refusal(report(1, 5));
         for marks in 1..=majority {
             if marks > 1 {
-                s.number(handover(marks, 1));
+                s.refusal(handover(marks, 1));
             }
             let applied = if marks == majority { vec![(1, 1)] } else { vec![] };
             expect(s.event(handover(1, marks)) == (0, applied), &format!("n = {n}, {marks} marks"))?;
@@ -28,11 +28,11 @@ fn sixty_four(engine: &dyn Engine, version: usize, amounts: [i16; 2], whole: Bot
     for message in 1..=64 {
         let report = report_in(version, 1, amounts[message as usize % 2]);
         records.extend([report.clone(), handover(1, 1)]);
-        expect(s.number(report) == 0, "a report up to the 64th")?;
-        expect(s.number(sync(1)) == 11, "a sync while a report is pending")?;
+        expect(s.refusal(report) == 0, "a report up to the 64th")?;
+        expect(s.refusal(sync(1)) == 11, "a sync while a report is pending")?;
         expect(s.event(handover(1, 1)) == (0, vec![(1, message)]), "n = 1: report and handover")?;
     }
-    expect(s.number(report_in(version, 1, 1)) == 12, "the 65th message")?;
+    expect(s.refusal(report_in(version, 1, 1)) == 12, "the 65th message")?;
     let shown = panel_of(if version == 2 { 2 } else { 0 }, whole);
     expect(engine.look(&s.table, 1).panel == shown, "the greatest sums")?;
     let mut listing = vec![7; LISTING];
@@ -53,7 +53,7 @@ fn sixty_four_messages(engine: &dyn Engine) -> Result<(), String> {
 fn amounts(engine: &dyn Engine) -> Result<(), String> {
     for (amount, number) in [(360, 0), (-360, 0), (361, 9), (-361, 9), (0, 9)] {
         for version in [1, 2] {
-            expect(Script::fresh(engine, version, 2).number(report_in(version, 1, amount)) == number, "amounts")?;
+            expect(Script::fresh(engine, version, 2).refusal(report_in(version, 1, amount)) == number, "amounts")?;
         }
     }
     Ok(())
@@ -64,10 +64,10 @@ fn reports_under_way(engine: &dyn Engine) -> Result<(), String> {
     for version in [1, 2] {
         for first in [report_in(version, 1, 30), sync(1)] {
             let mut s = Script::fresh(engine, version, 3);
-            expect(s.number(first) == 0, "a first message")?;
-            expect(s.number(sync(1)) == 11, "a sync while the first is pending")?;
-            expect(s.number(report_in(version, 1, 20)) == 0, "a second report while the first is pending")?;
-            expect(s.number(sync(1)) == 11 && s.number(report_in(version, 2, 1)) == 0, "a sync, and another sender")?;
+            expect(s.refusal(first) == 0, "a first message")?;
+            expect(s.refusal(sync(1)) == 11, "a sync while the first is pending")?;
+            expect(s.refusal(report_in(version, 1, 20)) == 0, "a second report while the first is pending")?;
+            expect(s.refusal(sync(1)) == 11 && s.refusal(report_in(version, 2, 1)) == 0, "a sync, and another sender")?;
             let own = &s.table.controllers[0];
             let marks = [0, 1].map(|slot| own.pending[slot].marks[0].0);
             expect((own.length, marks) == (2, [1, 2]), "both are in the sender's log, each with its own mark")?;
@@ -75,7 +75,7 @@ fn reports_under_way(engine: &dyn Engine) -> Result<(), String> {
     }
     // A sync with a report after it, applied as one: the answer has both.
     let mut s = Script::fresh(engine, 1, 1);
-    let sent = [report(1, 30), handover(1, 1), sync(1), report(1, -20)].map(|record| s.number(record));
+    let sent = [report(1, 30), handover(1, 1), sync(1), report(1, -20)].map(|record| s.refusal(record));
     let answer = s.answer(&handover(1, 1), SCRATCH);
     let given = (answer.size, answer.finished, answer.sums);
     expect((sent, given) == ([0; 4], (2, 1, sums((30, 20)))), "a sync's answer is the sums after its whole set")
@@ -87,9 +87,9 @@ fn lengths_kept(engine: &dyn Engine) -> Result<(), String> {
     for (kept, number) in [(1, 14), (2, 0), (3, 0), (4, 14)] {
         let mut s = Script::fresh(engine, 1, 3);
         for record in play.clone() {
-            s.number(record);
+            s.refusal(record);
         }
-        expect(s.number(stop(1, kept)) == number, "log length 3, highest read position 2")?;
+        expect(s.refusal(stop(1, kept)) == number, "log length 3, highest read position 2")?;
     }
     Ok(())
 }

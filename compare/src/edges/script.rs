@@ -23,20 +23,20 @@ impl Script<'_> {
         answer
     }
 
-    /// The number, and the names of the set.
+    /// The refusal, and the names of the set.
     pub fn event(&mut self, bytes: Vec<u8>) -> (u8, Vec<(u8, u8)>) {
         let answer = self.answer(&bytes, SCRATCH);
-        (answer.number.number(), answer.applied().iter().map(|x| (x.sender, x.number.0)).collect())
+        (answer.refusal.0, answer.applied().iter().map(|x| (x.sender, x.number.0)).collect())
     }
 
-    pub fn number(&mut self, bytes: Vec<u8>) -> u8 {
+    pub fn refusal(&mut self, bytes: Vec<u8>) -> u8 {
         self.event(bytes).0
     }
 
     /// Every handover that is accepted, until none is.
     pub fn hand_over_all(&mut self) {
         let n = self.table.n;
-        let mut pair = |r: usize| (1..=n).filter(|o| self.number(handover(r, *o)) == 0).count();
+        let mut pair = |r: usize| (1..=n).filter(|o| self.refusal(handover(r, *o)) == 0).count();
         while (1..=n).map(&mut pair).sum::<usize>() > 0 {}
     }
 }
@@ -48,7 +48,7 @@ pub fn sums((added, withdrawn): Both) -> Sums {
     Sums { added, withdrawn }
 }
 
-/// A panel by its sums and those of each class.
+/// A panel by its sums and the sums of each class.
 pub fn panel(whole: Both, classes: [Both; 5]) -> Panel {
     Panel { sums: sums(whole), classes: classes.map(sums), ..Panel::BLANK }
 }

@@ -29,10 +29,10 @@ fn versions(engine: &dyn Engine) -> Result<(), String> {
             };
             let fresh = engine.fresh(version, n);
             let zero = fresh.table == Table::BLANK;
-            expect((fresh.number.number(), zero) == (number, number != 0), "versions of fresh tables")?;
+            expect((fresh.refusal.0, zero) == (number, number != 0), "versions of fresh tables")?;
             if let Ok(byte) = u8::try_from(version) {
                 let run = engine.run(&[byte, n as u8], &mut [], &mut []);
-                let same = run.number == fresh.number && run.table == fresh.table;
+                let same = run.refusal == fresh.refusal && run.table == fresh.table;
                 expect(same, "versions of files")?;
             }
         }
@@ -44,12 +44,12 @@ fn versions(engine: &dyn Engine) -> Result<(), String> {
 fn marks_above_n(engine: &dyn Engine) -> Result<(), String> {
     for n in 1..=7 {
         let mut s = Script::fresh(engine, 1, n);
-        s.number(report(1, 5));
+        s.refusal(report(1, 5));
         for (f, wrong) in (0..7).flat_map(|f| [0, 65, 254].map(|wrong| (f, wrong))) {
             let mut t = s.table.clone();
             t.controllers[0].pending[0].marks[f] = ForwardNumber(wrong);
             let number = if f < n { 4 } else { 0 };
-            expect(engine.look(&t, 1).number.number() == number, "marks up to n and above")?;
+            expect(engine.look(&t, 1).refusal.0 == number, "marks up to n and above")?;
         }
     }
     Ok(())

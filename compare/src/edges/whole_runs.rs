@@ -70,7 +70,7 @@ impl WholeRun {
         let (lines, events, number) = self.listing_and_end();
         let mut listing = vec![7; LISTING];
         let run = engine.run(&self.file, &mut listing, &mut vec![7; SCRATCH]);
-        expect((run.events, run.number.number()) == (events, number), &format!("{}: its answer", self.name))?;
+        expect((run.events, run.refusal.0) == (events, number), &format!("{}: its answer", self.name))?;
         expect(listing[..run.written] == *lines.as_bytes(), &format!("{}: its listing", self.name))?;
         if number == 0 {
             let mut script = Script::fresh(engine, self.file[0] as usize, self.file[1] as usize);

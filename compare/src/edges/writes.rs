@@ -5,15 +5,16 @@ use super::script::{expect, Script};
 use crate::cases::records::{handover, report, report_in, stop, sync, write};
 use crate::engines::Engine;
 use crate::reference::SCRATCH;
-use furnacejade::{Class, Message, MessageNumber, Payload, Register, Stamp, Sums, Table, REGISTERS};
+use furnacejade::{ClassNumber, Message, MessageNumber, Payload, Register, Stamp, Sums, Table, REGISTERS};
 
 impl Script<'_> {
-    /// All is handed over, a controller syncs, and all is handed over; the number of its write, which follows on that.
+    /// Everything is handed over, a controller syncs, and everything is handed over again. Answers the refusal of its
+    /// write, which comes next.
     fn write(&mut self, c: usize, register: usize, value: u32) -> u8 {
         self.hand_over_all();
-        self.number(sync(c));
+        self.refusal(sync(c));
         self.hand_over_all();
-        self.number(write(c, register, value))
+        self.refusal(write(c, register, value))
     }
 
     fn registers(&self, c: usize) -> [Register; REGISTERS] {
@@ -35,32 +36,35 @@ fn writes(engine: &dyn Engine) -> Result<(), String> {
     for version in [1, 2] {
         let mut s = Script::fresh(engine, version, 2);
         let whole = write(1, 1, 5);
-        expect(s.number(whole[..7].to_vec()) == 5, "a write without its last byte")?;
-        expect(s.number([&[7, 7], &whole[2..]].concat()) == 6, "kind 7")?;
-        expect(s.number([&[6, 6], &whole[2..7]].concat()) == 7, "a write of length 6")?;
-        expect(s.number([&[8, 6], &whole[2..], &[0]].concat()) == 7, "a write of length 8")?;
-        expect(s.number(write(0, 9, 5)) == 8 && s.number(write(3, 0, 5)) == 8, "8 before 19")?;
+        expect(s.refusal(whole[..7].to_vec()) == 5, "a write without its last byte")?;
+        expect(s.refusal([&[7, 7], &whole[2..]].concat()) == 6, "kind 7")?;
+        expect(s.refusal([&[6, 6], &whole[2..7]].concat()) == 7, "a write of length 6")?;
+        expect(s.refusal([&[8, 6], &whole[2..], &[0]].concat()) == 7, "a write of length 8")?;
+        expect(s.refusal(write(0, 9, 5)) == 8 && s.refusal(write(3, 0, 5)) == 8, "8 before 19")?;
         for number in 0..=255 {
             let right = if (1..=8).contains(&number) { 20 } else { 19 };
-            expect(s.number(write(1, number, 5)) == right, "registers; 19 before 20")?;
+            expect(s.refusal(write(1, number, 5)) == right, "registers; 19 before 20")?;
         }
-        expect(s.answer(&whole, 0).number.number() == 20, "20 before 15")?;
-        expect(s.number(sync(1)) == 0 && s.number(whole.clone()) == 11, "a write while its sender's sync is pending")?;
-        expect(s.number(write(1, 9, 5)) == 19, "19 before 11")?;
+        expect(s.answer(&whole, 0).refusal.0 == 20, "20 before 15")?;
+        expect(
+            s.refusal(sync(1)) == 0 && s.refusal(whole.clone()) == 11,
+            "a write while its sender's sync is pending",
+        )?;
+        expect(s.refusal(write(1, 9, 5)) == 19, "19 before 11")?;
         let mut stopped = Script { engine, table: s.table.clone() };
-        expect(stopped.number(stop(1, 1)) == 0 && stopped.number(whole.clone()) == 10, "10 before 11")?;
-        expect(stopped.number(write(1, 0, 5)) == 19, "19 before 10")?;
+        expect(stopped.refusal(stop(1, 1)) == 0 && stopped.refusal(whole.clone()) == 10, "10 before 11")?;
+        expect(stopped.refusal(write(1, 0, 5)) == 19, "19 before 10")?;
         s.hand_over_all();
-        expect(s.answer(&whole, SCRATCH - 1).number.number() == 15, "15 is put to a write")?;
+        expect(s.answer(&whole, SCRATCH - 1).refusal.0 == 15, "15 is put to a write")?;
         expect(s.event(whole.clone()) == (0, vec![]), "a write after an applied sync")?;
-        expect(s.number(whole.clone()) == 11 && s.number(sync(1)) == 11, "a write and a sync after a pending write")?;
-        expect(s.number(report_in(version, 1, 5)) == 0, "a report after a pending write")?;
+        expect(s.refusal(whole.clone()) == 11 && s.refusal(sync(1)) == 11, "a write and a sync after a pending write")?;
+        expect(s.refusal(report_in(version, 1, 5)) == 0, "a report after a pending write")?;
     }
     let mut s = Script::fresh(engine, 1, 2);
     for _ in 1..=64 {
-        s.number(report(1, 1));
+        s.refusal(report(1, 1));
     }
-    expect(s.number(write(1, 8, 5)) == 11 && s.number(write(2, 8, 5)) == 12, "11 before 12 before 20")
+    expect(s.refusal(write(1, 8, 5)) == 11 && s.refusal(write(2, 8, 5)) == 12, "11 before 12 before 20")
 }
 
 /// Question 20: a write follows on a sync of its sender's own, its latest message, that it has applied.
@@ -77,12 +81,12 @@ fn latest_messages(engine: &dyn Engine) -> Result<(), String> {
         ([sent(sync(1)), sent(write(1, 1, 5)), sent(sync(1))].concat(), 0),
     ] {
         let mut s = Script::fresh(engine, 1, 1);
-        expect(before.iter().all(|record| s.number(record.clone()) == 0), "what a sender sends before a write")?;
-        expect(s.number(write(1, 1, 6)) == number, "a write after what its sender sent")?;
+        expect(before.iter().all(|record| s.refusal(record.clone()) == 0), "what a sender sends before a write")?;
+        expect(s.refusal(write(1, 1, 6)) == number, "a write after what its sender sent")?;
     }
     let mut s = Script::fresh(engine, 1, 2);
     let set = [sync(2), handover(1, 2), own].map(|record| s.event(record).1).concat();
-    expect(set == [(2, 1)] && s.number(write(1, 1, 5)) == 20, "a write after another's sync")
+    expect(set == [(2, 1)] && s.refusal(write(1, 1, 5)) == 20, "a write after another's sync")
 }
 
 /// Every register has dates of its own; a write is shown where it was applied, and nowhere before.
@@ -102,20 +106,21 @@ fn values_and_dates(engine: &dyn Engine) -> Result<(), String> {
     expect(engine.look(&s.table, 1).panel.sums == Sums::BLANK, "syncs and writes weigh nothing")?;
     let mut s = Script::fresh(engine, 2, 1);
     for date in 1..=32 {
-        expect(s.write(1, 8, date as u32) == 0 && s.number(handover(1, 1)) == 0, "32 writes of one register")?;
+        expect(s.write(1, 8, date as u32) == 0 && s.refusal(handover(1, 1)) == 0, "32 writes of one register")?;
         expect(s.registers(1) == one_written(8, register(date as u32, date, 1)), "the dates of one register")?;
     }
     Ok(())
 }
 
-/// Of two writers with one date the greater wins, whoever is heard first; then a later date of the lesser.
+/// Of two writers with one date the greater wins, whichever is heard first. Then the smaller writer wins with a later
+/// date.
 fn rival_writers(engine: &dyn Engine) -> Result<(), String> {
     for first in [1, 2] {
         let mut s = Script::fresh(engine, 1, 3);
-        expect(s.number(sync(1)) == 0 && s.number(sync(2)) == 0, "two syncs")?;
+        expect(s.refusal(sync(1)) == 0 && s.refusal(sync(2)) == 0, "two syncs")?;
         s.hand_over_all();
         for c in [first, 3 - first] {
-            expect(s.number(write(c, 3, 100 * c as u32)) == 0, "two writers")?;
+            expect(s.refusal(write(c, 3, 100 * c as u32)) == 0, "two writers")?;
         }
         s.hand_over_all();
         let all = |s: &Script, right: Register| (1..=3).all(|c| s.registers(c) == one_written(3, right));
@@ -135,11 +140,11 @@ fn stored_writes(engine: &dyn Engine) -> Result<(), String> {
             expect(s.write(c, number, 5) == 0, "writes before the stored table")?;
         }
         s.hand_over_all();
-        s.number(report_in(version, 2, 5));
+        s.refusal(report_in(version, 2, 5));
         let number = |change: &dyn Fn(&mut Table)| {
             let mut t = s.table.clone();
             change(&mut t);
-            engine.look(&t, 1).number.number()
+            engine.look(&t, 1).refusal.0
         };
         expect(number(&|_| ()) == 0, "a good table with writes")?;
         // Slots 1, 3, 5 and 7 are writes, 6 is a sync and 8 a report; slots 1 and 7 are of one sender and register.
@@ -159,17 +164,17 @@ fn stored_writes(engine: &dyn Engine) -> Result<(), String> {
             let amounts =
                 as_said(1, x == 0, &|m| m.payload.added = x) && as_said(3, x == 0, &|m| m.payload.withdrawn = x);
             expect(amounts, "the amount of a write")?;
-            expect(as_said(5, x as u8 == 0, &|m| m.payload.class = Class(x as u8)), "the class of a write")?;
+            expect(as_said(5, x as u8 == 0, &|m| m.payload.class = ClassNumber(x as u8)), "the class of a write")?;
         }
     }
     Ok(())
 }
 
-/// Question 4: a running sender has each write that it sent pending or applied. A stopped one need not, nor has either
-/// to know its syncs.
+/// Question 4: a running sender has each write that it sent pending or applied. A stopped sender
+/// need not, and neither needs to know its syncs.
 fn lost_writes(engine: &dyn Engine) -> Result<(), String> {
     let mut s = Script::fresh(engine, 1, 2);
-    let played = [sync(2), handover(1, 2), sync(1)].map(|record| s.number(record));
+    let played = [sync(2), handover(1, 2), sync(1)].map(|record| s.refusal(record));
     expect(played == [0; 3], "a log with another's message first")?;
     for (payload, date, running, number) in [
         (Payload { kind: Payload::SYNC, ..Payload::BLANK }, 0, 1, 0),
@@ -179,7 +184,7 @@ fn lost_writes(engine: &dyn Engine) -> Result<(), String> {
         let mut t = s.table.clone();
         t.messages[2] = Message { sender: 1, number: MessageNumber(1), date, payload };
         (t.count, t.controllers[0].running) = (3, running);
-        expect(engine.look(&t, 1).number.number() == number, "a message that its sender does not know")?;
+        expect(engine.look(&t, 1).refusal.0 == number, "a message that its sender does not know")?;
     }
     Ok(())
 }

@@ -5,7 +5,7 @@ use super::stack::on_painted;
 use super::Engine;
 use crate::cases::Asked;
 use furnacejade::{
-    calls, Answer, CountAnswer, FreshAnswer, LookAnswer, Panel, Refusal, Register, RunAnswer, Stamp, Sums, Table,
+    calls, Answer, CountAnswer, FreshAnswer, LookAnswer, Panel, RefusalNumber, Register, RunAnswer, Stamp, Sums, Table,
 };
 use furnacejade::{CLASSES, REGISTERS};
 use std::mem::size_of;
@@ -35,25 +35,30 @@ pub struct Library {
 const PAINTS: [u8; 2] = [0xA5, 0x5A];
 
 impl Library {
+    /// The number as the package's functions take it, a byte, if a call is to be made again with it.
+    fn again_at(&self, number: usize) -> Option<u8> {
+        u8::try_from(number).ok().filter(|_| self.twice)
+    }
+
     fn event_again(&self, t: &mut Table, bytes: &[u8], scratch: &mut [u8], answer: &mut Answer) -> usize {
         let (mut table, mut area, mut left) = (t.clone(), scratch.to_vec(), 0);
         on_painted(PAINTS[0], || left = calls::event(t, bytes, scratch, answer));
-        let mut again = Err(Refusal::ACCEPTED);
-        on_painted(PAINTS[1], || again = furnacejade::event(&mut table, bytes, &mut area));
-        let first = answer.number.check().map(|()| (answer.clone(), &bytes[bytes.len() - left..]));
-        assert!(first == again, "two equal events answer differently");
+        let mut again = None;
+        on_painted(PAINTS[1], || again = Some(furnacejade::event(&mut table, bytes, &mut area)));
+        let first = answer.refusal.check().map(|()| (answer.clone(), &bytes[bytes.len() - left..]));
+        assert!(Some(first) == again, "two equal events answer differently");
         assert!(t.as_bytes() == table.as_bytes() && scratch == area, "two equal events leave other bytes");
         left
     }
 
     fn count_before(&self, t: &Table, Asked { controller, first, second }: Asked) -> CountAnswer {
-        let mut answer = CountAnswer { number: Refusal::from(0xA5), count: DIRTY_COUNT };
+        let mut answer = CountAnswer { refusal: RefusalNumber(0xA5), count: DIRTY_COUNT };
         calls::count_before(t, controller, &first, &second, &mut answer);
-        if self.twice {
-            let mut again = Err(Refusal::ACCEPTED);
-            on_painted(PAINTS[1], || again = furnacejade::count_before(t, controller, first, second));
-            let once = answer.number.check().map(|()| answer.count);
-            assert!(once == again, "two equal counts answer differently");
+        if let Some(controller) = self.again_at(controller) {
+            let mut again = None;
+            on_painted(PAINTS[1], || again = Some(furnacejade::count_before(t, controller, first, second)));
+            let once = answer.refusal.check().map(|()| answer.count);
+            assert!(Some(once) == again, "two equal counts answer differently");
         }
         answer
     }
@@ -79,13 +84,13 @@ impl Engine for Library {
     fn look(&self, t: &Table, c: usize) -> LookAnswer {
         let registers = [DIRTY_REGISTER; REGISTERS];
         let panel = Panel { sums: DIRTY_SUMS, classes: [DIRTY_SUMS; CLASSES], registers };
-        let mut answer = LookAnswer { number: Refusal::from(0xA5), panel };
+        let mut answer = LookAnswer { refusal: RefusalNumber(0xA5), panel };
         calls::look(t, c, &mut answer);
-        if self.twice {
-            let mut again = Err(Refusal::ACCEPTED);
-            on_painted(PAINTS[1], || again = furnacejade::look(t, c));
-            let first = answer.number.check().map(|()| answer.panel.clone());
-            assert!(first == again, "two equal looks answer differently");
+        if let Some(c) = self.again_at(c) {
+            let mut again = None;
+            on_painted(PAINTS[1], || again = Some(furnacejade::look(t, c)));
+            let first = answer.refusal.check().map(|()| answer.panel.clone());
+            assert!(Some(first) == again, "two equal looks answer differently");
         }
         answer
     }
@@ -93,18 +98,21 @@ impl Engine for Library {
         asked.iter().map(|asked| self.count_before(t, *asked)).collect()
     }
     fn fresh(&self, version: usize, n: usize) -> FreshAnswer {
-        let mut answer = FreshAnswer { number: Refusal::from(0xA5), table: dirty_table() };
+        let mut answer = FreshAnswer { refusal: RefusalNumber(0xA5), table: dirty_table() };
         calls::fresh(version, n, &mut answer);
-        if self.twice {
-            let mut again = Err(Refusal::ACCEPTED);
-            on_painted(PAINTS[1], || again = furnacejade::fresh(version, n));
-            let first = answer.number.check().map(|()| *answer.table.as_bytes());
-            assert!(first == again.map(|t| *t.as_bytes()), "two equal requests for a fresh table answer other bytes");
+        if let (Some(version), Some(n)) = (self.again_at(version), self.again_at(n)) {
+            let mut again = None;
+            on_painted(PAINTS[1], || again = Some(furnacejade::fresh(version, n)));
+            let first = answer.refusal.check().map(|()| *answer.table.as_bytes());
+            assert!(
+                Some(first) == again.map(|again| again.map(|t| *t.as_bytes())),
+                "two equal requests for a fresh table answer other bytes"
+            );
         }
         answer
     }
     fn run(&self, bytes: &[u8], listing: &mut [u8], scratch: &mut [u8]) -> RunAnswer {
-        let mut answer = RunAnswer { number: Refusal::from(0xA5), events: 77, written: 77, table: dirty_table() };
+        let mut answer = RunAnswer { refusal: RefusalNumber(0xA5), events: 77, written: 77, table: dirty_table() };
         match self.twice {
             true => self.run_again(bytes, listing, scratch, &mut answer),
             false => calls::run(bytes, listing, scratch, &mut answer),

@@ -13,7 +13,7 @@ pub trait Engine {
     /// Answers how many bytes are left.
     fn event(&self, t: &mut Table, bytes: &[u8], scratch: &mut [u8], answer: &mut Answer) -> usize;
     fn look(&self, t: &Table, c: usize) -> LookAnswer;
-    /// Each is a call of its own. A table that is written to is seen, since it may be.
+    /// Each is a call of its own. The table may be written to here, so that an engine that does so is found.
     fn counts_before(&self, t: &mut Table, asked: &[Asked]) -> Vec<CountAnswer>;
     fn fresh(&self, version: usize, n: usize) -> FreshAnswer;
     fn run(&self, bytes: &[u8], listing: &mut [u8], scratch: &mut [u8]) -> RunAnswer;

@@ -60,7 +60,7 @@ fn overwritten(call: impl FnMut()) -> usize {
     SIZE - STACK.with_borrow(|stack| stack.iter().take_while(|byte| **byte == PAINT).count())
 }
 
-/// How many bytes of stack a call needs, without those that making it here costs.
+/// How many bytes of stack a call needs, without what it costs to make the call here.
 pub fn needed(call: impl FnMut()) -> usize {
     overwritten(call) - overwritten(|| ())
 }

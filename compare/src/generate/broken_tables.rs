@@ -4,7 +4,7 @@
 use super::random::Random;
 use super::tables::{any_count, blind_calls, fair_class, good_table, may_be_write, set_highest};
 use crate::cases::{Case, Head};
-use furnacejade::{Class, Controller, ForwardNumber, Message, Payload, Pending, Table};
+use furnacejade::{Class, ClassNumber, Controller, ForwardNumber, Message, Payload, Pending, Table};
 
 /// A table that is to be broken, and where: at a controller, at a slot, at a message that is pending there, or at one
 /// that the controller does not know.
@@ -44,12 +44,12 @@ impl<'a> Break<'a> {
 
     fn payload(&mut self, kind: u8, added: &[u16], withdrawn: &[u16]) {
         let (added, withdrawn) = (self.random.pick(added), self.random.pick(withdrawn));
-        let class = if kind == Payload::REPORT { fair_class(self.random, self.t.version) } else { Class::NONE };
-        let payload = Payload { kind, class, added, withdrawn, ..Payload::BLANK };
+        let class = if kind == Payload::REPORT { fair_class(self.random, self.t.version) } else { Class::None };
+        let payload = Payload { kind, class: class.into(), added, withdrawn, ..Payload::BLANK };
         *self.message() = Message { date: 0, payload, ..*self.message() };
     }
 
-    /// Some slot of the messages that are so, if there is one.
+    /// A random slot among the messages of which `so` holds, if there is one.
     fn slot_with(&mut self, so: impl Fn(&Table, usize) -> bool) -> Option<usize> {
         let slots: Vec<usize> = (0..self.t.count).filter(|slot| so(self.t, *slot)).collect();
         (!slots.is_empty()).then(|| self.random.pick(&slots))
@@ -106,7 +106,7 @@ impl<'a> Break<'a> {
             (2, Payload::REPORT) => &[0, 5, 6, 128, 255],
             _ => &[1, 2, 3, 4, 5, 255],
         };
-        let class = Class(self.random.pick(wrong));
+        let class = ClassNumber(self.random.pick(wrong));
         if let Some(m) = self.of_kind(kind) {
             m.payload.class = class;
         }

@@ -8,7 +8,7 @@ use crate::cases::records::{file_of, local_read};
 use crate::cases::{Call, Case, Head};
 use crate::reference::{run_file, State, LISTING, SCRATCH};
 
-/// A legal file whose run goes by such a policy, and the state that it leaves.
+/// A legal file whose run follows a policy, and the state that it leaves.
 pub fn legal_file(
     random: &mut Random,
     version: usize,

@@ -16,7 +16,7 @@ pub fn list(random: &mut Random) -> Case {
     Case { head: Head::Fresh { version, n }, calls }
 }
 
-/// A run with few or many pending, refused calls in between, then drained so that the ending speaks.
+/// A run with few or many messages pending and with refused calls in between, then drained so that the ending speaks.
 pub fn drained(random: &mut Random) -> Case {
     let (version, n) = (any_version(random), random.between(1, 7));
     let mut state = State::fresh(version, n);
@@ -91,7 +91,7 @@ impl Making {
         }
     }
 
-    /// Counts of both ways round, at each controller, of two messages that were sent one after the other.
+    /// At each controller the counts, both ways round, of two messages that were sent one after the other.
     fn counts(&mut self, random: &mut Random) {
         let sent: Vec<_> = self.state.messages.iter().map(|x| name(x.name.sender, x.name.number)).collect();
         if sent.is_empty() {
@@ -134,7 +134,7 @@ impl Making {
         self.calls.extend(as_calls(run));
     }
 
-    /// A number of legal events of such a policy.
+    /// A number of legal events that follow a policy.
     fn some(&mut self, random: &mut Random, policy: &Policy, events: usize) {
         let run = legal_run(random, &mut self.state, policy, events);
         self.calls.extend(as_calls(run));

@@ -127,7 +127,8 @@ fn any_name(random: &mut Random, state: &State, c: usize) -> Name {
     name(known.sender, known.number)
 }
 
-/// A count of "goes before" at any number, its names mostly from what is pending there, if anything is.
+/// A count of "goes before" at any controller number. Its names are mostly of messages that are pending there, if any
+/// are.
 pub fn any_asked(random: &mut Random, state: &State) -> Asked {
     let controller = any_number(random, state.n);
     let first = any_name(random, state, controller);

@@ -1,12 +1,12 @@
-//! Counts of "goes before" on one table: of every pair of names at every controller, and of names and controllers that
-//! are none.
+//! Counts of "goes before" on one table: of every pair of names at every controller, and of names and numbers that
+//! are no message's and no controller's.
 
 use super::random::Random;
 use crate::cases::{name, Asked, Call};
 use furnacejade::{MessageNumber, Name, Table, CONTROLLERS, MESSAGES};
 
-/// Names for calls on a table: of all its messages, of slots after them, of messages that were never sent, and such as
-/// no message has.
+/// Names for calls on a table: of all its messages, of slots after them, of messages that were never sent, and names
+/// that no message can have.
 fn names(random: &mut Random, t: &Table) -> Vec<Name> {
     let (n, count) = (t.n.clamp(1, CONTROLLERS), t.count.min(MESSAGES));
     let slot = |s: usize| Name { sender: t.messages[s].sender, number: t.messages[s].number };
@@ -25,7 +25,7 @@ fn names(random: &mut Random, t: &Table) -> Vec<Name> {
     names
 }
 
-/// Every pair of these names at every controller, and at numbers that are none.
+/// Every pair of these names at every controller, and at numbers that are no controller's.
 pub fn every_pair(random: &mut Random, t: &Table) -> Vec<Call> {
     let (names, n) = (names(random, t), t.n.clamp(1, CONTROLLERS));
     let controllers = (0..=n + 1).chain([255, usize::MAX]);

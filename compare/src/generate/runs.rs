@@ -175,7 +175,7 @@ pub fn legal_event(random: &mut Random, state: &State, policy: &Policy) -> Optio
 
 /// Carries out an event on the generator's own state.
 pub fn follow(state: &mut State, bytes: &[u8], scratch: usize) -> u8 {
-    state.event(bytes, &mut vec![0; scratch]).0.number
+    state.event(bytes, &mut vec![0; scratch]).0.refusal
 }
 
 /// Up to `events` legal events from a state, which is brought up to date.

@@ -89,7 +89,7 @@ fn set_marks(random: &mut Random, c: &mut Controller, count: usize) {
 pub fn fair_class(random: &mut Random, version: usize) -> Class {
     match version {
         2 => random.pick(&Class::ALL),
-        _ => Class::NONE,
+        _ => Class::None,
     }
 }
 
@@ -134,7 +134,7 @@ fn set_messages(random: &mut Random, t: &mut Table) -> Option<()> {
     for slot in 0..t.count {
         let (sender, number) = *names.get(slot)?;
         let magnitude = random.pick(&[1, 360, 359, 7]);
-        let report = Payload { kind: 1, class: fair_class(random, t.version), ..Payload::BLANK };
+        let report = Payload { kind: 1, class: fair_class(random, t.version).into(), ..Payload::BLANK };
         let payload = match random.below(3) {
             0 => Payload { kind: 2, ..Payload::BLANK },
             1 => Payload { added: magnitude, ..report },
@@ -191,8 +191,8 @@ pub fn any_count(random: &mut Random) -> usize {
     }
 }
 
-/// Every pair of names at every controller, on one table in `among`; of the tables with more than twenty messages, for
-/// which that is up to 64,000 calls, on one in four of these.
+/// Every pair of names at every controller, on one table in `among`. On a table with more than twenty messages that is
+/// up to 64,000 calls, so of these tables only one in four of that share is asked.
 fn some_pairs(random: &mut Random, t: &Table, among: usize) -> Vec<Call> {
     match random.one_in(among) && (t.count <= 20 || random.one_in(4)) {
         true => every_pair(random, t),

@@ -8,10 +8,10 @@ use crate::checks::replay::ledger_of;
 use crate::engines::Reference;
 use crate::generate;
 use crate::reference::{calls, to_state, well_formed, MAX_MESSAGES};
-use furnacejade::{Answer, Controller, Message, Payload, Refusal, Stamp, Sums, Table};
+use furnacejade::{Answer, Controller, Message, Payload, Refusal, RefusalNumber, Stamp, Sums, Table};
 
-/// Refusal numbers are below it.
-const NUMBERS: usize = Refusal::ALL.len();
+/// Accepted calls have number 0, and the refusals follow.
+const NUMBERS: usize = 1 + Refusal::ALL.len();
 
 /// How often each answer came, by number and by the size of its set.
 struct Counts {
@@ -20,7 +20,7 @@ struct Counts {
     asked: [usize; NUMBERS],
     files: [usize; NUMBERS],
     before: Before,
-    /// Of accepted events by how many messages they apply.
+    /// Accepted events, by how many messages they apply.
     sizes: [usize; MAX_MESSAGES + 1],
     most_pending: usize,
     kept_pending: usize,
@@ -61,7 +61,7 @@ struct BothSums {
     classes: usize,
 }
 
-/// 1 if both sums are above 0, and else 0.
+/// 1 if both sums are above 0, else 0.
 fn has_both(sums: Sums) -> usize {
     (sums.added > 0 && sums.withdrawn > 0) as usize
 }
@@ -98,7 +98,7 @@ impl Counts {
         }
     }
 
-    /// What a list had to find of what was finished.
+    /// How often a list had to find something that was finished.
     fn readings(&mut self, case: &Case) {
         if let Some(ledger) = ledger_of(case, &Reference) {
             self.readings.add(&ledger.readings.tally);
@@ -111,7 +111,7 @@ impl Counts {
             Head::Fresh { version, n } => calls::fresh(*version, *n).table,
             Head::File { bytes, listing, scratch } => {
                 let run = calls::run(bytes, &mut vec![0; *listing], &mut vec![0; *scratch]);
-                self.files[run.number.number() as usize] += 1;
+                self.files[run.refusal.0 as usize] += 1;
                 run.table
             }
         }
@@ -120,11 +120,11 @@ impl Counts {
     fn event(&mut self, table: &mut Table, bytes: &[u8], scratch: usize) {
         let mut answer = Answer::BLANK;
         calls::event(table, bytes, &mut vec![0; scratch], &mut answer);
-        self.events[answer.number.number() as usize] += 1;
+        self.events[answer.refusal.0 as usize] += 1;
         self.sizes[answer.size] += 1;
         let pending = |c: &Controller| c.pending.iter().filter(|p| p.held != 0).count();
         self.both.syncs += answer.sync_answer().map_or(0, has_both);
-        if answer.number == Refusal::ACCEPTED {
+        if answer.refusal == RefusalNumber::ACCEPTED {
             if bytes[1] == Payload::WRITE {
                 self.write(table);
             }
@@ -155,8 +155,8 @@ impl Counts {
     fn goes_before(&mut self, table: &mut Table, asked: &[Asked]) {
         let state = well_formed(table).then(|| to_state(table));
         for (asked, answer) in asked.iter().zip(calls::counts_before(table, asked)) {
-            self.asked[answer.number.number() as usize] += 1;
-            let (Some(state), Refusal::ACCEPTED) = (&state, answer.number) else { continue };
+            self.asked[answer.refusal.0 as usize] += 1;
+            let (Some(state), RefusalNumber::ACCEPTED) = (&state, answer.refusal) else { continue };
             let is_pending = |name| pending(state, asked.controller, name).is_some();
             match (is_pending(&asked.first), is_pending(&asked.second)) {
                 (true, true) => {
@@ -171,7 +171,7 @@ impl Counts {
 
     fn look(&mut self, table: &Table, c: usize) {
         let answer = calls::look(table, c);
-        self.looks[answer.number.number() as usize] += 1;
+        self.looks[answer.refusal.0 as usize] += 1;
         self.both.looks += has_both(answer.panel.sums);
         let written = |from: Stamp| answer.panel.registers.iter().filter(move |x| x.stamp > from).count();
         let (any, again) = (written(Stamp::BLANK), written(Stamp { date: 1, writer: u16::MAX }));

@@ -1,5 +1,5 @@
-//! The modes of the program but for the workbench and the benchmark; `main.rs` lists them. Here stand `compare`,
-//! `reference`, `one` and `print`.
+//! The modes of the program, except those of the workbench and the benchmark. `main.rs` lists them all. This file has
+//! `compare`, `reference`, `one` and `print`.
 
 pub mod count;
 pub mod faults;
@@ -102,7 +102,7 @@ fn check_subsets(case: &Case) -> usize {
     checked
 }
 
-/// The state that a case begins with, unless a file or nothing gives it.
+/// The state that a case begins with, unless it begins with a file or with no well-formed table.
 fn first_state(case: &Case) -> Option<State> {
     let table = match &case.head {
         Head::Table(t) => (**t).clone(),

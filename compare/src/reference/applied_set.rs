@@ -16,7 +16,7 @@ pub(super) fn how_many(n: usize, yes: impl Fn(usize) -> bool) -> usize {
     (0..n).filter(|f| yes(*f)).count()
 }
 
-/// Do at least as many of the controllers 1 to n as a majority has say yes?
+/// Does a majority of the controllers 1 to n say yes?
 pub(super) fn majority_says(n: usize, yes: impl Fn(usize) -> bool) -> bool {
     how_many(n, yes) >= majority(n)
 }

@@ -4,8 +4,8 @@
 use super::{self as reference, *};
 use crate::cases::Asked;
 use furnacejade::{
-    Answer, CountAnswer, FreshAnswer, LookAnswer, MessageNumber, Name, Panel, Refusal, Register, RunAnswer, Stamp,
-    Sums, Table,
+    Answer, CountAnswer, FreshAnswer, LookAnswer, MessageNumber, Name, Panel, RefusalNumber, Register, RunAnswer,
+    Stamp, Sums, Table,
 };
 
 /// The kind of a record that leaves the table as it is.
@@ -24,13 +24,13 @@ fn register_of(register: reference::Register) -> Register {
 pub fn event(t: &mut Table, bytes: &[u8], scratch: &mut [u8], answer: &mut Answer) -> usize {
     *answer = Answer::BLANK;
     if !well_formed(t) {
-        answer.number = Refusal::from(4);
+        answer.refusal = RefusalNumber(4);
         return bytes.len();
     }
     let mut state = to_state(t);
     let (given, rest) = state.event(bytes, scratch);
-    answer.number = Refusal::from(given.number);
-    if given.number == 0 {
+    answer.refusal = RefusalNumber(given.refusal);
+    if given.refusal == 0 {
         // A local read leaves every byte as it is, also where other bytes would mean the same.
         if bytes[1] != LOCAL_READ {
             store(&state, t);
@@ -50,9 +50,9 @@ pub fn look(t: &Table, c: usize) -> LookAnswer {
     match shown {
         Ok(Shown { sums, classes, registers }) => {
             let (classes, registers) = (classes.map(sums_of), registers.map(register_of));
-            LookAnswer { number: Refusal::from(0), panel: Panel { sums: sums_of(sums), classes, registers } }
+            LookAnswer { refusal: RefusalNumber::ACCEPTED, panel: Panel { sums: sums_of(sums), classes, registers } }
         }
-        Err(number) => LookAnswer { number: Refusal::from(number), panel: Panel::BLANK },
+        Err(refusal) => LookAnswer { refusal: RefusalNumber(refusal), panel: Panel::BLANK },
     }
 }
 
@@ -61,7 +61,8 @@ fn called(name: Name) -> reference::Name {
     reference::Name { sender: name.sender as usize, number: name.number.0 as usize }
 }
 
-/// Counts of "goes before" on one table, each a call of its own: question 4 first, whose answer they have in common.
+/// Counts of "goes before" on one table, each a call of its own. Question 4 comes first, and its answer is the same for
+/// all.
 pub fn counts_before(t: &mut Table, asked: &[Asked]) -> Vec<CountAnswer> {
     let state = well_formed(t).then(|| to_state(t));
     let count = |x: &Asked| match &state {
@@ -69,21 +70,21 @@ pub fn counts_before(t: &mut Table, asked: &[Asked]) -> Vec<CountAnswer> {
         None => Err(4),
     };
     let answer = |x: &Asked| match count(x) {
-        Ok(count) => CountAnswer { number: Refusal::from(0), count },
-        Err(number) => CountAnswer { number: Refusal::from(number), count: 0 },
+        Ok(count) => CountAnswer { refusal: RefusalNumber::ACCEPTED, count },
+        Err(refusal) => CountAnswer { refusal: RefusalNumber(refusal), count: 0 },
     };
     asked.iter().map(answer).collect()
 }
 
 pub fn fresh(version: usize, n: usize) -> FreshAnswer {
     match reference::questions_2_and_3(version, n) {
-        Ok(()) => FreshAnswer { number: Refusal::from(0), table: to_table(&State::fresh(version, n)) },
-        Err(number) => FreshAnswer { number: Refusal::from(number), table: Table::BLANK },
+        Ok(()) => FreshAnswer { refusal: RefusalNumber::ACCEPTED, table: to_table(&State::fresh(version, n)) },
+        Err(refusal) => FreshAnswer { refusal: RefusalNumber(refusal), table: Table::BLANK },
     }
 }
 
 pub fn run(bytes: &[u8], listing: &mut [u8], scratch: &mut [u8]) -> RunAnswer {
     let run = reference::run_file(bytes, listing, scratch);
     let table = run.state.as_ref().map_or(Table::BLANK, to_table);
-    RunAnswer { number: Refusal::from(run.number), events: run.events, written: run.written, table }
+    RunAnswer { refusal: RefusalNumber(run.refusal), events: run.events, written: run.written, table }
 }

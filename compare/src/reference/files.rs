@@ -5,7 +5,7 @@ use super::*;
 
 /// The answer to a file run; no state after refusals 1 to 3.
 pub struct Run {
-    pub number: u8,
+    pub refusal: u8,
     pub events: usize,
     pub written: usize,
     pub state: Option<State>,
@@ -37,26 +37,26 @@ fn line(number: usize, event: &Event, answer: &Answer, after: &State) -> Vec<u8>
 pub fn run_file(bytes: &[u8], listing: &mut [u8], scratch: &mut [u8]) -> Run {
     let (version, n) = match open(bytes) {
         Ok(head) => head,
-        Err(number) => return Run { number, events: 0, written: 0, state: None },
+        Err(refusal) => return Run { refusal, events: 0, written: 0, state: None },
     };
     let mut state = State::fresh(version, n);
     let (mut events, mut written, mut rest) = (0, 0, &bytes[2..]);
     while !rest.is_empty() {
         let (event, after) = match state.accept(rest, scratch.len()) {
             Ok(accepted) => accepted,
-            Err(number) => return Run { number, events, written, state: Some(state) },
+            Err(refusal) => return Run { refusal, events, written, state: Some(state) },
         };
         let mut next = state.clone();
         let answer = next.carry_out(event);
         let line = line(events + 1, &event, &answer, &next);
         if line.len() > listing.len() - written {
-            return Run { number: 16, events, written, state: Some(state) };
+            return Run { refusal: 16, events, written, state: Some(state) };
         }
         listing[written..written + line.len()].copy_from_slice(&line);
         clear(scratch);
         (state, events, written, rest) = (next, events + 1, written + line.len(), after);
     }
-    Run { number: 0, events, written, state: Some(state) }
+    Run { refusal: 0, events, written, state: Some(state) }
 }
 
 /// What the program prints for a run file on standard input.
@@ -68,6 +68,6 @@ pub fn program(input: &[u8]) -> Vec<u8> {
         output.extend(format!("controllers {}\n", state.n).bytes());
     }
     output.extend(&listing[..run.written]);
-    output.extend(format!("end {} {}\n", run.events, run.number).bytes());
+    output.extend(format!("end {} {}\n", run.events, run.refusal).bytes());
     output
 }

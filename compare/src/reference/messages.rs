@@ -11,7 +11,7 @@ pub const REGISTERS: usize = 8;
 pub const SCRATCH: usize = 4096;
 pub const LISTING: usize = 16_384;
 
-/// A message's name; the order is that of answers and listings.
+/// A message's name. Names are ordered as in answers and listings.
 #[derive(Clone, Copy, PartialEq, Eq, PartialOrd, Ord, Debug)]
 pub struct Name {
     pub sender: usize,
@@ -25,7 +25,7 @@ pub enum Payload {
     Write { register: usize, value: u32 },
 }
 
-/// A message; a write has a date, and any other 0.
+/// A message. The date of any message but a write is 0.
 #[derive(Clone, Copy, PartialEq, Eq, Debug)]
 pub struct Message {
     pub name: Name,
@@ -33,7 +33,7 @@ pub struct Message {
     pub date: usize,
 }
 
-/// The stamp of a write. The order is by date and then by writer, and before all is 0, 0.
+/// The stamp of a write. Stamps are ordered by date and then by writer; 0, 0 comes before all others.
 #[derive(Clone, Copy, PartialEq, Eq, PartialOrd, Ord, Debug, Default)]
 pub struct Stamp {
     pub date: usize,
@@ -96,7 +96,7 @@ impl Sums {
     }
 }
 
-/// What a panel shows: the sums, those of each class, and the registers.
+/// What a panel shows: the sums, the sums of each class, and the registers.
 #[derive(Clone, PartialEq, Eq, Debug)]
 pub struct Shown {
     pub sums: Sums,
@@ -107,7 +107,7 @@ pub struct Shown {
 /// The answer to an event. The sums are what a finished sync answers, or what a local read gives, and otherwise zeros.
 #[derive(Clone, PartialEq, Eq, Debug, Default)]
 pub struct Answer {
-    pub number: u8,
+    pub refusal: u8,
     pub set: Vec<Name>,
     pub finished: bool,
     pub sums: Sums,

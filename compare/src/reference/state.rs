@@ -57,24 +57,24 @@ impl State {
         names.into_iter().fold(Sums::default(), |sums, x| sums.plus(self.amount(x)))
     }
 
-    /// The sums of controller c: over what it has applied.
+    /// The sums of what controller c has applied.
     pub fn sums(&self, c: usize) -> Sums {
         self.sums_of(&self.controllers[c - 1].applied)
     }
 
-    /// Its sums of one class.
+    /// The sums of one class that controller c has applied.
     pub(super) fn class_sums(&self, c: usize, class: usize) -> Sums {
         self.sums_of(self.controllers[c - 1].applied.iter().filter(|x| self.class(x) == class))
     }
 
-    /// A panel look: question 8, then the sums, those of each class, and the registers that the controller holds.
+    /// A panel look: question 8, then the sums, the sums of each class, and the registers that the controller holds.
     pub fn look(&self, c: usize) -> Result<Shown, u8> {
         first_no(&[(8, (1..=self.n).contains(&c))])?;
         let classes = std::array::from_fn(|class| self.class_sums(c, class));
         Ok(Shown { sums: self.sums(c), classes, registers: self.controllers[c - 1].registers })
     }
 
-    /// The marks that controller c keeps for a message. One that is not pending there has every mark absent.
+    /// The marks that controller c keeps for a message. A message that is not pending there has every mark absent.
     fn marks(&self, c: usize, name: &Name) -> Marks {
         self.controllers[c - 1].pending.get(name).copied().unwrap_or_default()
     }
@@ -134,7 +134,8 @@ impl State {
         Ok((event, rest))
     }
 
-    /// The date of what controller c sends: of a write, the date that c knows of its register, plus one (Algorithm 3).
+    /// The date of a message that controller c sends. For a write it is one more than the date that c knows of its
+    /// register (Algorithm 3).
     fn date(&self, c: usize, payload: Payload) -> usize {
         match payload {
             Payload::Write { register, .. } => self.controllers[c - 1].registers[register - 1].stamp.date + 1,
@@ -218,10 +219,10 @@ impl State {
         let own_sync = |x: &Name| x.sender == subject && self.payload(x) == Payload::Sync;
         let finished = set.iter().any(own_sync);
         let sums = if finished { self.sums(subject) } else { Sums::default() };
-        Answer { number: 0, set: set.into_iter().collect(), finished, sums }
+        Answer { refusal: 0, set: set.into_iter().collect(), finished, sums }
     }
 
-    /// The single-event call, its table known to be well formed. The rest is handed back.
+    /// The single-event call on a table that is known to be well formed. Answers the rest of the bytes too.
     pub fn event<'a>(&mut self, bytes: &'a [u8], scratch: &mut [u8]) -> (Answer, &'a [u8]) {
         match self.accept(bytes, scratch.len()) {
             Ok((event, rest)) => {
@@ -229,7 +230,7 @@ impl State {
                 clear(scratch);
                 (answer, rest)
             }
-            Err(number) => (Answer { number, ..Answer::default() }, bytes),
+            Err(refusal) => (Answer { refusal, ..Answer::default() }, bytes),
         }
     }
 }

@@ -1,8 +1,8 @@
-//! A table as it lies in memory as a state of the reference, and back; and the table without what means nothing, by
-//! which two tables are compared.
+//! From a table as it lies in memory to a state of the reference, and back; and the table without the parts that mean
+//! nothing, by which two tables are compared.
 
 use super::{self as reference, Payload as Kind, *};
-use furnacejade::{Class, Controller, ForwardNumber, Message, MessageNumber, Payload, Pending, Table};
+use furnacejade::{ClassNumber, Controller, ForwardNumber, Message, MessageNumber, Payload, Pending, Table};
 
 pub(super) const ABSENT_MARK: ForwardNumber = ForwardNumber(255);
 pub(super) const REPORT: u8 = 1;
@@ -56,7 +56,7 @@ fn store_message(m: &reference::Message) -> Message {
     let payload = match m.payload {
         Kind::Report { amount, class } => {
             let (added, withdrawn) = (amount.max(0) as u16, (-amount).max(0) as u16);
-            Payload { kind: REPORT, class: Class(class as u8), added, withdrawn, ..Payload::BLANK }
+            Payload { kind: REPORT, class: ClassNumber(class as u8), added, withdrawn, ..Payload::BLANK }
         }
         Kind::Sync => Payload { kind: SYNC, ..Payload::BLANK },
         Kind::Write { register, value } => Payload { kind: WRITE, reg: register as u16, value, ..Payload::BLANK },
@@ -84,7 +84,7 @@ fn store_controller(from: &reference::Controller, slots: &BTreeMap<reference::Na
     }
 }
 
-/// Stores a state in a table; messages that it has already and parts of it that mean nothing stay as they are.
+/// Stores a state in a table. Messages that the table has already, and parts of it that mean nothing, stay as they are.
 pub fn store(state: &State, t: &mut Table) {
     for slot in t.count..state.messages.len() {
         t.messages[slot] = store_message(&state.messages[slot]);
@@ -106,8 +106,8 @@ pub fn to_table(state: &State) -> Table {
     t
 }
 
-/// The table with everything that means nothing set to zero and every flag 0 or 1: two well-formed
-/// tables mean the same exactly if these are equal.
+/// The table with everything that means nothing set to zero, and every flag 0 or 1. Two well-formed tables mean the
+/// same exactly if these are equal.
 pub fn meaning(t: &Table) -> Table {
     let mut plain = Table::BLANK;
     (plain.version, plain.n, plain.count) = (t.version, t.n, t.count);

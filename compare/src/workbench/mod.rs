@@ -92,7 +92,8 @@ impl Workbench<'_> {
         format!("{}/{name}", self.folder)
     }
 
-    /// Puts a run file where commands find it. Its old one is removed, as some disks are slow to write over a file.
+    /// Puts a run file where commands find it. The old file is removed first, as some disks are slow to write over a
+    /// file.
     fn put(&self, bytes: &[u8]) {
         if !self.piped {
             let _ = fs::remove_file(self.file("run"));
@@ -100,7 +101,7 @@ impl Workbench<'_> {
         }
     }
 
-    /// Carries out a command on a file of the folder that has these bytes. The words follow on the file's name.
+    /// Carries out a command on a file of the folder that has these bytes. The words follow the file's name.
     fn done(&self, command: &str, (name, bytes): (&str, &[u8]), words: &[&str]) -> Done {
         let file = if self.piped { "-".into() } else { self.file(name) };
         let mut call = Command::new(self.path);
@@ -156,7 +157,7 @@ impl Workbench<'_> {
 
     /// What the run says is refused: a record by its number, or the file by its name; nothing if all was accepted.
     fn refused(&self, Played { run, .. }: &Played) -> String {
-        match (run.number, &run.state) {
+        match (run.refusal, &run.state) {
             (0, _) => String::new(),
             (_, Some(_)) => format!("record {}", run.events + 1),
             (_, None) if self.piped => "standard input".into(),

@@ -21,7 +21,7 @@ impl Played<'_> {
 
     /// The status of a command that plays the file.
     pub fn status(&self) -> i32 {
-        (self.run.number != 0) as i32
+        (self.run.refusal != 0) as i32
     }
 }
 

@@ -34,7 +34,7 @@ pub fn messages(text: &str) -> Vec<(&str, &str)> {
     parts.chunks_exact(2).map(|pair| (pair[0].split_whitespace().last().unwrap_or_default(), pair[1])).collect()
 }
 
-/// Whether a line is that of an event: a number, and the text of a record.
+/// Whether a line is the line of an event: a number, and the text of a record.
 fn is_event(line: &str) -> bool {
     let mut words = line.split_whitespace();
     words.next().is_some_and(|word| word.parse::<usize>().is_ok()) && words.next().is_some_and(|w| EVENTS.contains(&w))

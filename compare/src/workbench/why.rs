@@ -61,7 +61,7 @@ pub fn set_with(printed: &str, message: &str, panel: usize) -> String {
     format!("event {}, {} added, {} withdrawn, with {others:?}", words[0], words[2], words[3])
 }
 
-/// The same, from a line as "applied at event 11 (hand 3 <- 1), as one set with 1.1 and 2.1; the panel then showed 30
+/// The same, from a line like "applied at event 11 (hand 3 <- 1), as one set with 1.1 and 2.1; the panel then showed 30
 /// added, 2 withdrawn".
 pub fn set_in(text: &str) -> String {
     let line = text.lines().find_map(|line| line.strip_prefix("applied at event "));
@@ -86,8 +86,8 @@ pub fn marks_in(text: &str) -> String {
     text.lines().find(|line| line.starts_with("marks at panel")).unwrap_or("no line of marks").into()
 }
 
-/// How many marks there can be yet, if these are fewer than are needed: of those whose logs have the message or may
-/// have it, if the panel's controller still reads.
+/// How many marks there can still be, if these are fewer than are needed: the marks of controllers whose logs have the
+/// message or may get it, if the panel's controller still reads.
 pub fn lost(state: &State, name: &Name, panel: usize) -> String {
     let (at, has) = (&state.controllers[panel - 1], |c: &Controller| c.log.contains(name));
     let anywhere = state.controllers.iter().any(has);
@@ -110,8 +110,9 @@ pub fn lost_in(text: &str) -> String {
 /// What `why` says where all that is pending has its marks.
 const ALL_MARKED: &str = "all that is pending here has its marks";
 
-/// The pending messages that a message does not go before, with both counts and their marks, by name; how many these
-/// are, and whether they keep it out, as it has its marks. Where all have their marks nothing does.
+/// The pending messages that a message does not go before, by name, with both counts and their marks; how many they
+/// are; and whether they keep it out, which is so if it has its marks. Where all have their marks, nothing keeps it
+/// out.
 pub fn keeping_out(state: &State, name: &Name, panel: usize) -> String {
     let at = &state.controllers[panel - 1];
     let marks = |name: &Name| at.pending[name].iter().flatten().count();
@@ -134,7 +135,7 @@ fn listed(what: &str, mut lines: Vec<String>) -> String {
     format!("{what}: {}\n{}", lines.len(), lines.join("\n"))
 }
 
-/// The same, from lines as "    1.1 (+30): 1 puts 3.1 before it, 2 needed; 1 puts it before 3.1; it has 1 mark".
+/// The same, from lines like "    1.1 (+30): 1 puts 3.1 before it, 2 needed; 1 puts it before 3.1; it has 1 mark".
 pub fn keeping_out_in(text: &str) -> String {
     if text.contains(ALL_MARKED) {
         return ALL_MARKED.into();
@@ -175,8 +176,8 @@ pub fn followed(state: &State, name: &Name, offer: &str) -> String {
     let mut then = state.clone();
     for owner in &owners {
         let (answer, _) = then.event(&handover(reader, *owner), &mut [0; SCRATCH]);
-        if answer.number != 0 {
-            return format!("refused with {}", answer.number);
+        if answer.refusal != 0 {
+            return format!("refused with {}", answer.refusal);
         }
     }
     let (at, owner) = (&then.controllers[reader - 1], owners[owners.len() - 1]);

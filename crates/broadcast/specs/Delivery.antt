@@ -9,7 +9,7 @@ use Rattle.broadcast.specs.State.{System, State}
 pub record Subset (A B : ℕ → Bool) : Type 0 where
   pub each : (m : ℕ) → A m ≡ true → B m ≡ true
 
--- a is less than b at so many of n processes that they are a quorum
+-- a is less than b at a quorum of the n processes
 abbrev pub QuorumLess : ℕ → ℕ → (ℕ → ℕ) → (ℕ → ℕ) → Type 0
 QuorumLess n quorum a b = quorum ≤ count n (λ f. ltb (a f) (b f))
 

@@ -38,7 +38,7 @@ use Rattle.consistency.proofs.BridgeReceive.{may-read, received-shows, 
 
 -- THE SLOTS OF A SET LEAVE THE BUFFER
 
-module _ (n : ℕ) (t : Table) (counted : t .count ≤ capacity) (s : State) (i : ℕ) (c : Controller) (S : Slots) (d : ℕ → Bool)
+module _ (n : ℕ) (t : Table) (fitting : t .count ≤ capacity) (s : State) (i : ℕ) (c : Controller) (S : Slots) (d : ℕ → Bool)
     (same : (j : ℕ) → j < t .count → d (codeAt t j) ≡ has S j) where
   pub delivered-shows : Shows n t s i c → Shows n t (scdDeliver s i d) i (deliver (messagesOf t) c S)
   unfolding scdDeliver deliver
@@ -120,7 +120,7 @@ module _ {n : ℕ} {t : Table} {s : State} (g : Related n t s) (r o : ℕ) (q : 
   unfolding handoverSet
   largest =
       let k = received-good t (g .formed) (g .sized) (suc r) (suc o) a in
-      applicable-names n (t .count) (codeAt t) c (g .formed .counted) (λ i h l. k .outside i h l .0) R r
+      applicable-names n (t .count) (codeAt t) c (g .formed .fitting) (λ i h l. k .outside i h l .0) R r
       (agrees n t (g .formed) R received-invariant r (suc r) c k (received-shows g r o a) (received-running g r o a) (slot-of r))
       (codeInSet t S) (λ i h. set-at i h ∙ ap (λ z. has (applicable z (c .pending)) i) (g .size)) (in-set-slot t S)
 
@@ -146,4 +146,4 @@ module _ {n : ℕ} {t : Table} {s : State} (g : Related n t s) (r o : ℕ) (q : 
   unfolding subject after withSent scdDeliver
   handover-followed =
       followed g (Handover (suc r) (suc o)) q r refl u legal
-      (delivered-shows n t (g .formed .counted) R r c S (codeInSet t S) set-at (received-shows g r o a)) others-show slot-of numbered
+      (delivered-shows n t (g .formed .fitting) R r c S (codeInSet t S) set-at (received-shows g r o a)) others-show slot-of numbered

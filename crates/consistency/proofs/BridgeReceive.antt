@@ -154,7 +154,7 @@ module _ {n : ℕ} {t : Table} {s : State} (g : Related n t s) (r o : ℕ) (a : 
   k = place c (suc o) + 1
 
   slot-room : j < capacity
-  slot-room = omega (arith, run, g .formed .counted)
+  slot-room = omega (arith, run, g .formed .fitting)
 
   -- The marks stored were those given, but for the owner's.
   module _ (ms : List ForwardNumber) (sized : length ms ≡ seats) (same : (f : ℕ) → f < seats → f ≢ o → getD ms f (forwardNumber 0) .0 ≡ marksOf c j f) where
@@ -201,7 +201,7 @@ module _ {n : ℕ} {t : Table} {s : State} (g : Related n t s) (r o : ℕ) (a : 
       q = forward-new new
 
       room : c .length < capacity
-      room = omega (arith, log-shorter t (suc r) c good j run e, g .formed .counted)
+      room = omega (arith, log-shorter t (suc r) c good j run e, g .formed .fitting)
 
       same : (f : ℕ) → f < seats → f ≢ o → getD (unheld .marks) f (forwardNumber 0) .0 ≡ marksOf c j f
       same f l _ = unheld-absent f l ∙ sym (h .absent-marks j f slot-room l d)

@@ -51,7 +51,7 @@ module _ (t : Table) (S : Slots) where
 
 -- THE SET APPLIED
 
-module _ (n : ℕ) (slots : ℕ) (name : ℕ → ℕ) (c : Controller) (counted : slots ≤ capacity)
+module _ (n : ℕ) (slots : ℕ) (name : ℕ → ℕ) (c : Controller) (fitting : slots ≤ capacity)
     (outside : (j : ℕ) → j < capacity → slots ≤ j → held c j ≡ false) where
   abbrev S : Slots
   S = applicable n (c .pending)

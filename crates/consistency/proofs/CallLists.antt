@@ -87,7 +87,7 @@ module _ (h : Head) (heads : Heads h) (calls : List Call) where
   pub moment-end : Moment n (freshState top) end (ledger (did v es))
   moment-end = reached (did v es) taken
 
-  -- behind one entry more: the entries so far, the table that it leaves, and what its steps make of the ledger
+  -- after one entry more: the entries so far, the table that it leaves, and what its steps make of the ledger
   one-more : (i : ℕ) (e : Entry) (after : List Entry) → drop i es ≡ e ∷ after → take (suc i) es ≡ take i es ++ (e ∷ [])
   one-more i e after q = rw (← add-one i, take-add i 1 es, q)
 

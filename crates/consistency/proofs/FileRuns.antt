@@ -35,7 +35,7 @@ entries-same zero e s ls ms h = refl
 entries-same (suc k) e s ls ms h =
     ap₂ (λ (x : Line) (xs : List Entry). listed s x ∷ xs) (h e (omega arith)) (entries-same k (e + 1) (behind s) ls ms (λ n l. h n (omega arith)))
 
--- Behind p the run q has accepted so many of the records of s, and its lines behind those of p are legal steps when read back.
+-- After p the run q has accepted the first `many` of the records of s, and its lines after those of p are legal steps when read back.
 record Done (p : Progress) (s : List ℕ) (q : Progress) : Type 0 where
   many : ℕ
   tail : List ℕ
@@ -44,7 +44,7 @@ record Done (p : Progress) (s : List ℕ) (q : Progress) : Type 0 where
   later : (n : ℕ) → n ≤ p .events → lineFor n (split 10 tail) ≡ noLine
   course : Course told Gives (p .table) (recordEntries many (p .events + 1) s (split 10 tail)) (q .table)
 
-stopped : (p : Progress) (s : List ℕ) (k : ℕ) → Done p s (record { number = k; events = p .events; lines = p .lines; table = p .table })
+stopped : (p : Progress) (s : List ℕ) (k : ℕ) → Done p s (record { refusal = k; events = p .events; lines = p .lines; table = p .table })
 unfolding recordEntries Course
 stopped p s k = record { many = 0; tail = []; events = omega arith; lines = sym (append-nil (p .lines)); later = λ n _. end-read n; course = refl }
 
@@ -97,10 +97,10 @@ module _ (p : Progress) (s : List ℕ) (room space : ℕ) (v : verdict p s room 
 
 run-done : (f : ℕ) (p : Progress) (s : List ℕ) (room space : ℕ) → Done p s (records f p s room space)
 unfolding records
-run-done zero p s room space = stopped p s (p .number)
-run-done (suc f) p [] room space = stopped p [] (p .number)
+run-done zero p s room space = stopped p s (p .refusal)
+run-done (suc f) p [] room space = stopped p [] (p .refusal)
 run-done (suc f) p (b ∷ s) room space =
-    advance-case p (b ∷ s) room space (λ q. Done p (b ∷ s) (cond (eqb (q .number) 0) (records f q (behind (b ∷ s)) room space) q))
+    advance-case p (b ∷ s) room space (λ q. Done p (b ∷ s) (cond (eqb (q .refusal) 0) (records f q (behind (b ∷ s)) room space) q))
     (λ v. went-on p (b ∷ s) room space v _ (run-done f (gone p (b ∷ s) room space) (behind (b ∷ s)) room space))
     (λ d. rw (ne-eqb (verdict p (b ∷ s) room space) 0 d) (stopped p (b ∷ s) (verdict p (b ∷ s) room space)))
 

@@ -125,7 +125,7 @@ module _ {n : ℕ} {t : Table} (formed : WellFormed t) (r o : ℕ) (q : Said) (m
   unfolding Finishes Gives steps accepted
   entry-finishes (answered s w a) g is k =
       let h = handover-taken (answered s w a) g is k in
-      let c = call-carries (a .number) (t .version) s _ q (Handover r o) _ ms is in
+      let c = call-carries (a .refusal) (t .version) s _ q (Handover r o) _ ms is in
       handover-answers formed r o q ms (h .0) (h .1) (behind s) a (call-accepted t s w a g (c .0) .1 ∙ ap (λ x. answering t x (behind s)) (c .1))
   entry-finishes (observed x a) g is k = absurd (cons-ne-nil _ [] (sym is))
   entry-finishes (served s a) g is k = absurd (cons-ne-nil _ [] (sym is))

@@ -144,23 +144,23 @@ in-order m r c j k b e f =
 
 module _ {n : ℕ} {s₀ : State} {t : Table} {l : Ledger} (m : Moment n s₀ t l) where
   -- a look that is not refused names a controller
-  look-named : (c : ℕ) → look t c .number ≡ 0 → Among n c
+  look-named : (c : ℕ) → look t c .refusal ≡ 0 → Among n c
   unfolding look
   look-named c e = omega (arith, look-asked t c e .1, m .related .size)
 
-  look-is : (c : ℕ) → Among n c → look t c ≡ record { number = 0; panel = panelOf t c }
+  look-is : (c : ℕ) → Among n c → look t c ≡ record { refusal = 0; panel = panelOf t c }
   unfolding look
   look-is c h = rw (look-passed t c (tested t (m .related .formed)) (omega (arith, m .related .size)))
 
-  pub look-shows : (c : ℕ) (a : LookAnswer) → a ≡ look t c → a .number ≡ 0 → a .panel ≡ showing (l .sent) (applied l c)
+  pub look-shows : (c : ℕ) (a : LookAnswer) → a ≡ look t c → a .refusal ≡ 0 → a .panel ≡ showing (l .sent) (applied l c)
   look-shows c a e z =
-      let h = look-named c (ap (λ (b : LookAnswer). b .number) (sym e) ∙ z) in
+      let h = look-named c (ap (λ (b : LookAnswer). b .refusal) (sym e) ∙ z) in
       ap (λ (b : LookAnswer). b .panel) (e ∙ look-is c h) ∙ panel-applied (m .recorded) c h
 
 -- A LOCAL READ that is not refused
 
 module _ {n : ℕ} {s₀ : State} {t : Table} {l : Ledger} (m : Moment n s₀ t l)
-    (s w : List ℕ) (a : EventAnswer) (e : a ≡ event t s (length w) .answer) (reads : IsRead s) (z : a .number ≡ 0) where
+    (s w : List ℕ) (a : EventAnswer) (e : a ≡ event t s (length w) .answer) (reads : IsRead s) (z : a .refusal ≡ 0) where
   abbrev c : ℕ
   c = byte s 2
 
@@ -230,7 +230,7 @@ module _ {n : ℕ} {s₀ : State} {t : Table} {l : Ledger} (m : Moment n s₀ t 
       (λ y. slot-case (λ m. has m (remaining l) ≡ true → has m (applied l r) ≡ true) (remaining-slot p x y)
       (λ j b z. p .applies r h j b ∙ slot-ending j b .1 (sym (has-remaining p j b) ∙ z)) y)
 
-  pub ending-shows : (look t r .number ≡ 0) × (look t r .panel ≡ showing (l .sent) (remaining l))
+  pub ending-shows : (look t r .refusal ≡ 0) × (look t r .panel ≡ showing (l .sent) (remaining l))
   ending-shows = rw (look-is m r h) (refl, panel-remaining p r h moment-ending)
 
   -- its own messages remain, and so it has applied them
@@ -242,7 +242,7 @@ module _ {n : ℕ} {s₀ : State} {t : Table} {l : Ledger} (m : Moment n s₀ t 
       (slot-ending j b .1 (rw own (own-logged g r j b own runs-in-table))))))
 
   pub ending-gives : (w : List ℕ) → scratchSize ≤ length w
-      → let a = event t (readRecord r) (length w) .answer in (a .number ≡ 0) × (a .sums ≡ showing (l .sent) (remaining l) .sums)
+      → let a = event t (readRecord r) (length w) .answer in (a .refusal ≡ 0) × (a .sums ≡ showing (l .sent) (remaining l) .sums)
   unfolding event settled accepted answering firstNo lentTable stepQuestions recordQuestions kindQuestions sizeOf decode readQuestions commandQuestions scratchRoom
   ending-gives w k =
       rw (tested t (g .formed), named-of t r (omega (arith, g .size)), runs-in-table, none-own, le-leb scratchSize (length w) k)

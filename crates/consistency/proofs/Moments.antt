@@ -17,7 +17,7 @@ use Rattle.model.specs.declared.Event.the-variants.{Send, Handover, Stop}
 use Rattle.model.specs.declared.Command.{Command}
 use Rattle.model.specs.declared.Command.the-variants.{Act, Read}
 use Rattle.model.proofs.Allowed.{no-no, step-asked}
-use Rattle.model.proofs.Steps.{answering-number, settled-case}
+use Rattle.model.proofs.Steps.{answering-accepted, settled-case}
 use Rattle.broadcast.specs.State.{State, fresh as freshState}
 use Rattle.broadcast.specs.Events.{Run, start as stays, then}
 use Rattle.consistency.specs.Entries.{Pair, handover, Entry, answered, observed, served, handed, listed, said, nothingSaid, Step, carried, stepsOf, steps, did}
@@ -59,11 +59,11 @@ Takes t (carried s e ms) = Legal t s e ms
 -- ENTRIES
 
 -- an accepted event call: no question refuses its record, and it gives the record's answer
-pub call-accepted : (t : Table) (s w : List ℕ) (a : EventAnswer) → a ≡ event t s (length w) .answer → a .number ≡ 0
+pub call-accepted : (t : Table) (s w : List ℕ) (a : EventAnswer) → a ≡ event t s (length w) .answer → a .refusal ≡ 0
     → (firstNo (commandQuestions t (decode (t .version) s)) ≡ 0) × (a ≡ accepted t s .answer)
 unfolding event refused lentTable
 call-accepted t s w a e z =
-    rw e (settled-case (λ (o : Outcome). o .answer .number ≡ 0 → (firstNo (commandQuestions t (decode (t .version) s)) ≡ 0) × (o .answer ≡ accepted t s .answer)) t s _
+    rw e (settled-case (λ (o : Outcome). o .answer .refusal ≡ 0 → (firstNo (commandQuestions t (decode (t .version) s)) ≡ 0) × (o .answer ≡ accepted t s .answer)) t s _
     (λ k _. (step-asked t s (length w) (no-no 3 (wellFormed t) _ k .1) .1, refl)) (λ d z. absurd (d z)) (rw e at z))
 
 -- an accepted record stands for a legal step, or for none, that leads to the table that it leaves
@@ -84,7 +84,7 @@ unfolding event accepted refused steps Course lentTable
 event-taken t s w =
     let k = firstNo (lentTable t ∷ stepQuestions t s (length w)) in
     settled-case (λ (o : Outcome). Course stepped Takes t (steps (t .version) (answered s w (o .answer))) (o .table)) t s k
-    (λ e. rw (answering-number t (decode (t .version) s) (behind s)) (accepted-taken t s (step-asked t s (length w) (no-no 3 (wellFormed t) _ e .1) .1)))
+    (λ e. rw (answering-accepted t (decode (t .version) s) (behind s)) (accepted-taken t s (step-asked t s (length w) (no-no 3 (wellFormed t) _ e .1) .1)))
     (λ d. rw (ne-eqb k 0 d) refl)
 
 -- a handover that a served call made is a legal step

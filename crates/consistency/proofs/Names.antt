@@ -124,7 +124,7 @@ distinct-less (x ∷ xs) ys d =
     cond-case Distinct (has x ys) (less xs ys) (x ∷ less xs ys) (λ _. distinct-less xs ys (d .1))
     (λ _. (has-less x xs ys ∙ rw (d .0), distinct-less xs ys (d .1)))
 
--- what is behind the first k is the rest
+-- what comes after the first k is the rest
 pub has-drop : (m : Name) (k : ℕ) (xs : List Name) → Distinct xs → has m (drop k xs) ≡ (has m xs && not (has m (take k xs)))
 has-drop m k xs d =
     let e : has m xs ≡ (has m (take k xs) || has m (drop k xs)) = ap (has m) (sym (take-append-drop k xs)) ∙ has-append m (take k xs) (drop k xs) in

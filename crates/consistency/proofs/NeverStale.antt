@@ -137,7 +137,7 @@ module _ (h : Head) (heads : Heads h) (calls : List Call) where
         held : OrLater (written s) (newest r (upTo k .sent) (applied (upTo k) c))
         held = write-or-later (recorded k) (there .before) s (there .after) (there .is) (applied (upTo k) c) e r w
 
-        shows : (a : LookAnswer) (after : List Entry) → drop k (entries h calls) ≡ observed (panelLook c) a ∷ after → a .number ≡ 0
+        shows : (a : LookAnswer) (after : List Entry) → drop k (entries h calls) ≡ observed (panelLook c) a ∷ after → a .refusal ≡ 0
             → getD (a .panel .registers) (r - 1) noRegister ≡ newest r (upTo k .sent) (applied (upTo k) c)
         shows a after q z =
             let d = write-one (recorded k) (there .before) s (there .after) (there .is) r w in

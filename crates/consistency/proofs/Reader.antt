@@ -56,7 +56,7 @@ sums-first : (z : Sums) (s : List ℕ) → sumFields z ++ s ≡ 32 ∷ decimal (
 unfolding sumFields
 sums-first z s = ap (λ r. 32 ∷ r) (append-assoc (decimal (z .added)) (32 ∷ decimal (z .withdrawn)) s)
 
--- a number, and what stands behind the next space
+-- a number, and what stands after the next space
 number-first : (x : ℕ) (s : List ℕ) (fs : List (List ℕ)) → split 32 s ≡ fs → split 32 (decimal x ++ (32 ∷ s)) ≡ decimal x ∷ fs
 number-first x s fs e = split-at-first 32 (decimal x) s (decimal-lacks x 32 (omega arith)) ∙ ap (λ r. decimal x ∷ r) e
 
@@ -120,7 +120,7 @@ unfolding lineOf lineSaying
 event-read n e c z [] s none = cond-case (λ x. lineFor n (split 10 s) ≡ x) (eqb e n) noLine _ (λ q. none (eqb-true e n q)) (λ _. refl)
 event-read n e c z (m ∷ ms) s none = line-read n e c z (m ∷ ms) s
 
--- behind the last line
+-- after the last line
 pub end-read : (n : ℕ) → lineFor n (split 10 []) ≡ noLine
 unfolding lineFor lineIn split numberFrom
 end-read n = cond-case (λ x. x ≡ noLine) (eqb 0 n) noLine noLine (λ _. refl) (λ _. refl)

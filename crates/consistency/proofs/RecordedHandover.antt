@@ -88,7 +88,7 @@ module _ {n : ℕ} {t : Table} {u : State} {l : Ledger} (g : Related n t u) (k :
           ≡ cond (inLog (at t r) (nextAt t r o)) (logNames t (at t r)) (logNames t (at t r) ++ (nameAt t (nextAt t r o) ∷ []))
       new lacks =
           log-entered t (withRead (at t r) o) (nextAt t r o) (read-sized (at t r) o (at-sized t r (k .sized) (at-seat (a .receiver))))
-          (omega (arith, log-shorter t r (at t r) good (nextAt t r o) entry-run lacks, k .formed .counted))
+          (omega (arith, log-shorter t r (at t r) good (nextAt t r o) entry-run lacks, k .formed .fitting))
           ∙ sym (cond-false _ _ lacks)
 
   -- the entry's name, and whether the receiver's log has it
@@ -142,7 +142,7 @@ module _ {n : ℕ} {t : Table} {u : State} {l : Ledger} (g : Related n t u) (k :
       ∙ ap₂ _||_ (k .applies r (a .receiver) j h) (has-names t (k .formed) (setAt t r o) j h)
       ∙ or-comm (applied (at t r) j) (member (setAt t r o) j)
       ∙ ap (λ (xs : List ℕ). member (setAt t r o) j || yes? (getD xs j 0)) (sym (received-applied t r o))
-      ∙ sym (delivered-applied t (receivedAt t r o) (setAt t r o) j (omega (arith, k .formed .counted)))
+      ∙ sym (delivered-applied t (receivedAt t r o) (setAt t r o) j (omega (arith, k .formed .fitting)))
 
   once-after : Distinct (flatten (l .sets r ++ (answer ∷ [])))
   once-after =

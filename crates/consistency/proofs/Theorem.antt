@@ -14,8 +14,8 @@ use Rattle.model.specs.Calls.{EventAnswer, Outcome, event, look}
 use Rattle.model.specs.declared.Payload.{Payload}
 use Rattle.model.specs.declared.Table.{Table}
 use Rattle.model.proofs.Tested.{tested}
-use Rattle.model.proofs.Steps.{step-number, event-number-step}
-use Rattle.invariant.proofs.Refusals.{step-number-range}
+use Rattle.model.proofs.Steps.{step-first-no, event-is-step}
+use Rattle.invariant.proofs.Refusals.{step-refusals}
 use Rattle.consistency.specs.Entries.{observe, panelLook, Call, singleEvent, observing, Entry, answered, listed, entriesOf, left, transcript}
 use Rattle.consistency.specs.Ledger.{Sent, applied, remaining, weights}
 use Rattle.consistency.specs.Demand3.{Head, Heads, controllers, opening, given, entries, moment, Runs, ReadOut, readRecord, Consistent}
@@ -86,13 +86,13 @@ pub tables-well-formed : (h : Head) → Heads h → (calls : List Call) (i : ℕ
 tables-well-formed h heads calls i = tested _ (moment-at h heads calls i .related .formed)
 
 pub never-4 : (h : Head) → Heads h → (calls : List Call) (i : ℕ) (s w : List ℕ) (a : EventAnswer) (after : List Entry)
-    → drop i (entries h calls) ≡ answered s w a ∷ after → a .number ≢ 4
+    → drop i (entries h calls) ≡ answered s w a ∷ after → a .refusal ≢ 4
 never-4 h heads calls i s w a after q z =
     let t = tableAt h calls i in
-    let e : a .number ≡ firstNo (stepQuestions t s (length w))
-    = ap (λ (x : EventAnswer). x .number) (event-at h heads calls i s w a after q)
-    ∙ (ap (λ (o : Outcome). o .answer .number) (event-number-step t s (length w) (tables-well-formed h heads calls i)) ∙ step-number t s (length w)) in
-    elim (step-number-range t s (length w)) [ inl k ↦ absurd (omega arith) | inr k ↦ absurd (omega arith) ]
+    let e : a .refusal ≡ firstNo (stepQuestions t s (length w))
+    = ap (λ (x : EventAnswer). x .refusal) (event-at h heads calls i s w a after q)
+    ∙ (ap (λ (o : Outcome). o .answer .refusal) (event-is-step t s (length w) (tables-well-formed h heads calls i)) ∙ step-first-no t s (length w)) in
+    elim (step-refusals t s (length w)) [ inl k ↦ absurd (omega arith) | inr k ↦ absurd (omega arith) ]
 
 -- FOR ANY WEIGHT of a message, a number that its payload gives: each sum of the demand is one of them, for a payload keeps both parts of
 -- the amount. What was applied weighs what the table computes, and at the ending it weighs what remains.

@@ -36,7 +36,7 @@ pub data Head : Type 0 where
 
 -- accepted; past question 3: every question put to a file was answered yes
 unfoldable pub Heads : Head → Type 0
-Heads (request v n) = freshTable v n .number ≡ 0
+Heads (request v n) = freshTable v n .refusal ≡ 0
 Heads (file s listing scratch) = firstNo (fileQuestions s) ≡ 0
 
 -- the version that its records are read in: that of the request, or byte 0 of the file
@@ -93,7 +93,7 @@ pub record ReadOut (n : ℕ) (l : Ledger) : Type 0 where
 pub record LookShows (h : Head) (calls : List Call) (r : ℕ) (panel : Panel) : Type 0 where
   pub answer : LookAnswer
   pub last : entries h (calls ++ (observing (panelLook r) ∷ [])) ≡ entries h calls ++ (observed (panelLook r) answer ∷ [])
-  pub accepted : answer .number ≡ 0
+  pub accepted : answer .refusal ≡ 0
   pub shown : answer .panel ≡ panel
 
 -- the record of a local read of c, and a record that is one
@@ -107,7 +107,7 @@ IsRead s = kind s ≡ 5
 pub record ReadGives (h : Head) (calls : List Call) (r : ℕ) (scratch : List ℕ) (sums : Sums) : Type 0 where
   pub answer : EventAnswer
   pub last : entries h (calls ++ (singleEvent (readRecord r) scratch ∷ [])) ≡ entries h calls ++ (answered (readRecord r) scratch answer ∷ [])
-  pub accepted : answer .number ≡ 0
+  pub accepted : answer .refusal ≡ 0
   pub gives : answer .sums ≡ sums
 
 -- what a handover answers besides its set: f, whether it finishes a sync of the receiver's own; if so, the sums z, and else zeros. The
@@ -155,7 +155,7 @@ OrLater y z = (z ≡ y) ⊎ (exceeds (z .stamp) (y .stamp) ≡ true)
 pub record Bears (h : Head) (calls : List Call) (i c r : ℕ) (y : Register) : Type 0 where
   pub held : OrLater y (registerAt (moment h calls i) c r)
   pub shown : (a : LookAnswer) (after : List Entry) → drop i (entries h calls) ≡ observed (panelLook c) a ∷ after
-      → a .number ≡ 0 → OrLater y (getD (a .panel .registers) (r - 1) noRegister)
+      → a .refusal ≡ 0 → OrLater y (getD (a .panel .registers) (r - 1) noRegister)
 
 -- "Demand 3 is a single claim about the whole list, and not one for each call."
 pub record Consistent (h : Head) (calls : List Call) : Type 0 where
@@ -176,15 +176,15 @@ pub record Consistent (h : Head) (calls : List Call) : Type 0 where
   -- for each class the sums over the messages of that class, and for each register the write with the greatest stamp among them
   pub looks : (i c : ℕ) (a : LookAnswer) (after : List Entry) → drop i (entries h calls) ≡ observed (panelLook c) a ∷ after
       → let l = moment h calls i in
-      a .number ≡ 0 → a .panel ≡ showing (l .sent) (applied l c)
+      a .refusal ≡ 0 → a .panel ≡ showing (l .sent) (applied l c)
   -- each local read that is not refused gives the same sums; its controller is the byte after its kind
   pub reads : (i : ℕ) (s w : List ℕ) (a : EventAnswer) (after : List Entry) → drop i (entries h calls) ≡ answered s w a ∷ after
       → let l = moment h calls i in
-      IsRead s → a .number ≡ 0 → a .sums ≡ showing (l .sent) (applied l (byte s 2)) .sums
+      IsRead s → a .refusal ≡ 0 → a .sums ≡ showing (l .sent) (applied l (byte s 2)) .sums
   -- and rests on every message that its controller has sent
   pub reads-own : (i : ℕ) (s w : List ℕ) (a : EventAnswer) (after : List Entry) → drop i (entries h calls) ≡ answered s w a ∷ after
       → let l = moment h calls i in
-      IsRead s → a .number ≡ 0 → Contains (applied l (byte s 2)) (ownOf (byte s 2) (sentNames l))
+      IsRead s → a .refusal ≡ 0 → Contains (applied l (byte s 2)) (ownOf (byte s 2) (sentNames l))
   -- an accepted handover to r answers "finished" exactly if its set holds a sync of r's own, and then the two sums over all that r has
   -- then applied
   pub syncs : (i r o : ℕ) (q : Said) (ms : List Name) (e : Entry) (after : List Entry) → drop i (entries h calls) ≡ e ∷ after

@@ -184,7 +184,7 @@ stepsOf r (Read c) ms = []
 -- "A call is accepted when its number is 0; a refused one moves nothing here." A served call's own entry moves nothing: its handovers do. The
 -- head's version is v.
 unfoldable pub steps : ℕ → Entry → List Step
-steps v (answered s w a) = cond (eqb (a .number) 0) (stepsOf (said v s) (decode v s) (a .names)) []
+steps v (answered s w a) = cond (eqb (a .refusal) 0) (stepsOf (said v s) (decode v s) (a .names)) []
 steps v (observed o a) = []
 steps v (served s a) = []
 steps v (handed p a) = carried nothingSaid (handover p) (a .names) ∷ []

@@ -86,7 +86,7 @@ module _ (t : Table) (z : Sized t) (n : ℕ) (en : t .n ≡ n) (M : Messages) (e
 
   pub handed-over : (f : Bool) → f ≡ finishes M S r → (u : Controller) → (Deliverable M S → u ≡ deliver M c S)
       → (k : Sums) → k ≡ cond f (sums M (u .applied)) noSums → (g : ℕ) → g ≡ cond f 1 0
-      → Effected t (Handover r o) w (record { answer = record { number = 0; finished = g; sums = k; size = a .size; names = a .names }; controller = u }) v
+      → Effected t (Handover r o) w (record { answer = record { refusal = 0; finished = g; sums = k; size = a .size; names = a .names }; controller = u }) v
   unfolding effectOf answerOf next subject after withSent appliedBy padded
   handed-over f ef u eu k ek g eg =
       let u-is = (rw (← em) at eu) of-run in

@@ -56,7 +56,7 @@ module _ (t : Table) (w : WellFormed t) (r o : ℕ) (a : HandoverAllowed t r o) 
       → held (at t r) s ≡ false → at t r .length < capacity
   entry-room s h above out =
       let g = w .controllers r (a .receiver) in
-      omega (arith, w .counted, log-shorter t r (at t r) g s h (g .exact (a .running) s h ∙ rw (out, above-unapplied t w r (at t r) g s h above) refl))
+      omega (arith, w .fitting, log-shorter t r (at t r) g s h (g .exact (a .running) s h ∙ rw (out, above-unapplied t w r (at t r) g s h above) refl))
 
   entry-readable : Readable (t .messages) (at t r) (at t o) o
   entry-readable =
@@ -65,7 +65,7 @@ module _ (t : Table) (w : WellFormed t) (r o : ℕ) (a : HandoverAllowed t r o) 
       record {
         owner = seated (w .few) (a .owner);
         next = omega (arith, a .unread);
-        slot = omega (arith, w .counted);
+        slot = omega (arith, w .fitting);
         entry = record {
           sender = seated (w .few) (w .senders (nextAt t r o) s);
           owner = seated (w .few) (a .owner);
@@ -80,7 +80,7 @@ module _ (t : Table) (r o : ℕ) (q : Accepted t (Handover r o)) where
   -- the set that it applies is of messages of the run
   pub deliverable : Sized t → Deliverable (messagesOf t) (setAt t r o)
   deliverable z = record {
-    fits = w .counted;
+    fits = w .fitting;
     senders = λ s h. seated (w .few) (w .senders s h);
     of-run = λ s m. of-run s m (decLt s (t .count)) (decLt s capacity);
   }

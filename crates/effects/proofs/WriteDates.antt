@@ -22,7 +22,7 @@ use Rattle.model.proofs.Registers.{newest-held, held-date, message-date}
 use Rattle.effects.specs.Conditions.{Dated}
 
 pub formed-dated : (t : Table) → wellFormed t ≡ true → Dated (messagesOf t)
-formed-dated t e s h = let w = facts t e in omega (arith, message-date t w s h, w .counted)
+formed-dated t e s h = let w = facts t e in omega (arith, message-date t w s h, w .fitting)
 
 -- a write has one of the registers
 write-place : (p : Payload) → p .kind ≡ writeKind → fairRegister p ≡ true → (0 < p .reg) × (p .reg ≤ registerCount)

@@ -33,11 +33,11 @@ withApplied c m s =
 
 -- of a refusal, or of what applies nothing
 unfoldable pub noSet : ℕ → Answer
-noSet k = answerOf (record { number = k; names = []; finished = false; sums = noSums; rest = [] })
+noSet k = answerOf (record { refusal = k; names = []; finished = false; sums = noSums; rest = [] })
 
 -- of a local read, where the panel of its controller shows these sums
 unfoldable pub readAnswer : Sums → Answer
-readAnswer z = answerOf (record { number = 0; names = []; finished = false; sums = z; rest = [] })
+readAnswer z = answerOf (record { refusal = 0; names = []; finished = false; sums = z; rest = [] })
 
 -- THE EFFECT of an event
 
@@ -47,7 +47,7 @@ effectOf t e =
     let f = finishes (messagesOf t) S (subject e) in
     let z = panelOf (next t e) (subject e) .sums in
     record {
-      answer = answerOf (record { number = 0; names = namesOf (messagesOf t) S; finished = f; sums = cond f z noSums; rest = [] });
+      answer = answerOf (record { refusal = 0; names = namesOf (messagesOf t) S; finished = f; sums = cond f z noSums; rest = [] });
       controller = after t e;
     }
 

@@ -216,15 +216,15 @@ pub struct Effect {
 }
 
 // The answer of a refusal, or of what applies nothing.
-pub fn no_set(number: u8) -> Answer
-    ensures { λ r. ⌜ r ≡ noSet number ⌝ }
+pub fn no_set(refusal: u8) -> Answer
+    ensures { λ r. ⌜ r ≡ noSet refusal ⌝ }
 {
     let none = Name {
         sender: 0,
         number: MessageNumber(MessageNumber::NONE),
     };
     Answer {
-        number,
+        refusal,
         finished: 0,
         sums: Sums::zero(),
         size: 0,
@@ -311,7 +311,7 @@ pub fn hand_over(
     let sums = sync_answer(count, messages, applied, finished);
     Effect {
         answer: Answer {
-            number: 0,
+            refusal: 0,
             finished: numbers::flag(finished),
             sums,
             size,

@@ -1,4 +1,5 @@
--- What the event call leaves, to a caller that is told how long the part of its bytes is that is unread.
+-- The number of the interface; and what the event call leaves, to a caller that is told how long the part of its bytes is
+-- that is unread.
 use mathlib.Core.Path.{_≡_}
 use mathlib.Core.List.{List}
 use Prim.Native.Nat.{ℕ}
@@ -7,9 +8,13 @@ use Rattle.model.specs.Calls.{event, scratchAfter, answerOf}
 use Rattle.model.specs.declared.Table.{Table}
 use Rattle.model.specs.declared.Answer.{Answer}
 
+-- It goes up whenever a struct, a constant, a refusal or a call changes that C or Rust see.
+abbrev pub interface : ℕ
+interface = 1
+
 -- the event of the bytes s on the table t, with the scratch area w
 pub record Counted (t : Table) (s w : List ℕ) (table : Table) (answer : Answer) (left : ℕ) (scratch : List ℕ) : Type 0 where
   pub table-is : table ≡ event t s (length w) .table
   pub answer-is : answer ≡ answerOf (event t s (length w) .answer)
   pub left-is : left ≡ length (event t s (length w) .answer .rest)
-  pub scratch-is : scratch ≡ scratchAfter (event t s (length w) .answer .number) w
+  pub scratch-is : scratch ≡ scratchAfter (event t s (length w) .answer .refusal) w

@@ -3,7 +3,18 @@
 ghost use mathlib.Core.Path.{_≡_};
 ghost use Rattle.model.specs.Calls.{look, countBefore, freshTable};
 ghost use Rattle.files.specs.FileRun.{Runs};
-ghost use Rattle.engine.specs.Called.{Counted};
+ghost use Rattle.engine.specs.Called.{Counted, interface};
+
+// The state of the interface. It goes up whenever a struct, a constant, a refusal or a call changes that C or Rust see.
+const INTERFACE: usize = 1;
+
+// The number of the interface, by which a caller sees that its header is this library's.
+#[no_mangle]
+pub extern "C" fn furnacejade_interface() -> usize
+    ensures { λ r. ⌜ r ≡ interface ⌝ }
+{
+    INTERFACE
+}
 
 // One event, of the record with which the bytes begin. No reference can be handed back to C: the result is how many bytes are
 // unread.

@@ -17,7 +17,7 @@ use Rattle.model.specs.declared.Table.{Table}
 use Rattle.model.specs.declared.Event.{Event}
 use Rattle.model.specs.declared.Command.the-variants.{Act, Read}
 use Rattle.model.specs.declared.Answer.{Answer}
-use Rattle.model.proofs.Steps.{step-is-accepted, step-is-refused, event-number-step}
+use Rattle.model.proofs.Steps.{step-is-accepted, step-is-refused, event-is-step}
 use Rattle.events.specs.declared.Stepped.{Stepped}
 use Rattle.effects.specs.declared.Effect.{Effect}
 use Rattle.effects.specs.Effects.{noSet, readAnswer, effectOf, Effected, Reads}
@@ -55,4 +55,4 @@ module _ (t : Table) (s w : List ℕ) where
   event-refused-four r f d = refused-answer (event t s (length w)) 4 (event-is-refused (length w) f) (λ z. omega arith) r d
 
   pub event-stepped : (r : Stepped) (v : List ℕ) → wellFormed t ≡ true → Answers (step t s (length w)) s w r v → Steps t s w r v
-  event-stepped r v f d = rw (event-number-step t s (length w) f) d
+  event-stepped r v f d = rw (event-is-step t s (length w) f) d

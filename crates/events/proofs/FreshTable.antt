@@ -27,10 +27,10 @@ module _ (v n : ℕ) where
     none-refuses f = rw (q, f) refl
 
   module _ (k : ℕ) (e : k ≡ firstNo (freshQuestions v n)) where
-    pub fresh-refused : k ≢ 0 → (x : Table) → x ≡ zeroTable → _≡_ {A = FreshAnswer} (record { number = k; table = x }) (freshTable v n)
+    pub fresh-refused : k ≢ 0 → (x : Table) → x ≡ zeroTable → _≡_ {A = FreshAnswer} (record { refusal = k; table = x }) (freshTable v n)
     unfolding freshTable
     fresh-refused d x ex = rw (← e, ne-eqb k 0 d, ex) refl
 
-    pub fresh-given : k ≡ 0 → (x : Table) → x ≡ fresh v n → _≡_ {A = FreshAnswer} (record { number = k; table = x }) (freshTable v n)
+    pub fresh-given : k ≡ 0 → (x : Table) → x ≡ fresh v n → _≡_ {A = FreshAnswer} (record { refusal = k; table = x }) (freshTable v n)
     unfolding freshTable
     fresh-given z x ex = rw (← e, eq-eqb k 0 z, ex) refl

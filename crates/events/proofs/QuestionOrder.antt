@@ -16,7 +16,7 @@ use Rattle.model.specs.declared.Event.{Event}
 use Rattle.model.specs.declared.Command.the-variants.{Act, Read}
 use Rattle.model.proofs.Tested.{facts}
 use Rattle.model.proofs.Allowed.{command-numbered, record-numbered, step-asked, read-allowed}
-use Rattle.model.proofs.Steps.{step-number, accepted-room}
+use Rattle.model.proofs.Steps.{step-first-no, accepted-room}
 use Rattle.invariant.proofs.Stores.{seated}
 use Rattle.records.specs.Cuts.{recordOf}
 use Rattle.records.specs.declared.Record.{Record}
@@ -38,14 +38,14 @@ used-read t s room r e z = ap (λ (x : Record). x .used) e ∙ cond-true _ _ (eq
 -- IN THE CODE'S ORDER
 
 module _ (t : Table) (r : Record) (room : ℕ) where
-  pub shape-refuses : r .number ≢ 0 → r .number ≡ refusalOf t r room
+  pub shape-refuses : r .refusal ≢ 0 → r .refusal ≡ refusalOf t r room
   unfolding refusalOf firstNo
-  shape-refuses n = sym (cond-false _ _ (ne-eqb (r .number) 0 n))
+  shape-refuses n = sym (cond-false _ _ (ne-eqb (r .refusal) 0 n))
 
-  module _ (z : r .number ≡ 0) (k : ℕ) (e : k ≡ firstNo (commandQuestions t (r .command))) where
+  module _ (z : r .refusal ≡ 0) (k : ℕ) (e : k ≡ firstNo (commandQuestions t (r .command))) where
     past-shape : refusalOf t r room ≡ firstNo (commandQuestions t (r .command) ++ (scratchRoom room ∷ []))
     unfolding refusalOf firstNo
-    past-shape = cond-true _ _ (eq-eqb (r .number) 0 z)
+    past-shape = cond-true _ _ (eq-eqb (r .refusal) 0 z)
 
     pub event-refuses : k ≢ 0 → k ≡ refusalOf t r room
     event-refuses n = e ∙ sym (past-shape ∙ first-refused (commandQuestions t (r .command)) _ (λ x. n (e ∙ x)))
@@ -74,7 +74,7 @@ module _ (t : Table) (s : List ℕ) (room : ℕ) where
 
   module _ (w : wellFormed t ≡ true) (e : firstNo (stepQuestions t s room) ≡ 0) where
     pub enough : scratchSize ≤ room
-    enough = accepted-room t s room (step-number t s room ∙ e)
+    enough = accepted-room t s room (step-first-no t s room ∙ e)
 
     -- what carrying out an event, and a local read, relies on
     pub allowed : (d : Event) → decode (t .version) s ≡ Act d → Accepted t d

@@ -15,13 +15,13 @@ use Rattle.events.specs.declared.Stepped.{Stepped}
 
 -- the first no of questions 5 to 15 and 17 to 20; the scratch area has `room` bytes
 unfoldable pub refusalOf : Table → Record → ℕ → ℕ
-refusalOf t r room = firstNo (ask (r .number) (eqb (r .number) 0) ∷ (commandQuestions t (r .command) ++ (scratchRoom room ∷ [])))
+refusalOf t r room = firstNo (ask (r .refusal) (eqb (r .refusal) 0) ∷ (commandQuestions t (r .command) ++ (scratchRoom room ∷ [])))
 
 -- an outcome of the bytes s: the unread rest is what stands after the bytes used
 unfoldable pub steppedOf : Outcome → List ℕ → Stepped
 steppedOf o s = record {
   answer = answerOf (o .answer);
-  used = cond (eqb (o .answer .number) 0) (size s + 1) 0;
+  used = cond (eqb (o .answer .refusal) 0) (size s + 1) 0;
   table = o .table;
 }
 
@@ -32,7 +32,7 @@ unchanged t k = record { answer = noSet k; used = 0; table = t }
 -- what is answered, and left of the scratch area w, where an event of the bytes s has this outcome
 pub record Answers (o : Outcome) (s w : List ℕ) (answer : Stepped) (scratch : List ℕ) : Type 0 where
   pub outcome : answer ≡ steppedOf o s
-  pub clear : scratch ≡ scratchAfter (o .answer .number) w
+  pub clear : scratch ≡ scratchAfter (o .answer .refusal) w
 
 -- the event call
 abbrev pub Steps : Table → List ℕ → List ℕ → Stepped → List ℕ → Type 0

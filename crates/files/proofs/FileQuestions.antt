@@ -1,4 +1,4 @@
--- Questions 1 to 3 from the tests that the code makes, and the file run behind them. Assumes nothing.
+-- Questions 1 to 3 from the tests that the code makes, and the file run after them. Assumes nothing.
 use mathlib.Core.Path.{_≡_, refl, sym, ap, _∙_}
 use mathlib.Core.Logic.{_≢_}
 use mathlib.Core.Bool.{true, false, _&&_}
@@ -34,11 +34,11 @@ file-asked s h k eh e = rw eh at e
 
 module _ (s l w : List ℕ) (k : ℕ) (e : k ≡ firstNo (fileQuestions s)) where
   run-isnt : k ≢ 0
-      → _≡_ {A = RunOutcome} (record { answer = record { number = k; events = 0; written = 0; table = zeroTable }; listing = l; scratch = w }) (fileRun s l w)
+      → _≡_ {A = RunOutcome} (record { answer = record { refusal = k; events = 0; written = 0; table = zeroTable }; listing = l; scratch = w }) (fileRun s l w)
   unfolding fileRun
   run-isnt n = rw e (sym (cond-false _ _ (ne-eqb (firstNo (fileQuestions s)) 0 (λ z. n (e ∙ z)))))
 
-  pub run-refused : k ≢ 0 → (x : Table) → x ≡ zeroTable → Runs s l w (record { number = k; events = 0; written = 0; table = x }) l w
+  pub run-refused : k ≢ 0 → (x : Table) → x ≡ zeroTable → Runs s l w (record { refusal = k; events = 0; written = 0; table = x }) l w
   run-refused n x b = record {
     outcome = rw b (ap (λ (o : RunOutcome). o .answer) (run-isnt n));
     listed = ap (λ (o : RunOutcome). o .listing) (run-isnt n);

@@ -31,7 +31,7 @@ use Rattle.model.specs.declared.Command.the-variants.{Act, Read}
 use Rattle.model.proofs.Allowed.{no-no}
 use Rattle.model.proofs.Lengths.{none-named}
 use Rattle.model.proofs.Handovers.{setAt}
-use Rattle.model.proofs.Steps.{step-number, step-is-accepted}
+use Rattle.model.proofs.Steps.{step-first-no, step-is-accepted}
 use Rattle.model.proofs.Runs.{advance-gone, advance-ended}
 use Rattle.records.specs.Cuts.{recordOf}
 use Rattle.records.specs.declared.Record.{Record}
@@ -60,7 +60,7 @@ fit : (a c : ℕ) → firstNo (lineFits a c ∷ []) ≡ 0 → leb a c ≡ true
 unfolding lineFits
 fit a c e = no-no 15 (leb a c) [] e .0
 
--- a list written behind the first n bytes of another
+-- a list written after the first n bytes of another
 overlay-behind : (n : ℕ) (x l : List ℕ) → n ≤ length l → take n l ++ overlay x (drop n l) ≡ overlay (take n l ++ x) l
 unfolding overlay
 overlay-behind n x l h =
@@ -97,7 +97,7 @@ pub line-wrote : (e c o : ℕ) (z y : Sums) (xs : List Name) (s u : List ℕ) (r
 line-wrote e c o z y xs s u r p q h w = rw (p, q, line-some e o y xs h) at w
 
 -- where there is no line nothing is written
-pub no-line : (s : List ℕ) → Wrote [] s s (record { number = 0; written = 0 })
+pub no-line : (s : List ℕ) → Wrote [] s s (record { refusal = 0; written = 0 })
 unfolding putAnswer tailAfter overlay firstNo lineFits
 no-line s = let z = le-leb 0 (length s) (omega arith) in record { answer = rw z refl; tail = rw z refl }
 
@@ -144,28 +144,28 @@ module _ (c : Cursor) (t : Table) (s l w : List ℕ) (b : Before c t s l) where
   lines-length : length (take (c .written) l) ≡ c .written
   lines-length = length-take-le (c .written) l (b .within)
 
-  verdict-refused : step t s (length w) .answer .number ≢ 0 → verdict so-far s (length w) (length l) ≡ step t s (length w) .answer .number
+  verdict-refused : step t s (length w) .answer .refusal ≢ 0 → verdict so-far s (length w) (length l) ≡ step t s (length w) .answer .refusal
   unfolding verdict firstNo progressOf
   verdict-refused n = cond-false _ _ (ne-eqb _ 0 n)
 
-  verdict-accepted : step t s (length w) .answer .number ≡ 0
+  verdict-accepted : step t s (length w) .answer .refusal ≡ 0
       → verdict so-far s (length w) (length l) ≡ firstNo (lineFits (length (lineAt so-far s (length w))) space ∷ [])
   unfolding verdict firstNo progressOf
   verdict-accepted z = cond-true _ _ (eq-eqb _ 0 z) ∙ rw lines-length refl
 
   -- a refusal, by the record's questions or by question 16
   turn-ended : (k : ℕ) → verdict so-far s (length w) (length l) ≡ k → k ≢ 0 → (y : Controller) (a : Advance) → a ≡ ended c k (length s) y
-      → (v : List ℕ) → v ≡ scratchAfter (step t s (length w) .answer .number) w
+      → (v : List ℕ) → v ≡ scratchAfter (step t s (length w) .answer .refusal) w
       → Turned c t s l w a l v
   unfolding turned progressOf ended overlay
   turn-ended k ek n y a ea v ev =
       let q = advance-ended so-far s (length w) (length l) (λ z. n (sym ek ∙ z)) in
       rw ea (record {
-        number = rw q (sym ek);
+        refusal = rw q (sym ek);
         events = rw q refl;
         written = rw q (sym lines-length);
         used = rw q (sym (rw ek (cond-false _ _ (ne-eqb k 0 n))));
-        leaves = λ z. absurd (n (sym ek ∙ (sym (ap (λ (g : Progress). g .number) q) ∙ z)));
+        leaves = λ z. absurd (n (sym ek ∙ (sym (ap (λ (g : Progress). g .refusal) q) ∙ z)));
         listed = rw q (sym (rw lines-length (take-append-drop (c .written) l)));
         clear = ev;
       })
@@ -174,16 +174,16 @@ module _ (c : Cursor) (t : Table) (s l w : List ℕ) (b : Before c t s l) where
       → Turned c t s l w a l w
   unfolding scratchAfter
   turn-refused k e n y a ea =
-      let said = step-number t s (length w) ∙ sym e in
+      let said = step-first-no t s (length w) ∙ sym e in
       turn-ended k (verdict-refused (λ z. n (sym said ∙ z)) ∙ said) n y a ea w (sym (rw said (cond-false _ _ (ne-eqb k 0 n))))
 
   module _ (passed : firstNo (stepQuestions t s (length w)) ≡ 0) where
-    number-said : step t s (length w) .answer .number ≡ 0
-    number-said = step-number t s (length w) ∙ passed
+    accepted-said : step t s (length w) .answer .refusal ≡ 0
+    accepted-said = step-first-no t s (length w) ∙ passed
 
-    scratch-said : (v : List ℕ) → v ≡ cleared w → v ≡ scratchAfter (step t s (length w) .answer .number) w
+    scratch-said : (v : List ℕ) → v ≡ cleared w → v ≡ scratchAfter (step t s (length w) .answer .refusal) w
     unfolding scratchAfter
-    scratch-said v e = rw number-said e
+    scratch-said v e = rw accepted-said e
 
     -- a local read, which has no line
     module _ (o : ℕ) (eo : decode (t .version) s ≡ Read o) where
@@ -193,14 +193,14 @@ module _ (c : Cursor) (t : Table) (s l w : List ℕ) (b : Before c t s l) where
 
       verdict-said : verdict so-far s (length w) (length l) ≡ 0
       unfolding firstNo lineFits
-      verdict-said = verdict-accepted number-said ∙ rw (no-line-said, le-leb 0 space (omega arith)) refl
+      verdict-said = verdict-accepted accepted-said ∙ rw (no-line-said, le-leb 0 space (omega arith)) refl
 
       pub turn-read : (u : ℕ) → u ≡ size s + 1 → (y : Controller) (v : List ℕ) → v ≡ cleared w → (a : Advance) → a ≡ gone c 0 u y → Turned c t s l w a l v
       unfolding turned progressOf overlay gone
       turn-read u eu y v ev a ea =
           let on = advance-gone so-far s (length w) (length l) verdict-said in
           rw ea (record {
-            number = rw on refl;
+            refusal = rw on refl;
             events = rw on refl;
             written = rw (on, no-line-said, append-nil (take (c .written) l)) (omega (arith, lines-length));
             used = rw on eu;
@@ -236,25 +236,25 @@ module _ (c : Cursor) (t : Table) (s l w : List ℕ) (b : Before c t s l) where
       wrote : Wrote x (drop (c .written) l) m q
       wrote = rw (line-said, mid-is) at ew
 
-      put-number : q .number ≡ firstNo (lineFits (length x) space ∷ [])
+      put-first-no : q .refusal ≡ firstNo (lineFits (length x) space ∷ [])
       unfolding putAnswer
-      put-number = rw (length-drop) at (ap (λ (y : Put). y .number) (wrote .answer))
+      put-first-no = rw (length-drop) at (ap (λ (y : Put). y .refusal) (wrote .answer))
 
-      verdict-put : verdict so-far s (length w) (length l) ≡ q .number
-      verdict-put = verdict-accepted (number-said passed) ∙ sym put-number
+      verdict-put : verdict so-far s (length w) (length l) ≡ q .refusal
+      verdict-put = verdict-accepted (accepted-said passed) ∙ sym put-first-no
 
-      pub turn-full : q .number ≢ 0 → (g : Controller) (a : Advance) → a ≡ ended c (q .number) (length s) g
+      pub turn-full : q .refusal ≢ 0 → (g : Controller) (a : Advance) → a ≡ ended c (q .refusal) (length s) g
           → Turned c t s l w a (putMid (c .written) space l m) v
       unfolding tailAfter
       turn-full n g a ea =
-          let out : leb (length x) (length (drop (c .written) l)) ≡ false = rw (length-drop (c .written) l) (unfit (length x) space (λ o. n (put-number ∙ o))) in
+          let out : leb (length x) (length (drop (c .written) l)) ≡ false = rw (length-drop (c .written) l) (unfit (length x) space (λ o. n (put-first-no ∙ o))) in
           let same : m ≡ midOf (c .written) space l = wrote .tail ∙ cond-false _ _ out ∙ sym mid-is in
           let kept = ap (putMid (c .written) space l) same ∙ put-same (c .written) space l in
-          rw kept (turn-ended (q .number) verdict-put n g a ea v (scratch-said passed v (f .clear)))
+          rw kept (turn-ended (q .refusal) verdict-put n g a ea v (scratch-said passed v (f .clear)))
 
-      module _ (n : q .number ≡ 0) where
+      module _ (n : q .refusal ≡ 0) where
         fits : leb (length x) (length (drop (c .written) l)) ≡ true
-        fits = rw (length-drop (c .written) l) (fit (length x) space (sym put-number ∙ n))
+        fits = rw (length-drop (c .written) l) (fit (length x) space (sym put-first-no ∙ n))
 
         put-written : q .written ≡ length x
         unfolding putAnswer
@@ -273,7 +273,7 @@ module _ (c : Cursor) (t : Table) (s l w : List ℕ) (b : Before c t s l) where
         turn-listed u eu a ea =
             let on = advance-gone so-far s (length w) (length l) (verdict-put ∙ n) in
             rw ea (record {
-              number = rw on refl;
+              refusal = rw on refl;
               events = rw on refl;
               written = rw on (omega (arith, put-written, lines-length, length-append (take (c .written) l) x));
               used = rw on eu;
@@ -285,6 +285,6 @@ module _ (c : Cursor) (t : Table) (s l w : List ℕ) (b : Before c t s l) where
             })
 
 -- a turn that does not end the run leaves the subject as its event e does
-pub turn-leaves : {c : Cursor} {t : Table} {s l w m v : List ℕ} {a : Advance} → Turned c t s l w a m v → a .cursor .number ≡ 0
+pub turn-leaves : {c : Cursor} {t : Table} {s l w m v : List ℕ} {a : Advance} → Turned c t s l w a m v → a .cursor .refusal ≡ 0
     → (e : Event) → decode (t .version) s ≡ Act e → Leaves t e (a .controller)
-turn-leaves d z = d .leaves (sym (d .number) ∙ z)
+turn-leaves d z = d .leaves (sym (d .refusal) ∙ z)

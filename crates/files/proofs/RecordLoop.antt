@@ -79,7 +79,7 @@ step-quiet : (t : Table) (s : List ℕ) (room : ℕ) → t .count ≡ 0 → step
 unfolding accepted refused
 step-quiet t s room z = step-case t s room (λ (o : Outcome). o .answer .names ≡ []) (λ _. quiet-names t (decode (t .version) s) (behind s) z) (λ _. refl)
 
-quiet-fits : (p : Progress) (s : List ℕ) (room space : ℕ) → p .table .count ≡ 0 → step (p .table) s room .answer .number ≡ 0 → verdict p s room space ≡ 0
+quiet-fits : (p : Progress) (s : List ℕ) (room space : ℕ) → p .table .count ≡ 0 → step (p .table) s room .answer .refusal ≡ 0 → verdict p s room space ≡ 0
 unfolding verdict lineAt lineOf firstNo lineFits
 quiet-fits p s room space c z =
     cond-true _ _ (eq-eqb _ 0 z) ∙ rw (step-quiet (p .table) s room c) (cond-true 0 16 (le-leb 0 (space - length (p .lines)) (omega arith)))
@@ -127,7 +127,7 @@ module _ (s l₀ w₀ l w b : List ℕ) (c : Cursor) (t : Table) (r : Running s 
   pub run-ends : length b ≤ 0 → (a : RunAnswer) → a ≡ answerAt c t → Ran s l₀ w₀ a l w
   unfolding ran progressOf answerAt
   run-ends h a ea = record {
-    outcome = ea ∙ rw (← done) (ap (λ (k : ℕ). record { number = c .number; events = c .events; written = k; table = t }) (sym (length-take-le (c .written) l (r .within))));
+    outcome = ea ∙ rw (← done) (ap (λ (k : ℕ). record { refusal = c .refusal; events = c .events; written = k; table = t }) (sym (length-take-le (c .written) l (r .within))));
     listed = rw (← done) (r .listing);
     clear = rw (← done) (r .scratch);
   }
@@ -154,7 +154,7 @@ module _ (s l₀ w₀ l w b : List ℕ) (c : Cursor) (t : Table) (r : Running s 
     unfolding turned
     by-verdict P f g = advance-case p b (length w) (length l) P f g
 
-    passed : verdict p b (length w) (length l) ≡ 0 → step t b (length w) .answer .number ≡ 0
+    passed : verdict p b (length w) (length l) ≡ 0 → step t b (length w) .answer .refusal ≡ 0
     unfolding progressOf
     passed z = verdict-passed p b (length w) (length l) z .0
 
@@ -192,10 +192,10 @@ module _ (s l₀ w₀ l w b : List ℕ) (c : Cursor) (t : Table) (r : Running s 
     listing-is = d .listed ∙ (ap (overlay (q .lines)) (r .listing) ∙ overlay-over (take (c .written) l) (q .lines) l₀ lines-grow)
 
     -- the scratch area: a line that does not fit is not the first event's, so it was clear already
-    clear-kept : verdict p b (length w) (length l) ≢ 0 → scratchAfter (step t b (length w) .answer .number) w ≡ leaves (c .events) w₀
+    clear-kept : verdict p b (length w) (length l) ≢ 0 → scratchAfter (step t b (length w) .answer .refusal) w ≡ leaves (c .events) w₀
     unfolding scratchAfter progressOf
     clear-kept n =
-        let k = step t b (length w) .answer .number in
+        let k = step t b (length w) .answer .refusal in
         cond-case (λ (v : List ℕ). v ≡ leaves (c .events) w₀) (eqb k 0) (cleared w) w
         (λ o.
         let z = eqb-true k 0 o in
@@ -209,7 +209,7 @@ module _ (s l₀ w₀ l w b : List ℕ) (c : Cursor) (t : Table) (r : Running s 
     unfolding scratchAfter progressOf
     clear-is =
         d .clear
-        ∙ by-verdict (λ (g : Progress). scratchAfter (step t b (length w) .answer .number) w ≡ leaves (g .events) w₀)
+        ∙ by-verdict (λ (g : Progress). scratchAfter (step t b (length w) .answer .refusal) w ≡ leaves (g .events) w₀)
         (λ z.
         let room = accepted-room t b (length w) (passed z) in
         rw (passed z) (ap cleared (r .scratch) ∙ (leaves-cleared (c .events) w₀ (omega (arith, scratch-size))
@@ -221,16 +221,16 @@ module _ (s l₀ w₀ l w b : List ℕ) (c : Cursor) (t : Table) (r : Running s 
     sent-first = by-verdict (λ (g : Progress). g .events ≡ 0 → g .table .count ≡ 0) (λ _ e. absurd (omega arith)) (λ _. r .unsent)
 
     -- the bytes left
-    left-is : b′ ≡ drop (cond (eqb (q .number) 0) (size b + 1) (length b)) b
+    left-is : b′ ≡ drop (cond (eqb (q .refusal) 0) (size b + 1) (length b)) b
     left-is = eb ∙ ap (λ (k : ℕ). drop k b) (d .used)
 
-    left-fewer : (q .events + length (drop (cond (eqb (q .number) 0) (size b + 1) (length b)) b) ≤ 65535)
-        × (length (drop (cond (eqb (q .number) 0) (size b + 1) (length b)) b) < length b)
+    left-fewer : (q .events + length (drop (cond (eqb (q .refusal) 0) (size b + 1) (length b)) b) ≤ 65535)
+        × (length (drop (cond (eqb (q .refusal) 0) (size b + 1) (length b)) b) < length b)
     unfolding progressOf
     left-fewer =
         by-verdict
-        (λ (g : Progress). (g .events + length (drop (cond (eqb (g .number) 0) (size b + 1) (length b)) b) ≤ 65535)
-        × (length (drop (cond (eqb (g .number) 0) (size b + 1) (length b)) b) < length b))
+        (λ (g : Progress). (g .events + length (drop (cond (eqb (g .refusal) 0) (size b + 1) (length b)) b) ≤ 65535)
+        × (length (drop (cond (eqb (g .refusal) 0) (size b + 1) (length b)) b) < length b))
         (λ _. (omega (arith, r .few, length-drop (size b + 1) b), omega (arith, length-drop (size b + 1) b)))
         (λ n. rw (ne-eqb _ 0 n) (omega (arith, r .few, length-drop (length b) b), omega (arith, length-drop (length b) b)))
 
@@ -244,16 +244,16 @@ module _ (s l₀ w₀ l w b : List ℕ) (c : Cursor) (t : Table) (r : Running s 
         (sym (records-turn p b (length w) (length l) h b′ left-is) ∙ rw (scratch-size, r .space) (r .ahead))
 
     -- the table, as the code has stored it
-    module _ (y : Table) (on : a .cursor .number ≡ 0 → y ≡ resulting t (decode (t .version) b)) (off : a .cursor .number ≢ 0 → y ≡ t) where
+    module _ (y : Table) (on : a .cursor .refusal ≡ 0 → y ≡ resulting t (decode (t .version) b)) (off : a .cursor .refusal ≢ 0 → y ≡ t) where
       table-is : y ≡ q .table
       unfolding progressOf
       table-is =
-          by-verdict (λ (g : Progress). a .cursor .number ≡ g .number → y ≡ g .table)
-          (λ z e. on e ∙ sym (accepted-table t b (length w) (passed z))) (λ n e. off (λ o. n (sym e ∙ o))) (d .number)
+          by-verdict (λ (g : Progress). a .cursor .refusal ≡ g .refusal → y ≡ g .table)
+          (λ z e. on e ∙ sym (accepted-table t b (length w) (passed z))) (λ n e. off (λ o. n (sym e ∙ o))) (d .refusal)
 
       progress-is : progressOf (a .cursor) y m ≡ q
       unfolding progressOf
-      progress-is = rw (d .number, d .events, lines-are, table-is) refl
+      progress-is = rw (d .refusal, d .events, lines-are, table-is) refl
 
       pub run-goes-on : Running s l₀ w₀ m u b′ (a .cursor) y
       run-goes-on = record {

@@ -42,10 +42,10 @@ fileRefusal size v n = firstNo (ask 1 (leb 2 size && leb size longestFile) ∷ f
 
 -- where a run begins, and what it answers where it has come to c with the table t
 unfoldable pub atStart : Cursor
-atStart = record { number = 0; events = 0; written = 0 }
+atStart = record { refusal = 0; events = 0; written = 0 }
 
 unfoldable pub answerAt : Cursor → Table → RunAnswer
-answerAt c t = record { number = c .number; events = c .events; written = c .written; table = t }
+answerAt c t = record { refusal = c .refusal; events = c .events; written = c .written; table = t }
 
 -- ONE RECORD
 
@@ -62,15 +62,15 @@ abbrev pub SumsAnswered : Table → Effect → Type 0
 SumsAnswered t d = yes? (d .answer .finished) ≡ true → d .answer .sums ≡ sums (messagesOf t) (d .controller .applied)
 
 unfoldable pub progressOf : Cursor → Table → List ℕ → Progress
-progressOf c t l = record { number = c .number; events = c .events; lines = take (c .written) l; table = t }
+progressOf c t l = record { refusal = c .refusal; events = c .events; lines = take (c .written) l; table = t }
 
 -- a refusal with number k ends the run: that many bytes are used, and the subject is then x
 unfoldable pub ended : Cursor → ℕ → ℕ → Controller → Advance
-ended c k used x = record { cursor = record { number = k; events = c .events; written = c .written }; used = used; controller = x }
+ended c k used x = record { cursor = record { refusal = k; events = c .events; written = c .written }; used = used; controller = x }
 
 -- a record is carried out, and its line has that many bytes
 unfoldable pub gone : Cursor → ℕ → ℕ → Controller → Advance
-gone c line used x = record { cursor = record { number = 0; events = c .events + 1; written = c .written + line }; used = used; controller = x }
+gone c line used x = record { cursor = record { refusal = 0; events = c .events + 1; written = c .written + line }; used = used; controller = x }
 
 -- what a turn relies on: with the table t, the bytes s left and the listing l
 pub record Before (c : Cursor) (t : Table) (s l : List ℕ) : Type 0 where
@@ -89,13 +89,13 @@ turned c t s l room = advance (progressOf c t l) s room (length l)
 
 -- what a turn answers, and what it leaves of the listing l and the scratch area w
 pub record Turned (c : Cursor) (t : Table) (s l w : List ℕ) (answer : Advance) (listing scratch : List ℕ) : Type 0 where
-  pub number : answer .cursor .number ≡ turned c t s l (length w) .number
+  pub refusal : answer .cursor .refusal ≡ turned c t s l (length w) .refusal
   pub events : answer .cursor .events ≡ turned c t s l (length w) .events
   pub written : answer .cursor .written ≡ length (turned c t s l (length w) .lines)
-  pub used : answer .used ≡ cond (eqb (turned c t s l (length w) .number) 0) (size s + 1) (length s)
-  pub leaves : turned c t s l (length w) .number ≡ 0 → (e : Event) → decode (t .version) s ≡ Act e → Leaves t e (answer .controller)
+  pub used : answer .used ≡ cond (eqb (turned c t s l (length w) .refusal) 0) (size s + 1) (length s)
+  pub leaves : turned c t s l (length w) .refusal ≡ 0 → (e : Event) → decode (t .version) s ≡ Act e → Leaves t e (answer .controller)
   pub listed : listing ≡ overlay (turned c t s l (length w) .lines) l
-  pub clear : scratch ≡ scratchAfter (step t s (length w) .answer .number) w
+  pub clear : scratch ≡ scratchAfter (step t s (length w) .answer .refusal) w
 
 -- what the records of a file that questions 1 to 3 do not refuse answer and leave
 pub record Ran (s l w : List ℕ) (answer : RunAnswer) (listing scratch : List ℕ) : Type 0 where

@@ -22,7 +22,7 @@ use records::Record;
 
 // How far a run has come: the refusal number, the events accepted and the bytes listed.
 struct Cursor {
-    number: u8,
+    refusal: u8,
     events: usize,
     written: usize,
 }
@@ -32,7 +32,7 @@ fn begun() -> Cursor
     ensures { λ r. ⌜ r ≡ atStart ⌝ }
 {
     Cursor {
-        number: refusal::ACCEPTED,
+        refusal: refusal::ACCEPTED,
         events: 0,
         written: 0,
     }
@@ -43,7 +43,7 @@ fn answered(cursor: Cursor, table: Table) -> RunAnswer
     ensures { λ r. ⌜ r ≡ answerAt cursor table ⌝ }
 {
     RunAnswer {
-        number: cursor.number,
+        refusal: cursor.refusal,
         events: cursor.events,
         written: cursor.written,
         table,
@@ -80,7 +80,7 @@ fn list_line(tail: &mut [u8], event: usize, e: Event, t: Table, done: Effect) ->
     let size = answer.size;
     if size == 0 {
         return Put {
-            number: refusal::ACCEPTED,
+            refusal: refusal::ACCEPTED,
             written: 0,
         };
     }
@@ -123,12 +123,12 @@ fn look_ahead(version: usize, left: &[u8]) -> Ahead
 }
 
 // A refusal ends a run: all bytes are read, and nothing else has changed.
-fn ended(cursor: Cursor, number: u8, used: usize, controller: Controller) -> Advance
-    ensures { λ r. ⌜ r ≡ ended cursor number used controller ⌝ }
+fn ended(cursor: Cursor, refusal: u8, used: usize, controller: Controller) -> Advance
+    ensures { λ r. ⌜ r ≡ ended cursor refusal used controller ⌝ }
 {
     Advance {
         cursor: Cursor {
-            number,
+            refusal,
             events: cursor.events,
             written: cursor.written,
         },
@@ -144,7 +144,7 @@ fn gone(cursor: Cursor, line: usize, used: usize, controller: Controller) -> Adv
 {
     Advance {
         cursor: Cursor {
-            number: refusal::ACCEPTED,
+            refusal: refusal::ACCEPTED,
             events: cursor.events + 1,
             written: cursor.written + line,
         },
@@ -169,9 +169,9 @@ fn turn(
     ensures { λ r. ⌜ Turned cursor t (now (left .entry)) (now (listing .entry)) (now (scratch .entry)) r (now (listing .exit)) (now (scratch .exit)) ⌝ }
 {
     let start = cursor.written;
-    let number = events::step_refusal(t, found, scratch.len());
-    if number != 0 {
-        return ended(cursor, number, left.len(), x);
+    let refusal = events::step_refusal(t, found, scratch.len());
+    if refusal != 0 {
+        return ended(cursor, refusal, left.len(), x);
     }
     let command = found.command;
     let Command::Act(e) = command else {
@@ -181,7 +181,7 @@ fn turn(
     let done = effects::carry_out(t, x, y, e, scratch);
     let controller = done.controller;
     let put = list_line(&mut listing[start..], cursor.events + 1, e, t, done);
-    let full = put.number;
+    let full = put.refusal;
     if full != 0 {
         return ended(cursor, full, left.len(), controller);
     }
@@ -208,7 +208,7 @@ fn run_records(head: Header, bytes: &[u8], listing: &mut [u8], scratch: &mut [u8
         cursor = done.cursor;
         let next = records::behind(left, done.used);
         left = next;
-        let verdict = cursor.number;
+        let verdict = cursor.refusal;
         if verdict != 0 {
             continue;
         }
@@ -259,13 +259,13 @@ pub fn run(bytes: &[u8], listing: &mut [u8], scratch: &mut [u8]) -> RunAnswer
     ensures { λ r. ⌜ Runs (now (bytes .entry)) (now (listing .entry)) (now (scratch .entry)) r (now (listing .exit)) (now (scratch .exit)) ⌝ }
 {
     let head = read_header(bytes);
-    let number = file_refusal(bytes.len(), head);
-    if number != 0 {
+    let refusal = file_refusal(bytes.len(), head);
+    if refusal != 0 {
         return RunAnswer {
-            number,
+            refusal,
             events: 0,
             written: 0,
-            table: Table::opened(number, 0, 0),
+            table: Table::opened(refusal, 0, 0),
         };
     }
     run_records(head, bytes, listing, scratch)

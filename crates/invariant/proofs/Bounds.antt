@@ -79,7 +79,7 @@ module _ (t : Table) (f : WellFormed t) (x : Controller) where
   weigh-bound v w h =
       omega (
         arith,
-        f .counted,
+        f .fitting,
         sum-plus (t .count) (λ s. cond (applied x s) (v (message t s .payload)) 0) (λ s. cond (applied x s) (w (message t s .payload)) 0),
         sum-bound (t .count) _ 360 (λ s l. where-counted (applied x s) _ _ (h (message t s .payload) (f .amounts s l))),
       )

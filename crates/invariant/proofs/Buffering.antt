@@ -25,7 +25,7 @@ pub unheld-marks : {n : ℕ} → n ≤ seats → (f : ℕ) → f < n → GoodMar
 unheld-marks few f h = inl (unheld-absent f (omega arith))
 
 -- A slot of the run that is not applied goes into the buffer, or stays there, with good marks.
-module _ (t : Table) (i : ℕ) (c : Controller) (g : GoodController t i c) (z : SizedController c) (few : t .n ≤ seats) (counted : t .count ≤ capacity)
+module _ (t : Table) (i : ℕ) (c : Controller) (g : GoodController t i c) (z : SizedController c) (few : t .n ≤ seats) (fitting : t .count ≤ capacity)
     (s : ℕ) (run : s < t .count) (fresh : applied c s ≡ false)
     (ms : List ForwardNumber) (sized : length ms ≡ seats) (good : (f : ℕ) → f < t .n → GoodMark (getD ms f (forwardNumber 0) .0))
     (o k : ℕ) (low : 0 < k) (high : k ≤ 64) where

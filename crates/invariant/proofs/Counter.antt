@@ -64,12 +64,12 @@ module _ (t : Table) (w : WellFormed t) (z : Sized t) (r o : ℕ) (a : HandoverA
   -- nothing is applied twice
   pub applied-new : (s : ℕ) → s < t .count → has (setAt t r o) s ≡ true → applied (at t r) s ≡ false
   applied-new s h e = refuted (applied (at t r) s) (λ p.
-      received-good t w z r o a .apart s h (applied-held t w z r o a s (omega (arith, w .counted)) e) (rw (received-applied t r o) p))
+      received-good t w z r o a .apart s h (applied-held t w z r o a s (omega (arith, w .fitting)) e) (rw (received-applied t r o) p))
 
   pub receiver-applied : (s : ℕ) → s < t .count
       → applied (deliver (messagesOf t) (receivedAt t r o) (setAt t r o)) s ≡ (has (setAt t r o) s || applied (at t r) s)
   receiver-applied s h =
-      delivered-applied t (receivedAt t r o) (setAt t r o) s (omega (arith, w .counted))
+      delivered-applied t (receivedAt t r o) (setAt t r o) s (omega (arith, w .fitting))
       ∙ ap (λ (l : List ℕ). has (setAt t r o) s || yes? (getD l s 0)) (received-applied t r o)
 
   weigh-receiver : (v : Payload → ℕ) → weigh v (messagesOf t) (deliver (messagesOf t) (receivedAt t r o) (setAt t r o) .applied) ≡ weigh v (messagesOf t) (at t r .applied) + weighSet v (messagesOf t) (setAt t r o)

@@ -51,7 +51,7 @@ module _ (t : Table) (c : Controller) (S : Slots) where
       let q : suc (x - 1) ≡ x = omega arith in
       ap (λ (m : MessageNumber). m .0) (getD-tabulate seats _ none (x - 1) (omega arith)) ∙ rw q refl
 
-module _ (t : Table) (i : ℕ) (c : Controller) (g : GoodController t i c) (few : t .n ≤ seats) (counted : t .count ≤ capacity)
+module _ (t : Table) (i : ℕ) (c : Controller) (g : GoodController t i c) (few : t .n ≤ seats) (fitting : t .count ≤ capacity)
     (S : Slots) (buffered : (s : ℕ) → s < capacity → has S s ≡ true → held c s ≡ true) where
   -- what is still in the buffer
   kept : (s : ℕ) → s < capacity → held (deliver (messagesOf t) c S) s ≡ true → (has S s ≡ false) × (held c s ≡ true)

@@ -25,7 +25,7 @@ use Rattle.model.specs.declared.Command.{Command}
 use Rattle.model.specs.declared.Command.the-variants.{Act, Read}
 use Rattle.model.proofs.Tested.{facts, tested}
 use Rattle.model.proofs.Allowed.{step-asked, send-allowed, handover-allowed, stop-allowed}
-use Rattle.model.proofs.Steps.{step-case, event-number-step}
+use Rattle.model.proofs.Steps.{step-case, event-is-step}
 use Rattle.invariant.proofs.Sizes.{next-sized}
 use Rattle.invariant.proofs.Sending.{send-well-formed}
 use Rattle.invariant.proofs.Receiving.{handover-well-formed}
@@ -59,7 +59,7 @@ fresh-well-formed {v} {n} a = record {
   version = a .version;
   some = a .some;
   few = a .few;
-  counted = omega arith;
+  fitting = omega arith;
   names = λ i j h. absurd (not-suc-le-zero h);
   senders = λ s h. absurd (not-suc-le-zero h);
   numbers = λ s h. absurd (not-suc-le-zero h);
@@ -95,4 +95,4 @@ step-kept t s room z w =
     (λ _. (z, w))
 
 pub event-kept : (t : Table) (s : List ℕ) (room : ℕ) → Sized t → wellFormed t ≡ true → Sized (event t s room .table) × (wellFormed (event t s room .table) ≡ true)
-event-kept t s room z w = rw (event-number-step t s room w) (step-kept t s room z w)
+event-kept t s room z w = rw (event-is-step t s room w) (step-kept t s room z w)

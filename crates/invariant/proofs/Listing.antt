@@ -30,13 +30,13 @@ use Rattle.model.specs.declared.Command.{Command}
 use Rattle.model.specs.declared.Command.the-variants.{Act, Read}
 use Rattle.model.specs.Facts.{Among, WellFormed}
 use Rattle.model.proofs.Allowed.{no-no, step-asked, file-allowed, subject-allowed}
-use Rattle.model.proofs.Steps.{step-number, step-is-accepted, accepted-asked, accepted-within}
+use Rattle.model.proofs.Steps.{step-first-no, step-is-accepted, accepted-asked, accepted-within}
 use Rattle.model.proofs.Runs.{gone, verdict-passed, advance-case}
 use Rattle.model.proofs.Decimals.{decimal-bound}
 use Rattle.model.proofs.Lengths.{length-insert, SmallName, names-bound, length-sums, length-line}
 use Rattle.invariant.proofs.Sizes.{next-n, fresh-sized}
 use Rattle.invariant.proofs.Kept.{next-well-formed, resulting-kept, fresh-well-formed}
-use Rattle.invariant.proofs.Refusals.{step-number-range}
+use Rattle.invariant.proofs.Refusals.{step-refusals}
 use Rattle.invariant.specs.Claims.{weighSet, Bounded}
 use Rattle.invariant.proofs.Counter.{weigh-next}
 use Rattle.invariant.proofs.Bounds.{sums-bounded}
@@ -110,7 +110,7 @@ deliveries-bound t w =
       sum-bound (t .n) (λ i. weigh (λ p. 1) (messagesOf t) (at t (suc i) .applied)) 64
           (λ i h. omega (
             arith,
-            w .counted,
+            w .fitting,
             sum-bound (t .count) (λ s. cond (applied (at t (suc i)) s) 1 0) 1
                 (λ s l. cond-case (λ x. x ≤ 1) (applied (at t (suc i)) s) 1 0 (λ _. omega arith) (λ _. omega arith)),
           )),
@@ -166,7 +166,7 @@ line-delivers t (Read c) r z w q k h = omega arith
 
 -- a run that goes on with at most f records, and has listed no more than its deliveries allow
 record Listed (f : ℕ) (p : Progress) : Type 0 where
-  going : p .number ≡ 0
+  going : p .refusal ≡ 0
   few : p .events + f < 100000
   sized : Sized (p .table)
   formed : WellFormed (p .table)
@@ -174,7 +174,7 @@ record Listed (f : ℕ) (p : Progress) : Type 0 where
 
 module _ (p : Progress) (s : List ℕ) (room space f : ℕ) (h : Listed (suc f) p) where
   -- with an accepted event more it is such a run
-  accepted-listed : step (p .table) s room .answer .number ≡ 0 → Listed f (gone p s room space)
+  accepted-listed : step (p .table) s room .answer .refusal ≡ 0 → Listed f (gone p s room space)
   unfolding accepted lineAt
   accepted-listed e =
       let t = p .table in
@@ -199,21 +199,21 @@ module _ (p : Progress) (s : List ℕ) (room space f : ℕ) (h : Listed (suc f) 
   verdict-not-16 : 11200 ≤ space → verdict p s room space ≢ 16
   unfolding verdict firstNo lineFits
   verdict-not-16 l =
-      let k = step (p .table) s room .answer .number in
+      let k = step (p .table) s room .answer .refusal in
       cond-case (λ v. v ≢ 16) (eqb k 0) _ k
       (λ e.
       let d = accepted-listed (eqb-true k 0 e) in
       rw (le-leb (length (lineAt p s room)) (space - length (p .lines))
       (omega (arith, d .lines, length-append (p .lines) (lineAt p s room), deliveries-bound (gone p s room space .table) (d .formed)))) (omega arith))
-      (λ _ z. elim (step-number-range (p .table) s room) [
-        | inl y ↦ absurd (omega (arith, step-number (p .table) s room))
-        | inr y ↦ absurd (omega (arith, step-number (p .table) s room))
+      (λ _ z. elim (step-refusals (p .table) s room) [
+        | inl y ↦ absurd (omega (arith, step-first-no (p .table) s room))
+        | inr y ↦ absurd (omega (arith, step-first-no (p .table) s room))
       ])
 
 -- THE RUN
 
 record Fits (p : Progress) : Type 0 where
-  not-16 : p .number ≢ 16
+  not-16 : p .refusal ≢ 16
   short : length (p .lines) ≤ 11200
 
 listed-fits : (f : ℕ) (p : Progress) → Listed f p → Fits p
@@ -224,12 +224,12 @@ unfolding records
 records-fit zero p s room space l h = listed-fits 0 p h
 records-fit (suc f) p [] room space l h = listed-fits (suc f) p h
 records-fit (suc f) p (b ∷ s) room space l h =
-    advance-case p (b ∷ s) room space (λ q. Fits (cond (eqb (q .number) 0) (records f q (behind (b ∷ s)) room space) q))
+    advance-case p (b ∷ s) room space (λ q. Fits (cond (eqb (q .refusal) 0) (records f q (behind (b ∷ s)) room space) q))
     (λ v. records-fit f (gone p (b ∷ s) room space) (behind (b ∷ s)) room space l (accepted-listed p (b ∷ s) room space f h (verdict-passed p (b ∷ s) room space v .0)))
     (λ d. rw (ne-eqb (verdict p (b ∷ s) room space) 0 d) (record { not-16 = verdict-not-16 p (b ∷ s) room space f h l; short = listed-fits (suc f) p h .short }))
 
 pub listing-fits : (s : List ℕ) (room space : ℕ) → firstNo (fileQuestions s) ≡ 0 → 11200 ≤ space
-    → (progress s room space .number ≢ 16) × (length (progress s room space .lines) ≤ 11200)
+    → (progress s room space .refusal ≢ 16) × (length (progress s room space .lines) ≤ 11200)
 unfolding progress begun
 listing-fits s room space q h =
     let a = file-allowed s q in
@@ -269,7 +269,7 @@ unfolding records
 records-count zero p s room space = omega arith
 records-count (suc f) p [] room space = omega arith
 records-count (suc f) p (b ∷ s) room space =
-    advance-case p (b ∷ s) room space (λ q. 3 * (cond (eqb (q .number) 0) (records f q (behind (b ∷ s)) room space) q) .events ≤ 3 * p .events + length (b ∷ s))
+    advance-case p (b ∷ s) room space (λ q. 3 * (cond (eqb (q .refusal) 0) (records f q (behind (b ∷ s)) room space) q) .events ≤ 3 * p .events + length (b ∷ s))
     (λ v.
     let e = verdict-passed p (b ∷ s) room space v .0 in
     let a = accepted-asked (p .table) (b ∷ s) room e in

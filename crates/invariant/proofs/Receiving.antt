@@ -51,9 +51,9 @@ forward-good : (t : Table) (w : WellFormed t) (i : ℕ) (c : Controller) → Goo
     → (s : ℕ) → s < t .count → (o k : ℕ) → 0 < k → k ≤ 64 → GoodController t i (forward c (message t s) s o k)
 forward-good t w i c g z running s run o k low high =
     forward-case (GoodController t i) c (message t s) s o k (λ _. g)
-    (λ above e. marked-good t i c g z (w .few) (w .counted) s run (unapplied above) (entry (c .pending) s .marks) (z .marks s (omega (arith, w .counted)))
+    (λ above e. marked-good t i c g z (w .few) (w .fitting) s run (unapplied above) (entry (c .pending) s .marks) (z .marks s (omega (arith, w .fitting)))
     (λ f hf. g .marks s f run e hf) o k low high e)
-    (λ above e. entered-good t i c g z (w .few) (w .counted) s run (unapplied above) (unheld .marks) refl (unheld-marks (w .few)) o k low high
+    (λ above e. entered-good t i c g z (w .few) (w .fitting) s run (unapplied above) (unheld .marks) refl (unheld-marks (w .few)) o k low high
     (g .exact running s run ∙ rw (e, unapplied above) refl))
   where
     unapplied : leb (message t s .number .0) (highest c (message t s .sender)) ≡ false → applied c s ≡ false
@@ -111,15 +111,15 @@ module _ (t : Table) (w : WellFormed t) (z : Sized t) (r o : ℕ) (a : HandoverA
   applied-held s h e = applicable-held (t .n) (receivedAt t r o .pending) s h e
 
   pub receiver-good : GoodController t r (deliver (messagesOf t) (receivedAt t r o) (setAt t r o))
-  receiver-good = delivered-good t r (receivedAt t r o) received-good (w .few) (w .counted) (setAt t r o) applied-held
+  receiver-good = delivered-good t r (receivedAt t r o) received-good (w .few) (w .fitting) (setAt t r o) applied-held
 
   receiver-known : (s : ℕ) → s < t .count → (held (at t r) s || applied (at t r) s) ≡ true
       → (held (deliver (messagesOf t) (receivedAt t r o) (setAt t r o)) s || applied (deliver (messagesOf t) (receivedAt t r o) (setAt t r o)) s) ≡ true
   unfolding received
   receiver-known s h e =
-      delivered-known t (receivedAt t r o) (setAt t r o) s (omega (arith, w .counted))
+      delivered-known t (receivedAt t r o) (setAt t r o) s (omega (arith, w .fitting))
       (forward-known (withRead (at t r) o) (message t (nextAt t r o)) (nextAt t r o) o (place (at t r) o + 1) (read-sized (at t r) o receiver-sized)
-      (omega (arith, w .counted, next-slot-run t w r o a)) s e)
+      (omega (arith, w .fitting, next-slot-run t w r o a)) s e)
 
   pub handover-well-formed : WellFormed (withController t r (deliver (messagesOf t) (receivedAt t r o) (setAt t r o)))
   unfolding deliver

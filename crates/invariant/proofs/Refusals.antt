@@ -30,6 +30,6 @@ step-numbers t v s room (Act (Handover r o)) = omega arith
 step-numbers t v s room (Act (Stop c k)) = omega arith
 step-numbers t v s room (Read c) = omega arith
 
-pub step-number-range : (t : Table) (s : List ℕ) (room : ℕ) → (firstNo (stepQuestions t s room) ≡ 0) ⊎ StepNumber (firstNo (stepQuestions t s room))
+pub step-refusals : (t : Table) (s : List ℕ) (room : ℕ) → (firstNo (stepQuestions t s room) ≡ 0) ⊎ StepNumber (firstNo (stepQuestions t s room))
 unfolding stepQuestions
-step-number-range t s room = first-number _ (step-numbers t (t .version) s room (decode (t .version) s))
+step-refusals t s room = first-number _ (step-numbers t (t .version) s room (decode (t .version) s))

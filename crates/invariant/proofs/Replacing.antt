@@ -22,7 +22,7 @@ pub record WellFormedBut (t : Table) (c : ℕ) : Type 0 where
   pub version : known (t .version) ≡ true
   pub some : 0 < t .n
   pub few : t .n ≤ seats
-  pub counted : t .count ≤ capacity
+  pub fitting : t .count ≤ capacity
   pub names : (i j : ℕ) → i < t .count → j < t .count
       → message t i .sender ≡ message t j .sender → message t i .number .0 ≡ message t j .number .0 → i ≡ j
   pub senders : (s : ℕ) → s < t .count → Among (t .n) (message t s .sender)
@@ -42,7 +42,7 @@ but-one t c w = record {
   version = w .version;
   some = w .some;
   few = w .few;
-  counted = w .counted;
+  fitting = w .fitting;
   names = w .names;
   senders = w .senders;
   numbers = w .numbers;
@@ -82,7 +82,7 @@ replaced t c x z w hc g own others written = record {
   version = w .version;
   some = w .some;
   few = w .few;
-  counted = w .counted;
+  fitting = w .fitting;
   names = w .names;
   senders = w .senders;
   numbers = w .numbers;

@@ -174,7 +174,7 @@ module _ (t : Table) (w : WellFormed t) (z : Sized t) (c : ℕ) (p : Payload) (a
     version = w .version;
     some = w .some;
     few = w .few;
-    counted = omega (arith, a .room);
+    fitting = omega (arith, a .room);
     names = λ i j hi hj. names i j (added t (sentMessage (messagesOf t) (at t c) c p) z (a .room) i hi) (added t (sentMessage (messagesOf t) (at t c) c p) z (a .room) j hj);
     senders = added-each t (sentMessage (messagesOf t) (at t c) c p) (λ m. Among (t .n) (m .sender)) z (a .room) (a .sender) (w .senders);
     numbers = added-each t (sentMessage (messagesOf t) (at t c) c p) (λ m. (0 < m .number .0) × (m .number .0 ≤ 64)) z (a .room) (omega arith, omega (arith, a .room, log-room)) (w .numbers);

@@ -12,4 +12,4 @@ pub record Called (t : Table) (s w : List ℕ) (table : Table) (answer : Answer)
   pub table-is : table ≡ event t s (length w) .table
   pub answer-is : answer ≡ answerOf (event t s (length w) .answer)
   pub rest-is : rest ≡ event t s (length w) .answer .rest
-  pub scratch-is : scratch ≡ scratchAfter (event t s (length w) .answer .number) w
+  pub scratch-is : scratch ≡ scratchAfter (event t s (length w) .answer .refusal) w

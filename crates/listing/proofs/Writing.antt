@@ -11,14 +11,14 @@ use Rattle.listing.specs.declared.Put.{Put}
 use Rattle.listing.specs.Writing.{putAnswer, tailAfter, Wrote, Stored}
 use Rattle.listing.proofs.Storing.{stored-overlay, stored-front}
 
-pub fitting-written : {x s t : List ℕ} {k : ℕ} → length x ≤ length s → Stored x s 0 t k → Wrote x s t (record { number = 0; written = k })
+pub fitting-written : {x s t : List ℕ} {k : ℕ} → length x ≤ length s → Stored x s 0 t k → Wrote x s t (record { refusal = 0; written = k })
 unfolding putAnswer tailAfter firstNo lineFits
 fitting-written {x} {s} {t} {k} h p = record {
   answer = rw (le-leb (length x) (length s) h, p .place ∙ zero-add (length x));
   tail = rw (le-leb (length x) (length s) h) (p .bytes ∙ stored-overlay s x h);
 }
 
-pub too-long-refused : (x s : List ℕ) → length s < length x → Wrote x s s (record { number = 16; written = 0 })
+pub too-long-refused : (x s : List ℕ) → length s < length x → Wrote x s s (record { refusal = 16; written = 0 })
 unfolding putAnswer tailAfter firstNo lineFits
 too-long-refused x s h = record { answer = rw (lt-leb (length x) (length s) h); tail = rw (lt-leb (length x) (length s) h) }
 

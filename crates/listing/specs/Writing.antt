@@ -13,7 +13,7 @@ use Rattle.listing.specs.declared.Put.{Put}
 -- the number of question 16 for a line x and a tail of `space` bytes, and the bytes written, 0 if refused
 unfoldable pub putAnswer : List ℕ → ℕ → Put
 putAnswer x space = record {
-  number = firstNo (lineFits (length x) space ∷ []);
+  refusal = firstNo (lineFits (length x) space ∷ []);
   written = cond (leb (length x) space) (length x) 0;
 }
 

@@ -12,7 +12,7 @@ ghost use Rattle.listing.specs.Writing.{Wrote, Stored};
 
 // What a writer answers: the refusal number, 0 if the line fits, and the bytes written.
 pub struct Put {
-    pub number: u8,
+    pub refusal: u8,
     pub written: usize,
 }
 
@@ -135,13 +135,13 @@ fn end_line(tail: &mut [u8], buffer: &mut [u8], end: usize) -> Put
     let size = put_byte(buffer, end, NEWLINE);
     if tail.len() < size {
         return Put {
-            number: refusal::LISTING_LENGTH,
+            refusal: refusal::LISTING,
             written: 0,
         };
     }
     let written = put_text(tail, &buffer[..size]);
     Put {
-        number: refusal::ACCEPTED,
+        refusal: refusal::ACCEPTED,
         written,
     }
 }
@@ -173,11 +173,11 @@ pub fn put_header(tail: &mut [u8], n: u8) -> Put
 }
 
 // Writes the line that stands after the listing: the events accepted and the refusal number.
-pub fn put_footer(tail: &mut [u8], events: usize, number: u8) -> Put
-    ensures { λ r. ⌜ Wrote (footer events number) (now (tail .entry)) (now (tail .exit)) r ⌝ }
+pub fn put_footer(tail: &mut [u8], events: usize, refusal: u8) -> Put
+    ensures { λ r. ⌜ Wrote (footer events refusal) (now (tail .entry)) (now (tail .exit)) r ⌝ }
 {
     let mut buffer = [0u8; LINE];
     let after_events = put_word(&mut buffer, b"end", events);
-    let end = put_field(&mut buffer, after_events, SPACE, number as usize);
+    let end = put_field(&mut buffer, after_events, SPACE, refusal as usize);
     end_line(tail, &mut buffer, end)
 }

@@ -37,11 +37,11 @@ module _ (t : Table) (c : ℕ) where
     look-allowed f = rw (w, f) refl
 
   module _ (k : ℕ) (e : k ≡ firstNo (lookQuestions t c)) where
-    pub look-refused : k ≢ 0 → (x : Panel) → x ≡ noPanel → _≡_ {A = LookAnswer} (record { number = k; panel = x }) (look t c)
+    pub look-refused : k ≢ 0 → (x : Panel) → x ≡ noPanel → _≡_ {A = LookAnswer} (record { refusal = k; panel = x }) (look t c)
     unfolding look
     look-refused d x ex = rw (← e, ne-eqb k 0 d, ex) refl
 
-    pub look-shown : k ≡ 0 → (x : Panel) → x ≡ panelOf t c → _≡_ {A = LookAnswer} (record { number = k; panel = x }) (look t c)
+    pub look-shown : k ≡ 0 → (x : Panel) → x ≡ panelOf t c → _≡_ {A = LookAnswer} (record { refusal = k; panel = x }) (look t c)
     unfolding look
     look-shown z x ex = rw (← e, eq-eqb k 0 z, ex) refl
 
@@ -52,12 +52,12 @@ module _ (t : Table) (c : ℕ) where
         let w = facts t (q .0) in
         (q .1 .low, omega (arith, q .1 .high, w .few))
 
-    pub count-refused : k ≢ 0 → (a b : Name) → _≡_ {A = CountAnswer} (record { number = k; count = 0 }) (countBefore t c a b)
+    pub count-refused : k ≢ 0 → (a b : Name) → _≡_ {A = CountAnswer} (record { refusal = k; count = 0 }) (countBefore t c a b)
     unfolding countBefore
     count-refused d a b = rw (← e, ne-eqb k 0 d) refl
 
     pub count-given : k ≡ 0 → (a b : Name) (p q : Pending) (x : ℕ)
         → p ≡ pendingOf (messagesOf t) (at t c .pending) a → q ≡ pendingOf (messagesOf t) (at t c .pending) b
-        → x ≡ goesBefore (t .n) p q → _≡_ {A = CountAnswer} (record { number = k; count = x }) (countBefore t c a b)
+        → x ≡ goesBefore (t .n) p q → _≡_ {A = CountAnswer} (record { refusal = k; count = x }) (countBefore t c a b)
     unfolding countBefore
     count-given z a b p q x ep eq ex = rw (← e, eq-eqb k 0 z, ex, ep, eq) refl

@@ -26,15 +26,15 @@ fn look_refusal(t: Table, c: usize) -> u8
 pub fn look_at(t: Table, c: usize) -> LookAnswer
     ensures { λ r. ⌜ r ≡ look t c ⌝ }
 {
-    let number = look_refusal(t, c);
-    if number != 0 {
+    let refusal = look_refusal(t, c);
+    if refusal != 0 {
         return LookAnswer {
-            number,
+            refusal,
             panel: Panel::zero(),
         };
     }
     LookAnswer {
-        number,
+        refusal,
         panel: totals::panel(t, c),
     }
 }
@@ -43,9 +43,9 @@ pub fn look_at(t: Table, c: usize) -> LookAnswer
 pub fn count_before(t: Table, c: usize, first: Name, second: Name) -> CountAnswer
     ensures { λ r. ⌜ r ≡ countBefore t c first second ⌝ }
 {
-    let number = look_refusal(t, c);
-    if number != 0 {
-        return CountAnswer { number, count: 0 };
+    let refusal = look_refusal(t, c);
+    if refusal != 0 {
+        return CountAnswer { refusal, count: 0 };
     }
     let x = t.controllers[c - 1];
     let messages = t.messages;
@@ -53,7 +53,7 @@ pub fn count_before(t: Table, c: usize, first: Name, second: Name) -> CountAnswe
     let p = naming::pending_of(t.count, messages, pending, first);
     let q = naming::pending_of(t.count, messages, pending, second);
     CountAnswer {
-        number,
+        refusal,
         count: delivery::goes_before(t.n, p, q),
     }
 }

@@ -26,7 +26,7 @@ use Rattle.model.specs.declared.Command.the-variants.{Act, Read}
 use Rattle.model.specs.Facts.{Among}
 use Rattle.model.proofs.Tested.{named-at, named-of, all-named}
 
--- no no: the first answer was yes, and there is no no behind it
+-- no no: the first answer was yes, and no later answer is a no
 pub no-no : (k : ℕ) (b : Bool) (qs : List Question) → firstNo (ask (suc k) b ∷ qs) ≡ 0 → (b ≡ true) × (firstNo qs ≡ 0)
 unfolding firstNo
 no-no k true qs e = (refl, e)

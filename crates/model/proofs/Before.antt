@@ -117,14 +117,14 @@ module _ (t : Table) (c : ℕ) where
             (λ f l. omega (arith, w .few, ap (λ (m : ForwardNumber). m .0) (getD-replicate seats f (record { 0 = absent }) (record { 0 = 0 }) (omega (arith, w .few)))))
             (λ s l e f lf. least _ (w .controllers c h .marks s f l (and-left _ _ e) lf))
 
-    -- and before such a one a message that is pending there counts its marks
+    -- a message that is pending at c counts its marks before one that is not
     pub count-marks : (s : ℕ) → s < t .count → here (t .messages) (at t c .pending) a s ≡ true → ((u : ℕ) → u < t .count → here (t .messages) (at t c .pending) b u ≡ false)
         → countBefore t c a b .count ≡ markCount (t .n) (entry (at t c .pending) s)
     count-marks s l e none = answered w h a b ∙ ap₂ (goesBefore (t .n)) (pending-found t P a w s l e) (pending-none t P b none) ∙ before-unheld (t .n) (entry P s)
 
   -- ON EVERY TABLE
 
-  pub refusal-counts-none : (a b : Name) → countBefore t c a b .number ≢ 0 → countBefore t c a b .count ≡ 0
+  pub refusal-counts-none : (a b : Name) → countBefore t c a b .refusal ≢ 0 → countBefore t c a b .count ≡ 0
   unfolding countBefore
   refusal-counts-none a b d = cond-false _ 0 (ne-eqb _ 0 d)
 

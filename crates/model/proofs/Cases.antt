@@ -62,7 +62,7 @@ data Call : Type 0 where
 data Case : Type 0 where
   events : ℕ → ℕ → List (List ℕ) → Call → Case
   -- the count of "goes before" at each of n controllers, of one message and another and then of the other and the one: at the start and
-  -- behind each of the events
+  -- after each of the events
   counts : ℕ → List (List ℕ) → ℕ → ℕ → Case
   -- a look at controller 1 of two, in a fresh table but for its read position in its own log, which passes that log's end
   astray : Case
@@ -76,7 +76,7 @@ data Case : Type 0 where
 -- the number; the set of each accepted event, a message as 100 times its sender plus its number, or what is counted; what a look shows, or
 -- in its sums the answer's sums; whether an own sync is finished; and the lines of a run
 record Given : Type 0 where
-  number : ℕ
+  refusal : ℕ
   sets : List (List ℕ)
   shown : Panel
   finished : Bool
@@ -93,16 +93,16 @@ name x = record { sender = x / 100; number = messageNumber (x % 100) }
 
 -- the set of an accepted event; a refused one as 1000 plus its number
 abbrev setOf : EventAnswer → List ℕ
-setOf a = cond (eqb (a .number) 0) (map coded (a .names)) ((1000 + a .number) ∷ [])
+setOf a = cond (eqb (a .refusal) 0) (map coded (a .names)) ((1000 + a .refusal) ∷ [])
 
 called : Table → Call → Given
 called t (single s room) =
     let a = event t s room .answer in
-    record { number = a .number; sets = cond (eqb (a .number) 0) (map coded (a .names) ∷ []) []; shown = summed (a .sums); finished = a .finished; lines = [] }
-called t (panel c) = let a = look t c in record { number = a .number; sets = []; shown = a .panel; finished = false; lines = [] }
+    record { refusal = a .refusal; sets = cond (eqb (a .refusal) 0) (map coded (a .names) ∷ []) []; shown = summed (a .sums); finished = a .finished; lines = [] }
+called t (panel c) = let a = look t c in record { refusal = a .refusal; sets = []; shown = a .panel; finished = false; lines = [] }
 called t (before c x y) =
     let a = countBefore t c (name x) (name y) in
-    record { number = a .number; sets = (a .count ∷ []) ∷ []; shown = noPanel; finished = false; lines = [] }
+    record { refusal = a .refusal; sets = (a .count ∷ []) ∷ []; shown = noPanel; finished = false; lines = [] }
 
 -- both counts, at controllers 1 to c
 bothWays : Table → ℕ → ℕ → ℕ → List ℕ
@@ -118,28 +118,28 @@ played t [] c = called t c
 played t (r ∷ rs) c =
     let o = step t r 4096 in
     let g = played (o .table) rs c in
-    record { number = g .number; sets = setOf (o .answer) ∷ g .sets; shown = g .shown; finished = g .finished; lines = [] }
+    record { refusal = g .refusal; sets = setOf (o .answer) ∷ g .sets; shown = g .shown; finished = g .finished; lines = [] }
 
 given : Case → Given
 given (events v n rs c) = played (fresh v n) rs c
-given (counts n rs x y) = record { number = 0; sets = tracked (fresh 1 n) rs x y; shown = noPanel; finished = false; lines = [] }
+given (counts n rs x y) = record { refusal = 0; sets = tracked (fresh 1 n) rs x y; shown = noPanel; finished = false; lines = [] }
 given astray = let t = fresh 1 2 in called (withController t 1 (withRead (at t 1) 1)) (panel 1)
-given (request v n) = record { number = freshTable v n .number; sets = []; shown = noPanel; finished = false; lines = [] }
-given (file s) = record { number = fileRun s [] [] .answer .number; sets = []; shown = noPanel; finished = false; lines = [] }
+given (request v n) = record { refusal = freshTable v n .refusal; sets = []; shown = noPanel; finished = false; lines = [] }
+given (file s) = record { refusal = fileRun s [] [] .answer .refusal; sets = []; shown = noPanel; finished = false; lines = [] }
 given (run s room space) =
     let p = progress s room space in
-    record { number = p .number; sets = []; shown = noPanel; finished = false; lines = p .lines }
+    record { refusal = p .refusal; sets = []; shown = noPanel; finished = false; lines = p .lines }
 
 record Row : Type 0 where
   of : Case
   gives : Given
 
 abbrev row : Case → ℕ → List (List ℕ) → Row
-row c k ss = record { of = c; gives = record { number = k; sets = ss; shown = noPanel; finished = false; lines = [] } }
+row c k ss = record { of = c; gives = record { refusal = k; sets = ss; shown = noPanel; finished = false; lines = [] } }
 
 -- a run and its lines
 abbrev lists : List ℕ → ℕ → ℕ → ℕ → List ℕ → Row
-lists s room space k ls = record { of = run s room space; gives = record { number = k; sets = []; shown = noPanel; finished = false; lines = ls } }
+lists s room space k ls = record { of = run s room space; gives = record { refusal = k; sets = []; shown = noPanel; finished = false; lines = ls } }
 
 -- accepted events before a single event, and their sets
 abbrev case : ℕ → List (List ℕ) → List ℕ → ℕ → ℕ → List (List ℕ) → Row
@@ -158,13 +158,13 @@ both a w = record { added = a; withdrawn = w }
 
 -- a look shows the sums, and those of each class
 abbrev shows : ℕ → ℕ → List (List ℕ) → ℕ → List (List ℕ) → Sums → List Sums → Row
-shows v n rs c ss z zs = record { of = events v n rs (panel c); gives = record { number = 0; sets = ss; shown = record { sums = z; classes = zs; registers = noPanel .registers }; finished = false; lines = [] } }
+shows v n rs c ss z zs = record { of = events v n rs (panel c); gives = record { refusal = 0; sets = ss; shown = record { sums = z; classes = zs; registers = noPanel .registers }; finished = false; lines = [] } }
 
 -- a look shows these registers, and no sums
 abbrev holds : ℕ → ℕ → List (List ℕ) → ℕ → List (List ℕ) → List Register → Row
 holds v n rs c ss zs = record {
   of = events v n rs (panel c);
-  gives = record { number = 0; sets = ss; shown = record { sums = noSums; classes = noPanel .classes; registers = zs }; finished = false; lines = [] };
+  gives = record { refusal = 0; sets = ss; shown = record { sums = noSums; classes = noPanel .classes; registers = zs }; finished = false; lines = [] };
 }
 
 -- a value and its stamp
@@ -173,7 +173,7 @@ stamped x d c = record { value = x; stamp = record { date = d; writer = c } }
 
 -- an event whose answer has these sums, and whether it finishes an own sync
 abbrev sums : ℕ → ℕ → List (List ℕ) → List ℕ → List (List ℕ) → Bool → Sums → Row
-sums v n rs s ss f z = record { of = events v n rs (single s 4096); gives = record { number = 0; sets = ss; shown = summed z; finished = f; lines = [] } }
+sums v n rs s ss f z = record { of = events v n rs (single s 4096); gives = record { refusal = 0; sets = ss; shown = summed z; finished = f; lines = [] } }
 
 -- the run of RULES.md, section 19 (The worked run), but for its last record
 worked : List (List ℕ)

@@ -34,7 +34,7 @@ none-named t = no-names (t .count) t
 
 -- BYTES
 
--- a name whose numbers have at most so many digits and one
+-- a name whose sender has at most a + 1 digits, and whose number has at most b + 1
 pub record SmallName (a b : ℕ) (m : Name) : Type 0 where
   pub sender : m .sender < 10 ^ suc a
   pub number : m .number .0 < 10 ^ suc b

@@ -56,7 +56,7 @@ pending-sized p vs g = array-length forwardNumber.the-field seats (p .marks) _ (
 
 pub controller-sized : (c : Controller) (vs : List Val) → Is (controller.the-field .row) (controller.the-field .into c) vs → SizedController c
 controller-sized c vs g =
-    -- what is told of a field and of those behind it
+    -- what is told of a field and of the fields after it
     let log = g .1 .1 .1 in
     let read = log .1 in
     let buffer = read .1 in

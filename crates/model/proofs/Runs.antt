@@ -20,7 +20,7 @@ module _ (p : Progress) (s : List ℕ) (room space : ℕ) where
   -- the run with one event more
   abbrev pub gone : Progress
   gone = record {
-    number = 0;
+    refusal = 0;
     events = p .events + 1;
     lines = p .lines ++ lineAt p s room;
     table = step (p .table) s room .table;
@@ -28,20 +28,20 @@ module _ (p : Progress) (s : List ℕ) (room space : ℕ) where
 
   -- the run that its verdict ends
   abbrev pub ended : Progress
-  ended = record { number = verdict p s room space; events = p .events; lines = p .lines; table = p .table }
+  ended = record { refusal = verdict p s room space; events = p .events; lines = p .lines; table = p .table }
 
   -- where the verdict is 0 the record's event is accepted, and its line fits
-  pub verdict-passed : verdict p s room space ≡ 0 → (step (p .table) s room .answer .number ≡ 0) × (length (lineAt p s room) ≤ space - length (p .lines))
+  pub verdict-passed : verdict p s room space ≡ 0 → (step (p .table) s room .answer .refusal ≡ 0) × (length (lineAt p s room) ≤ space - length (p .lines))
   unfolding verdict
-  verdict-passed = line-asked (step (p .table) s room .answer .number) (length (lineAt p s room)) (space - length (p .lines))
+  verdict-passed = line-asked (step (p .table) s room .answer .refusal) (length (lineAt p s room)) (space - length (p .lines))
 
   pub advance-case : (P : Progress → Type 0) → (verdict p s room space ≡ 0 → P gone) → (verdict p s room space ≢ 0 → P ended) → P (advance p s room space)
   unfolding advance
   advance-case P f g =
       cond-case P (eqb (verdict p s room space) 0) gone ended (λ e. f (eqb-true _ 0 e)) (λ e. g (eqb-false _ 0 e))
 
-  pub advance-number : advance p s room space .number ≡ verdict p s room space
-  advance-number = advance-case (λ q. q .number ≡ verdict p s room space) (λ e. sym e) (λ _. refl)
+  pub advance-verdict : advance p s room space .refusal ≡ verdict p s room space
+  advance-verdict = advance-case (λ q. q .refusal ≡ verdict p s room space) (λ e. sym e) (λ _. refl)
 
   pub advance-gone : verdict p s room space ≡ 0 → advance p s room space ≡ gone
   advance-gone e = advance-case (λ q. q ≡ gone) (λ _. refl) (λ n. absurd (n e))
@@ -49,7 +49,7 @@ module _ (p : Progress) (s : List ℕ) (room space : ℕ) where
   pub advance-ended : verdict p s room space ≢ 0 → advance p s room space ≡ ended
   advance-ended n = advance-case (λ q. q ≡ ended) (λ e. absurd (n e)) (λ _. refl)
 
--- a run goes on behind an accepted record, and a refusal ends it
+-- a run goes on after an accepted record, and a refusal ends it
 pub records-on : (f : ℕ) (p : Progress) (b : ℕ) (s : List ℕ) (room space : ℕ) → verdict p (b ∷ s) room space ≡ 0
     → records (suc f) p (b ∷ s) room space ≡ records f (gone p (b ∷ s) room space) (behind (b ∷ s)) room space
 unfolding records
@@ -99,9 +99,9 @@ left-behind : (s : List ℕ) → drop (size s + 1) s ≡ behind s
 unfolding behind
 left-behind s = refl
 
--- What is left behind a record: what stands behind it, or nothing where it is refused. From there the run goes on as it was to go.
+-- What is left after a record: the bytes after it, or none where it is refused. From there the run goes on as it would have gone.
 pub records-turn : (p : Progress) (s : List ℕ) (room space : ℕ) → 0 < length s
-    → (l : List ℕ) → l ≡ drop (cond (eqb (advance p s room space .number) 0) (size s + 1) (length s)) s
+    → (l : List ℕ) → l ≡ drop (cond (eqb (advance p s room space .refusal) 0) (size s + 1) (length s)) s
     → records (length s) p s room space ≡ records (length l) (advance p s room space) l room space
 records-turn p [] room space h l e = absurd (omega arith)
 records-turn p (b ∷ s) room space h l e = go (decided (eqb (verdict p (b ∷ s) room space) 0))
@@ -122,5 +122,5 @@ records-turn p (b ∷ s) room space h l e = go (decided (eqb (verdict p (b ∷ s
 
     go : (eqb (verdict p (b ∷ s) room space) 0 ≡ true) ⊎ (eqb (verdict p (b ∷ s) room space) 0 ≡ false)
         → records (suc (length s)) p (b ∷ s) room space ≡ records (length l) (advance p (b ∷ s) room space) l room space
-    go (inl q) = went (eqb-true _ 0 q) (e ∙ rw (advance-number p (b ∷ s) room space, q) (left-behind (b ∷ s)))
-    go (inr q) = stayed (eqb-false _ 0 q) (e ∙ rw (advance-number p (b ∷ s) room space, q) (drop-length (b ∷ s)))
+    go (inl q) = went (eqb-true _ 0 q) (e ∙ rw (advance-verdict p (b ∷ s) room space, q) (left-behind (b ∷ s)))
+    go (inr q) = stayed (eqb-false _ 0 q) (e ∙ rw (advance-verdict p (b ∷ s) room space, q) (drop-length (b ∷ s)))

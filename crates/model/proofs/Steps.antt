@@ -30,10 +30,10 @@ unfolding answering
 answering-rest t (Act e) r = refl
 answering-rest t (Read c) r = refl
 
-pub answering-number : (t : Table) (a : Command) (r : List ℕ) → answering t a r .number ≡ 0
+pub answering-accepted : (t : Table) (a : Command) (r : List ℕ) → answering t a r .refusal ≡ 0
 unfolding answering
-answering-number t (Act e) r = refl
-answering-number t (Read c) r = refl
+answering-accepted t (Act e) r = refl
+answering-accepted t (Read c) r = refl
 
 module _ (t : Table) (s : List ℕ) (room : ℕ) where
   pub step-case : (P : Outcome → Type 0) → (firstNo (stepQuestions t s room) ≡ 0 → P (accepted t s))
@@ -41,9 +41,9 @@ module _ (t : Table) (s : List ℕ) (room : ℕ) where
   unfolding step
   step-case P f g = settled-case P t s (firstNo (stepQuestions t s room)) f g
 
-  pub step-number : step t s room .answer .number ≡ firstNo (stepQuestions t s room)
+  pub step-first-no : step t s room .answer .refusal ≡ firstNo (stepQuestions t s room)
   unfolding accepted refused
-  step-number = step-case (λ (o : Outcome). o .answer .number ≡ firstNo (stepQuestions t s room)) (λ e. answering-number t _ _ ∙ sym e) (λ _. refl)
+  step-first-no = step-case (λ (o : Outcome). o .answer .refusal ≡ firstNo (stepQuestions t s room)) (λ e. answering-accepted t _ _ ∙ sym e) (λ _. refl)
 
   pub step-is-accepted : firstNo (stepQuestions t s room) ≡ 0 → step t s room ≡ accepted t s
   step-is-accepted e = step-case (λ (o : Outcome). o ≡ accepted t s) (λ _. refl) (λ n. absurd (n e))
@@ -52,15 +52,15 @@ module _ (t : Table) (s : List ℕ) (room : ℕ) where
   step-is-refused n = step-case (λ (o : Outcome). o ≡ refused t s (firstNo (stepQuestions t s room))) (λ e. absurd (n e)) (λ _. refl)
 
   -- on a well-formed table the event call is a step
-  pub event-number-step : wellFormed t ≡ true → event t s room ≡ step t s room
+  pub event-is-step : wellFormed t ≡ true → event t s room ≡ step t s room
   unfolding event step firstNo lentTable
-  event-number-step w = rw w refl
+  event-is-step w = rw w refl
 
   -- AN ACCEPTED STEP
 
-  module _ (z : step t s room .answer .number ≡ 0) where
+  module _ (z : step t s room .answer .refusal ≡ 0) where
     pub accepted-asked : firstNo (stepQuestions t s room) ≡ 0
-    accepted-asked = sym step-number ∙ z
+    accepted-asked = sym step-first-no ∙ z
 
     pub accepted-table : step t s room .table ≡ resulting t (decode (t .version) s)
     unfolding accepted
@@ -84,13 +84,13 @@ module _ (t : Table) (s : List ℕ) (room : ℕ) where
     accepted-room = leb-true 4096 room (no-no 14 (leb 4096 room) [] (step-asked t s room accepted-asked .2) .0)
 
 -- so too of an event call
-pub event-shorter : (t : Table) (s : List ℕ) (room : ℕ) → event t s room .answer .number ≡ 0 → length (event t s room .answer .rest) < length s
+pub event-shorter : (t : Table) (s : List ℕ) (room : ℕ) → event t s room .answer .refusal ≡ 0 → length (event t s room .answer .rest) < length s
 unfolding event accepted refused lentTable
 event-shorter t s room =
-    settled-case (λ (o : Outcome). o .answer .number ≡ 0 → length (o .answer .rest) < length s) t s _
+    settled-case (λ (o : Outcome). o .answer .refusal ≡ 0 → length (o .answer .rest) < length s) t s _
     (λ e _.
     let a = no-no 3 (wellFormed t) (stepQuestions t s room) e .1 in
-    let z = step-number t s room ∙ a in
+    let z = step-first-no t s room ∙ a in
     rw (answering-rest t _ _, ← accepted-rest t s room z) (accepted-shorter t s room z))
     (λ n z. absurd (n z))
 

@@ -166,7 +166,7 @@ facts t e =
       version = and-left _ _ range;
       some = ltb-true 0 (t .n) (and-left (ltb 0 (t .n)) _ some-few);
       few = leb-true (t .n) seats (and-left _ _ few-counted);
-      counted = leb-true (t .count) capacity (and-right (leb (t .n) seats) _ few-counted);
+      fitting = leb-true (t .count) capacity (and-right (leb (t .n) seats) _ few-counted);
       names = λ i j hi hj p q.
           distinct-same (t .count) _ (and-left _ _ messages) i j hi hj (same-name (message t i) (message t j) p q) (same-name (message t j) (message t i) (sym p) (sym q));
       senders = λ s h. message-facts t (message t s) (each s h) .0;
@@ -189,7 +189,7 @@ facts t e =
 pub tested : (t : Table) → WellFormed t → wellFormed t ≡ true
 unfolding wellFormed inRange goodMessages goodMessage sameName goodWrites sameStamp keptWrite
 tested t w =
-    both (both (w .version) (both (lt-ltb 0 (t .n) (w .some)) (both (le-leb (t .n) seats (w .few)) (le-leb (t .count) capacity (w .counted)))))
+    both (both (w .version) (both (lt-ltb 0 (t .n) (w .some)) (both (le-leb (t .n) seats (w .few)) (le-leb (t .count) capacity (w .fitting)))))
     (both (both (distinct-of (t .count) _ (λ i j hi l. not-true (sameName (message t i) (message t j))
     (not-both-of (eqb (message t i .sender) (message t j .sender)) _ (λ p q.
     omega (arith, w .names i j hi (omega arith) (eqb-true _ _ p) (eqb-true _ _ q))))))

@@ -28,7 +28,7 @@ use Rattle.model.specs.declared.CountAnswer.{CountAnswer}
 -- receiver's own is in it, and then that sync's answer, the sums after the set, or the sums that a local read gives;
 -- the unread rest of the bytes.
 pub record EventAnswer : Type 0 where
-  pub number : ℕ
+  pub refusal : ℕ
   pub names : List Name
   pub finished : Bool
   pub sums : Sums
@@ -39,26 +39,26 @@ pub record Outcome : Type 0 where
   pub answer : EventAnswer
   pub table : Table
 
--- what is answered to a record that is accepted, with r behind it
+-- what is answered to a record that is accepted, with r after it
 unfoldable pub answering : Table → Command → List ℕ → EventAnswer
 answering t (Act e) r =
     let S = appliedBy t e in
     let f = finishes (messagesOf t) S (subject e) in
     let z = panelOf (next t e) (subject e) .sums in
-    record { number = 0; names = namesOf (messagesOf t) S; finished = f; sums = cond f z noSums; rest = r }
-answering t (Read c) r = record { number = 0; names = []; finished = false; sums = panelOf t c .sums; rest = r }
+    record { refusal = 0; names = namesOf (messagesOf t) S; finished = f; sums = cond f z noSums; rest = r }
+answering t (Read c) r = record { refusal = 0; names = []; finished = false; sums = panelOf t c .sums; rest = r }
 
 unfoldable pub accepted : Table → List ℕ → Outcome
 accepted t s = let a = decode (t .version) s in record { answer = answering t a (behind s); table = resulting t a }
 
 unfoldable pub refused : Table → List ℕ → ℕ → Outcome
-refused t s k = record { answer = record { number = k; names = []; finished = false; sums = noSums; rest = s }; table = t }
+refused t s k = record { answer = record { refusal = k; names = []; finished = false; sums = noSums; rest = s }; table = t }
 
 -- an event whose questions give k
 unfoldable pub settled : Table → List ℕ → ℕ → Outcome
 settled t s k = let a = accepted t s in cond (eqb k 0) a (refused t s k)
 
--- an event of a file run, whose own table is not put to question 4; the scratch area has so many bytes
+-- an event of a file run, whose own table is not put to question 4; the scratch area has `room` bytes
 unfoldable pub step : Table → List ℕ → ℕ → Outcome
 step t s room = settled t s (firstNo (stepQuestions t s room))
 
@@ -74,10 +74,10 @@ cleared s = over (λ i. 0) scratchSize s
 unfoldable pub scratchAfter : ℕ → List ℕ → List ℕ
 scratchAfter k s = cond (eqb k 0) (cleared s) s
 
--- the answer as the caller gets it: the names in the first of 64 places, zeros behind them
+-- the answer as the caller gets it: the names in the first of 64 places, zeros after them
 unfoldable pub answerOf : EventAnswer → Answer
 answerOf a = record {
-  number = a .number;
+  refusal = a .refusal;
   finished = cond (a .finished) 1 0;
   sums = a .sums;
   size = length (a .names);
@@ -89,14 +89,14 @@ answerOf a = record {
 unfoldable pub freshTable : ℕ → ℕ → FreshAnswer
 freshTable v n =
     let k = firstNo (freshQuestions v n) in
-    record { number = k; table = cond (eqb k 0) (fresh v n) zeroTable }
+    record { refusal = k; table = cond (eqb k 0) (fresh v n) zeroTable }
 
 -- THE PANEL LOOK: the local counter and the registers, also of a controller that has stopped or has messages of its own pending
 
 unfoldable pub look : Table → ℕ → LookAnswer
 look t c =
     let k = firstNo (lookQuestions t c) in
-    record { number = k; panel = cond (eqb k 0) (panelOf t c) noPanel }
+    record { refusal = k; panel = cond (eqb k 0) (panelOf t c) noPanel }
 
 -- HOW MANY PUT IT FIRST: the count of "goes before", of two messages that are pending at a controller, by their names
 
@@ -126,4 +126,4 @@ countBefore t c a b =
     let M = messagesOf t in
     let P = at t c .pending in
     let x = goesBefore (t .n) (pendingOf M P a) (pendingOf M P b) in
-    record { number = k; count = cond (eqb k 0) x 0 }
+    record { refusal = k; count = cond (eqb k 0) x 0 }

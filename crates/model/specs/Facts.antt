@@ -51,7 +51,7 @@ pub record WellFormed (t : Table) : Type 0 where
   pub version : known (t .version) ≡ true
   pub some : 0 < t .n
   pub few : t .n ≤ seats
-  pub counted : t .count ≤ capacity
+  pub fitting : t .count ≤ capacity
   -- "messages have distinct names, senders 1 to n, numbers 1 to 64, and reports have amounts as in question 9"
   pub names : (i j : ℕ) → i < t .count → j < t .count
       → message t i .sender ≡ message t j .sender → message t i .number .0 ≡ message t j .number .0 → i ≡ j

@@ -59,7 +59,7 @@ lentTable t = ask 4 (wellFormed t)
 unfoldable pub lookQuestions : Table → ℕ → List Question
 lookQuestions t c = lentTable t ∷ ask 8 (named (t .n) c) ∷ []
 
--- questions 6 and 7, in version v, of a record of this kind with so many bytes behind its length byte
+-- questions 6 and 7, in version v, of a record of kind k with n bytes after its length byte
 unfoldable pub kindQuestions : ℕ → ℕ → ℕ → List Question
 kindQuestions v n k = ask 6 (ltb 0 n && (ltb 0 k && leb k 6)) ∷ ask 7 (eqb n (sizeOf v k)) ∷ []
 
@@ -131,7 +131,7 @@ unfoldable pub commandQuestions : Table → Command → List Question
 commandQuestions t (Act e) = eventQuestions t e
 commandQuestions t (Read c) = readQuestions (t .n) (messagesOf t) (at t c) c
 
--- question 15, of a scratch area of so many bytes
+-- question 15, of a scratch area of `room` bytes
 unfoldable pub scratchRoom : ℕ → Question
 scratchRoom room = ask 15 (leb scratchSize room)
 
@@ -139,6 +139,6 @@ scratchRoom room = ask 15 (leb scratchSize room)
 unfoldable pub stepQuestions : Table → List ℕ → ℕ → List Question
 stepQuestions t s room = recordQuestions (t .version) s ++ (commandQuestions t (decode (t .version) s) ++ (scratchRoom room ∷ []))
 
--- question 16: a line of so many bytes fits in what is left of the listing
+-- question 16: a line of `line` bytes fits in the `left` bytes of the listing that are left
 unfoldable pub lineFits : ℕ → ℕ → Question
 lineFits line left = ask 16 (leb line left)

@@ -14,7 +14,7 @@ use Rattle.model.specs.declared.Command.the-variants.{Act, Read}
 abbrev pub byte : List ℕ → ℕ → ℕ
 byte s i = getD s i 0
 
--- the length byte of the first record, and what is behind that record
+-- the length byte of the first record, and what stands after that record
 abbrev pub size : List ℕ → ℕ
 size s = byte s 0
 

@@ -49,7 +49,7 @@ lineOf e c z (m ∷ ms) = line e c z (m ∷ ms)
 
 -- what a run has done: the refusal number, the events accepted, its lines, its table
 pub record Progress : Type 0 where
-  pub number : ℕ
+  pub refusal : ℕ
   pub events : ℕ
   pub lines : List ℕ
   pub table : Table
@@ -64,7 +64,7 @@ lineAt p s room =
 -- its refusal number, question 16 put last
 unfoldable pub verdict : Progress → List ℕ → ℕ → ℕ → ℕ
 verdict p s room space =
-    let k = step (p .table) s room .answer .number in
+    let k = step (p .table) s room .answer .refusal in
     let line = lineFits (length (lineAt p s room)) (space - length (p .lines)) in
     firstNo (ask k (eqb k 0) ∷ line ∷ [])
 
@@ -72,8 +72,8 @@ verdict p s room space =
 unfoldable pub advance : Progress → List ℕ → ℕ → ℕ → Progress
 advance p s room space =
     let k = verdict p s room space in
-    let on : Progress = record { number = 0; events = p .events + 1; lines = p .lines ++ lineAt p s room; table = step (p .table) s room .table } in
-    cond (eqb k 0) on (record { number = k; events = p .events; lines = p .lines; table = p .table })
+    let on : Progress = record { refusal = 0; events = p .events + 1; lines = p .lines ++ lineAt p s room; table = step (p .table) s room .table } in
+    cond (eqb k 0) on (record { refusal = k; events = p .events; lines = p .lines; table = p .table })
 
 -- THE RUN
 
@@ -84,10 +84,10 @@ records (suc f) p [] room space = p
 records (suc f) p (b ∷ s) room space =
     let q = advance p (b ∷ s) room space in
     let on = records f q (behind (b ∷ s)) room space in
-    cond (eqb (q .number) 0) on q
+    cond (eqb (q .refusal) 0) on q
 
 unfoldable pub begun : ℕ → ℕ → Progress
-begun v n = record { number = 0; events = 0; lines = []; table = fresh v n }
+begun v n = record { refusal = 0; events = 0; lines = []; table = fresh v n }
 
 -- the records of a whole file, of which there are fewer than bytes
 unfoldable pub progress : List ℕ → ℕ → ℕ → Progress
@@ -101,7 +101,7 @@ pub record RunOutcome : Type 0 where
 
 unfoldable pub ran : Progress → List ℕ → List ℕ → RunOutcome
 ran p listing scratch = record {
-  answer = record { number = p .number; events = p .events; written = length (p .lines); table = p .table };
+  answer = record { refusal = p .refusal; events = p .events; written = length (p .lines); table = p .table };
   listing = overlay (p .lines) listing;
   scratch = cond (eqb (p .events) 0) scratch (cleared scratch);
 }
@@ -111,7 +111,7 @@ fileRun s listing scratch =
     let k = firstNo (fileQuestions s) in
     let on = ran (progress s (length scratch) (length listing)) listing scratch in
     cond (eqb k 0) on
-    (record { answer = record { number = k; events = 0; written = 0; table = zeroTable }; listing = listing; scratch = scratch })
+    (record { answer = record { refusal = k; events = 0; written = 0; table = zeroTable }; listing = listing; scratch = scratch })
 
 -- the lines that the program writes before and after the listing
 unfoldable pub header : ℕ → List ℕ

@@ -254,10 +254,10 @@ impl Table {
     }
 
     // The table that a run begins with: fresh, or zero in every field where its file is refused.
-    pub fn opened(number: u8, version: usize, n: usize) -> Table
-        ensures { λ r. ⌜ r ≡ cond (eqb number 0) (fresh version n) zeroTable ⌝ }
+    pub fn opened(refusal: u8, version: usize, n: usize) -> Table
+        ensures { λ r. ⌜ r ≡ cond (eqb refusal 0) (fresh version n) zeroTable ⌝ }
     {
-        if number != 0 {
+        if refusal != 0 {
             return Table::start(0, 0, 0, 0);
         }
         Table::start(version, n, 1, ForwardNumber::ABSENT)

@@ -71,7 +71,7 @@ pub struct Controller {
 }
 
 // The whole machine: the version that its records are read in, how many controllers and messages there are, the messages in
-// the order sent, the controllers. No field of a table, or of what stands in it, has padding before or behind it.
+// the order sent, the controllers. No field of a table, or of what stands in it, has padding before or after it.
 #[repr(C)]
 pub struct Table {
     pub version: usize,
@@ -113,10 +113,10 @@ pub struct Panel {
 
 // What the single-event call answers: the refusal number, 0 if accepted; whether a sync of the receiver's own is in the
 // set applied, and then its answer, the sums after the set; or the sums that a local read gives; how many messages are in
-// the set, and their names, zeros behind them.
+// the set, and their names, zeros after them.
 #[repr(C)]
 pub struct Answer {
-    pub number: u8,
+    pub refusal: u8,
     pub finished: u8,
     pub sums: Sums,
     pub size: usize,
@@ -126,28 +126,28 @@ pub struct Answer {
 // What a request for a fresh table answers.
 #[repr(C)]
 pub struct FreshAnswer {
-    pub number: u8,
+    pub refusal: u8,
     pub table: Table,
 }
 
 // What a panel look answers.
 #[repr(C)]
 pub struct LookAnswer {
-    pub number: u8,
+    pub refusal: u8,
     pub panel: Panel,
 }
 
 // What the count of "goes before" answers: how many controllers have a smaller forward number for the one message than for the other.
 #[repr(C)]
 pub struct CountAnswer {
-    pub number: u8,
+    pub refusal: u8,
     pub count: usize,
 }
 
 // What a file run answers: the refusal number, the events accepted, the listing bytes written and the last table.
 #[repr(C)]
 pub struct RunAnswer {
-    pub number: u8,
+    pub refusal: u8,
     pub events: usize,
     pub written: usize,
     pub table: Table,

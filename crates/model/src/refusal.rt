@@ -10,7 +10,7 @@ pub const FILE_LENGTH: u8 = 1;
 pub const VERSION: u8 = 2;
 
 // Is the number of controllers from 1 to 7?
-pub const COUNT: u8 = 3;
+pub const CONTROLLER_COUNT: u8 = 3;
 
 // Is the table well formed?
 pub const TABLE: u8 = 4;
@@ -22,7 +22,7 @@ pub const RECORD: u8 = 5;
 pub const KIND: u8 = 6;
 
 // Is the length that of the kind?
-pub const LENGTH: u8 = 7;
+pub const RECORD_LENGTH: u8 = 7;
 
 // Is every controller named from 1 to n?
 pub const CONTROLLER: u8 = 8;
@@ -46,10 +46,10 @@ pub const NO_ENTRY: u8 = 13;
 pub const KEPT: u8 = 14;
 
 // Has the scratch area 4,096 bytes or more?
-pub const SCRATCH_LENGTH: u8 = 15;
+pub const SCRATCH: u8 = 15;
 
 // Does the line fit in what is left of the listing?
-pub const LISTING_LENGTH: u8 = 16;
+pub const LISTING: u8 = 16;
 
 // Is the class of a report of version 2 from 1 to 4?
 pub const CLASS: u8 = 17;

@@ -105,7 +105,7 @@ unfolding records
 records-n zero p s room space = refl
 records-n (suc f) p [] room space = refl
 records-n (suc f) p (b ∷ s) room space =
-    advance-case p (b ∷ s) room space (λ q. cond (eqb (q .number) 0) (records f q (behind (b ∷ s)) room space) q .table .n ≡ p .table .n)
+    advance-case p (b ∷ s) room space (λ q. cond (eqb (q .refusal) 0) (records f q (behind (b ∷ s)) room space) q .table .n ≡ p .table .n)
     (λ _. records-n f (gone p (b ∷ s) room space) (behind (b ∷ s)) room space ∙ step-n (p .table) (b ∷ s) room)
     (λ d. rw (ne-eqb (verdict p (b ∷ s) room space) 0 d))
 
@@ -123,14 +123,14 @@ abbrev lent : List ℕ → Progress
 lent s = progress s scratchSize listingSize
 
 -- no file fills the listing: question 16 refuses no record of it
-pub never-16 : (s : List ℕ) → firstNo (fileQuestions s) ≡ 0 → lent s .number ≢ 16
+pub never-16 : (s : List ℕ) → firstNo (fileQuestions s) ≡ 0 → lent s .refusal ≢ 16
 never-16 s e = listing-fits s scratchSize listingSize e (omega arith) .0
 
 -- a file that questions 1 to 3 refuse, and any other
 pub record Refused (s : List ℕ) (r : RunAnswer) : Type 0 where
   pub asked : firstNo (fileQuestions s) ≢ 0
   pub events : r .events ≡ 0
-  pub number : r .number ≡ firstNo (fileQuestions s)
+  pub refusal : r .refusal ≡ firstNo (fileQuestions s)
 
 pub record Passed (s : List ℕ) (r : RunAnswer) : Type 0 where
   pub asked : firstNo (fileQuestions s) ≡ 0
@@ -143,14 +143,14 @@ module _ (s l w : List ℕ) (r : RunAnswer) (e : r ≡ fileRun s l w .answer) wh
   unfolding ran
   passed-n z = ap (λ (a : RunAnswer). a .table .n) e ∙ ap (λ (o : RunOutcome). o .answer .table .n) (file-run-ran s l w z) ∙ progress-n s (length w) (length l)
 
-  refused-answer : firstNo (fileQuestions s) ≢ 0 → r ≡ record { number = firstNo (fileQuestions s); events = 0; written = 0; table = zeroTable }
+  refused-answer : firstNo (fileQuestions s) ≢ 0 → r ≡ record { refusal = firstNo (fileQuestions s); events = 0; written = 0; table = zeroTable }
   unfolding fileRun
   refused-answer d = e ∙ ap (λ (o : RunOutcome). o .answer) (cond-false _ _ (ne-eqb (firstNo (fileQuestions s)) 0 d))
 
   pub none-refused : r .table .n ≡ 0 → Refused s r
   none-refused z =
       let d : firstNo (fileQuestions s) ≢ 0 = λ q. omega (arith, passed-n q, file-allowed s q .fresh .some) in
-      record { asked = d; events = ap (λ (a : RunAnswer). a .events) (refused-answer d); number = ap (λ (a : RunAnswer). a .number) (refused-answer d) }
+      record { asked = d; events = ap (λ (a : RunAnswer). a .events) (refused-answer d); refusal = ap (λ (a : RunAnswer). a .refusal) (refused-answer d) }
 
   pub some-passed : r .table .n ≢ 0 → Passed s r
   unfolding zeroTable start
@@ -166,7 +166,7 @@ pub record Holds (x s l t : List ℕ) (r : RunAnswer) : Type 0 where
   pub short : r .written ≤ listingSize
   pub size : length t ≡ textSize
   pub events : r .events ≡ lent s .events
-  pub number : r .number ≡ lent s .number
+  pub refusal : r .refusal ≡ lent s .refusal
 
 -- the lines stand after the place of the header line
 pub has-lines : (s l w m : List ℕ) (j : ℕ) (r : RunAnswer) → firstNo (fileQuestions s) ≡ 0 → length l ≡ textSize → length w ≡ scratchSize → j ≡ listingSize
@@ -186,7 +186,7 @@ has-lines s l w m j r z ll lw ej er em same =
       short = omega arith;
       size = same-len-mid headerSize j l m same ∙ ll;
       events = ap (λ (a : RunAnswer). a .events) answer;
-      number = ap (λ (a : RunAnswer). a .number) answer;
+      refusal = ap (λ (a : RunAnswer). a .refusal) answer;
     }
 
 -- the header line takes that place
@@ -202,7 +202,7 @@ has-header s l t u r q ll p h w =
       short = h .short;
       size = ap length (front .text) ∙ length-overlay x t (omega (arith, h .size)) ∙ h .size;
       events = h .events;
-      number = h .number;
+      refusal = h .refusal;
     }
 
 -- with the end line after them, which has q's bytes
@@ -210,14 +210,14 @@ pub record HasEnd (s t : List ℕ) (k : ℕ) (q : Put) : Type 0 where
   pub short : q .written ≤ footerSize
   pub text : take (k + q .written) t ≡ printed s
 
-pub has-end : (s l t v : List ℕ) (r : RunAnswer) (q : Put) → firstNo (fileQuestions s) ≡ 0 → r .events < 2 ^ 64 → r .number < 256 → Holds (header (byte s 1)) s l t r
+pub has-end : (s l t v : List ℕ) (r : RunAnswer) (q : Put) → firstNo (fileQuestions s) ≡ 0 → r .events < 2 ^ 64 → r .refusal < 256 → Holds (header (byte s 1)) s l t r
     → let k = headerSize + r .written in
-    Wrote (footer (r .events) (r .number)) (midOf k (length t - k) t) v q
+    Wrote (footer (r .events) (r .refusal)) (midOf k (length t - k) t) v q
     → HasEnd s (putMid k (length t - k) t v) k q
 unfolding printed
 has-end s l t v r q z be bn h w =
-    let x = footer (r .events) (r .number) in
-    let bound = footer-bound (r .events) (r .number) be bn in
+    let x = footer (r .events) (r .refusal) in
+    let bound = footer-bound (r .events) (r .refusal) be bn in
     let k = headerSize + r .written in
     let j = length t - k in
     let p = laid-line (omega (arith, length-take j (drop k t), length-drop k t, h .short, h .size)) w in
@@ -226,13 +226,13 @@ has-end s l t v r q z be bn h w =
       short = omega (arith, p .end);
       text = ap (λ (i : ℕ). take (k + i) (putMid k j t v)) (p .end) ∙ laid-read whole
           ∙ append-assoc (header (byte s 1)) (lent s .lines) x
-          ∙ rw (h .events, h .number) (sym (cond-true _ _ (eq-eqb (firstNo (fileQuestions s)) 0 z)));
+          ∙ rw (h .events, h .refusal) (sym (cond-true _ _ (eq-eqb (firstNo (fileQuestions s)) 0 z)));
     }
 
 -- of a file that was refused, the end line alone
-pub only-end : (s t u : List ℕ) (r : RunAnswer) (q : Put) → length t ≡ textSize → r .events < 2 ^ 64 → r .number < 256 → Refused s r
-    → Wrote (footer (r .events) (r .number)) t u q → take (q .written) u ≡ printed s
+pub only-end : (s t u : List ℕ) (r : RunAnswer) (q : Put) → length t ≡ textSize → r .events < 2 ^ 64 → r .refusal < 256 → Refused s r
+    → Wrote (footer (r .events) (r .refusal)) t u q → take (q .written) u ≡ printed s
 unfolding printed
 only-end s t u r q lt be bn d w =
-    laid-read (laid-line (omega (arith, footer-bound (r .events) (r .number) be bn)) w)
-    ∙ rw (d .events, d .number) (sym (cond-false _ _ (ne-eqb (firstNo (fileQuestions s)) 0 (d .asked))))
+    laid-read (laid-line (omega (arith, footer-bound (r .events) (r .refusal) be bn)) w)
+    ∙ rw (d .events, d .refusal) (sym (cond-false _ _ (ne-eqb (firstNo (fileQuestions s)) 0 (d .asked))))

@@ -27,5 +27,5 @@ unfoldable pub printed : List ℕ → List ℕ
 printed s =
     let k = firstNo (fileQuestions s) in
     let p = progress s scratchSize listingSize in
-    let whole = header (byte s 1) ++ (p .lines ++ footer (p .events) (p .number)) in
+    let whole = header (byte s 1) ++ (p .lines ++ footer (p .events) (p .refusal)) in
     cond (eqb k 0) whole (footer 0 k)

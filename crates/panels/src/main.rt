@@ -35,12 +35,12 @@ fn report(file: &[u8], text: &mut [u8], scratch: &mut [u8]) -> usize
     let run = files::run(file, &mut text[HEADER..HEADER + LISTING], scratch);
     let n = run.table.n;
     if n == 0 {
-        let only = listing::put_footer(text, run.events, run.number);
+        let only = listing::put_footer(text, run.events, run.refusal);
         return only.written;
     }
     listing::put_header(text, n as u8);
     let end = HEADER + run.written;
-    let tail = listing::put_footer(&mut text[end..], run.events, run.number);
+    let tail = listing::put_footer(&mut text[end..], run.events, run.refusal);
     end + tail.written
 }
 

@@ -176,9 +176,9 @@ fn send_refusal(
     if !named(n, sender) {
         return refusal::CONTROLLER;
     }
-    let number = payload_refusal(version, payload);
-    if number != 0 {
-        return number;
+    let refusal = payload_refusal(version, payload);
+    if refusal != 0 {
+        return refusal;
     }
     let i = numbers::predecessor(sender as usize);
     if Table::CONTROLLERS <= i {

@@ -34,19 +34,19 @@ pub whole-of : (s : List ℕ) (c : Cut) (k : ℕ) → found c ≡ cut s → c �
 unfolding whole cut found firstNo
 whole-of s c k e q = go (whole s) refl (rw q at e)
   where
-    go : (b : Bool) → whole s ≡ b → found (Whole k) ≡ record { number = cond b 0 5; size = cond b (size s) 0 } → IsWhole s k
+    go : (b : Bool) → whole s ≡ b → found (Whole k) ≡ record { refusal = cond b 0 5; size = cond b (size s) 0 } → IsWhole s k
     go true w r =
         let n : k ≡ size s = ap (λ (f : Found). f .size) r in
         record { test = w; size-is = n; inside = omega (arith, ltb-true (size s) (length s) w) }
-    go false w r = let z : _≡_ {A = ℕ} 0 5 = ap (λ (f : Found). f .number) r in absurd (omega arith)
+    go false w r = let z : _≡_ {A = ℕ} 0 5 = ap (λ (f : Found). f .refusal) r in absurd (omega arith)
 
 -- what the answer Short tells
 pub short-of : (s : List ℕ) (c : Cut) → found c ≡ cut s → c ≡ Short → whole s ≡ false
 unfolding cut found firstNo
 short-of s c e q = go (whole s) refl (rw q at e)
   where
-    go : (b : Bool) → whole s ≡ b → found Short ≡ record { number = cond b 0 5; size = cond b (size s) 0 } → whole s ≡ false
-    go true w r = let z : _≡_ {A = ℕ} 5 0 = ap (λ (f : Found). f .number) r in absurd (omega arith)
+    go : (b : Bool) → whole s ≡ b → found Short ≡ record { refusal = cond b 0 5; size = cond b (size s) 0 } → whole s ≡ false
+    go true w r = let z : _≡_ {A = ℕ} 5 0 = ap (λ (f : Found). f .refusal) r in absurd (omega arith)
     go false w r = w
 
 -- THE PART FROM A PLACE ON, as the code cuts it

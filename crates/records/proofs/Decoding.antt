@@ -60,12 +60,12 @@ kind-left v s n k w e = rw (w .test, ← w .size-is, ← e)
 -- THE RECORD
 
 pub record-refused : (v : ℕ) (s : List ℕ) (k : ℕ) (a : Command) → k ≡ firstNo (recordQuestions v s) → k ≢ 0 → a ≡ decode v s
-    → record { number = k; used = 0; command = a } ≡ recordOf v s
+    → record { refusal = k; used = 0; command = a } ≡ recordOf v s
 unfolding recordOf
 record-refused v s k a q n d = rw (← q, ne-eqb k 0 n, d)
 
 pub record-read : (v : ℕ) (s : List ℕ) (k n : ℕ) (a : Command) → k ≡ firstNo (recordQuestions v s) → k ≡ 0 → n ≡ size s → a ≡ decode v s
-    → record { number = k; used = n + 1; command = a } ≡ recordOf v s
+    → record { refusal = k; used = n + 1; command = a } ≡ recordOf v s
 unfolding recordOf
 record-read v s k n a q z m d = rw (← q, eq-eqb k 0 z, m, d)
 

@@ -17,16 +17,16 @@ whole s = ltb (size s) (length s)
 
 -- what the cutter finds: the number of question 5, or 0, and how many bytes follow the length byte, 0 if refused
 pub record Found : Type 0 where
-  pub number : ℕ
+  pub refusal : ℕ
   pub size : ℕ
 
 unfoldable pub cut : List ℕ → Found
-cut s = record { number = firstNo (ask 5 (whole s) ∷ []); size = cond (whole s) (size s) 0 }
+cut s = record { refusal = firstNo (ask 5 (whole s) ∷ []); size = cond (whole s) (size s) 0 }
 
 -- the same as each case of the cutter's answer gives it
 unfoldable pub found : Cut → Found
-found (Whole k) = record { number = 0; size = k }
-found Short = record { number = 5; size = 0 }
+found (Whole k) = record { refusal = 0; size = k }
+found Short = record { refusal = 5; size = 0 }
 
 -- the last kind, and the bytes of the longest record, a write
 abbrev pub lastKind : ℕ
@@ -43,4 +43,4 @@ hasKind n k = ltb 0 n && (ltb 0 k && leb k lastKind)
 unfoldable pub recordOf : ℕ → List ℕ → Record
 recordOf v s =
     let k = firstNo (recordQuestions v s) in
-    record { number = k; used = cond (eqb k 0) (size s + 1) 0; command = decode v s }
+    record { refusal = k; used = cond (eqb k 0) (size s + 1) 0; command = decode v s }

@@ -20,7 +20,7 @@ enum Cut {
 // A record that was read: the first no of questions 5 to 7, 0 if there is none; how many bytes it takes, 0 if refused; and
 // what it asks for.
 pub struct Record {
-    pub number: u8,
+    pub refusal: u8,
     pub used: usize,
     pub command: Command,
 }
@@ -105,7 +105,7 @@ fn kind_refusal(version: usize, size: usize, kind: u8) -> u8
     if size == due {
         refusal::ACCEPTED
     } else {
-        refusal::LENGTH
+        refusal::RECORD_LENGTH
     }
 }
 
@@ -200,21 +200,21 @@ pub fn read_record(version: usize, bytes: &[u8]) -> Record
     let command = decode_record(version, bytes);
     let Cut::Whole(size) = cut_record(bytes) else {
         return Record {
-            number: refusal::RECORD,
+            refusal: refusal::RECORD,
             used: 0,
             command,
         };
     };
-    let number = kind_refusal(version, size, byte_at(bytes, 1));
-    if number != 0 {
+    let refusal = kind_refusal(version, size, byte_at(bytes, 1));
+    if refusal != 0 {
         return Record {
-            number,
+            refusal,
             used: 0,
             command,
         };
     }
     Record {
-        number,
+        refusal,
         used: size + 1,
         command,
     }

@@ -7,7 +7,7 @@ use borrow.Author.Needs.{needs}
 use Rattle.effects.proofs.carry_out.Statement.{statement}
 use Rattle.effects.proofs.carry_out.Tie as tie
 
--- PLACES: from behind each event's end to its kind
+-- PLACES: from after each event's end to its kind
 abbrev sent : tie.After-quiet → tie.After-buffered
 sent c = c .before .before
 

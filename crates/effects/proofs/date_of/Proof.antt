@@ -10,7 +10,7 @@ use borrow.Author.Needs.{needs}
 use Rattle.effects.proofs.date_of.Statement.{statement}
 use Rattle.effects.proofs.date_of.Tie as tie
 
--- PLACES: from behind the date to the registers, and from there to the test of the kind
+-- PLACES: from after the date to the registers, and from there to the test of the kind
 abbrev read : tie.After-at-most2 → tie.After-registers
 read c = c .before .before .before
 

@@ -5,7 +5,7 @@ use borrow.Author.Needs.{needs}
 use Rattle.effects.proofs.forwarded.Statement.{statement}
 use Rattle.effects.proofs.forwarded.Tie as tie
 
--- PLACES: from behind the buffer's entry to the first test's other arm, and from there to the sender's index
+-- PLACES: from after the buffer's entry to the first test's other arm, and from there to the sender's index
 abbrev above : tie.After-struct-known3 → tie.Else1
 above c = c .before .before
 

@@ -7,7 +7,7 @@ use borrow.Author.Needs.{needs}
 use Rattle.effects.proofs.received.Statement.{statement}
 use Rattle.effects.proofs.received.Tie as tie
 
--- PLACES: from behind the slot to the place that is read, and from there to the owner's index
+-- PLACES: from after the slot to the place that is read, and from there to the owner's index
 abbrev placed : tie.After-at-most2 → tie.After-at-most
 placed c = c .before .before
 

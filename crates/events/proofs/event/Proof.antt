@@ -23,7 +23,7 @@ use borrow.Author.Needs.{needs}
 use Rattle.events.proofs.event.Statement.{statement}
 use Rattle.events.proofs.event.Tie as tie
 
--- PLACES: from behind the controller to the effect, the controllers read, the command, the questions, the record and the start
+-- PLACES: from after the controller to the effect, the controllers read, the command, the questions, the record and the start
 abbrev carried : tie.After-controller → tie.After-carry-out
 carried c = c .before .before .before .before
 
@@ -33,7 +33,7 @@ both c = c .before .before .before .before
 abbrev commanded : tie.After-carry-out → tie.After-command
 commanded c = both c .before .before
 
--- and of a local read, from behind its answer
+-- and of a local read, from after its answer
 abbrev read : tie.After-read-answer → tie.After-command2
 read c = c .before .before .before
 
@@ -54,14 +54,14 @@ formed : (c : tie.After-read-record) → wellFormed (start c .args .t) ≡ true
 formed c = let e = c .before in sym (e .before .well-formed .ensures) ∙ not-false _ (e .if1 .left)
 
 -- the number is the first no, and past it the event is allowed
-number-is : (c : tie.After-step-refusal) → c .step-refusal .result ≡ firstNo (stepQuestions (start (c .before) .args .t) (bytes (c .before)) (room (c .before)))
-number-is c =
+first-no-is : (c : tie.After-step-refusal) → c .step-refusal .result ≡ firstNo (stepQuestions (start (c .before) .args .t) (bytes (c .before)) (room (c .before)))
+first-no-is c =
     c .step-refusal .ensures
     ∙ (ap (λ (r : Record). refusalOf (start (c .before) .args .t) r (room (c .before))) (c .before .read-record .ensures)
     ∙ refusal-is (start (c .before) .args .t) (bytes (c .before)) (room (c .before)))
 
 passed : (c : tie.Else2) → firstNo (stepQuestions (start (reader c) .args .t) (bytes (reader c)) (room (reader c))) ≡ 0
-passed c = sym (number-is (c .before)) ∙ c .if2 .left
+passed c = sym (first-no-is (c .before)) ∙ c .if2 .left
 
 roomy : (c : tie.Else2) → scratchSize ≤ room (reader c)
 roomy c = enough _ _ _ (formed (reader c)) (passed c)
@@ -97,7 +97,7 @@ refused-requires-2 c κs = search needs
 returns-2 : tie.Need-returns-2
 returns-2 c =
     let n = c .before .before in
-    event-stepped _ _ _ _ _ (formed (n .before)) (step-refused _ _ _ _ (number-is n) (c .before .if2 .taken) _ (c .refused2 .ensures))
+    event-stepped _ _ _ _ _ (formed (n .before)) (step-refused _ _ _ _ (first-no-is n) (c .before .if2 .taken) _ (c .refused2 .ensures))
 
 enum-known-command : tie.Need-enum-known-command
 enum-known-command c = search needs

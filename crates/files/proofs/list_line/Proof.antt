@@ -11,7 +11,7 @@ use borrow.Author.Needs.{needs}
 use Rattle.files.proofs.list_line.Statement.{statement}
 use Rattle.files.proofs.list_line.Tie as tie
 
--- PLACES: from behind the line to the sums, the subject, the test of the set and the start
+-- PLACES: from after the line to the sums, the subject, the test of the set and the start
 abbrev summed : tie.After-slice-known2 → tie.After-listed-sums
 summed c = c .before .before .before
 

@@ -34,7 +34,7 @@ Inv-loop bytes listing₀ scratch₀ table₀ left₀ cursor₀ listing scratch 
 abbrev μ-loop : tie.MeasureT-loop
 μ-loop bytes listing₀ scratch₀ table₀ left₀ cursor₀ listing scratch table left cursor = length left
 
--- PLACES: from behind the message to the event, the subject stored, the command, the verdict, the bytes left and the turn
+-- PLACES: from after the message to the event, the subject stored, the command, the verdict, the bytes left and the turn
 abbrev kind : tie.After-sent-message Inv-loop μ-loop → tie.After-e Inv-loop μ-loop
 kind c = c .before .before .before
 

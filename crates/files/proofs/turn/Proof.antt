@@ -22,7 +22,7 @@ use borrow.Author.Needs.{needs}
 use Rattle.files.proofs.turn.Statement.{statement}
 use Rattle.files.proofs.turn.Tie as tie
 
--- PLACES: from behind the listing to the line, the effect, the command, the questions and the start
+-- PLACES: from after the listing to the line, the effect, the command, the questions and the start
 abbrev line : tie.After-slice-known5 → tie.After-list-line
 line c = c .before .before
 
@@ -50,7 +50,7 @@ bytes s = now (s .args .left)
 abbrev room : tie.Start → ℕ
 room s = length (now (s .args .scratch))
 
--- and of a local read, from behind the cleared scratch area to the questions
+-- and of a local read, from after the cleared scratch area to the questions
 abbrev told : tie.After-quiet → tie.After-enum-told
 told c = c .before .before
 
@@ -67,13 +67,13 @@ record-is s = s .pre .1 .record-is
 command-is : (s : tie.Start) → s .args .found .command ≡ decode (s .args .t .version) (bytes s)
 command-is s = command-read _ _ _ (record-is s)
 
-number-is : (c : tie.After-step-refusal) → let s = start c in c .step-refusal .result ≡ firstNo (stepQuestions (s .args .t) (bytes s) (room s))
-number-is c =
+first-no-is : (c : tie.After-step-refusal) → let s = start c in c .step-refusal .result ≡ firstNo (stepQuestions (s .args .t) (bytes s) (room s))
+first-no-is c =
     let s = start c in
     c .step-refusal .ensures ∙ (ap (λ (r : Record). refusalOf (s .args .t) r (room s)) (record-is s) ∙ refusal-is (s .args .t) (bytes s) (room s))
 
 passed : (c : tie.Else1) → let s = begin c in firstNo (stepQuestions (s .args .t) (bytes s) (room s)) ≡ 0
-passed c = sym (number-is (c .before)) ∙ c .if1 .left
+passed c = sym (first-no-is (c .before)) ∙ c .if1 .left
 
 -- the record asks for an event, which is allowed, or for a local read
 event-is : (c : tie.After-command) → let s = begin (asked c) in decode (s .args .t .version) (bytes s) ≡ Act (c .command .given .0 .0)
@@ -103,7 +103,7 @@ ended-requires c κs = search needs
 returns : tie.Need-returns
 returns c =
     let n = c .before .before in
-    turn-refused _ _ _ _ _ (start n .pre .0) _ (number-is n) (c .before .if1 .taken) _ _ (c .ended .ensures)
+    turn-refused _ _ _ _ _ (start n .pre .0) _ (first-no-is n) (c .before .if1 .taken) _ _ (c .ended .ensures)
 
 enum-known-command : tie.Need-enum-known-command
 enum-known-command c = search needs

@@ -22,8 +22,8 @@ events c = c .before .before
 abbrev start : tie.After-put-word-arg → tie.Start
 start c = c .before .before .before
 
-digits : (s : tie.Start) → (length (decimal (s .args .events)) ≤ 20) × (length (decimal (s .args .number)) ≤ 3)
-digits s = (decimal-bound 19 (s .args .events) (omega (arith, s .fits .events .fits)), decimal-bound 2 (s .args .number) (omega (arith, s .fits .number .fits)))
+digits : (s : tie.Start) → (length (decimal (s .args .events)) ≤ 20) × (length (decimal (s .args .refusal)) ≤ 3)
+digits s = (decimal-bound 19 (s .args .events) (omega (arith, s .fits .events .fits)), decimal-bound 2 (s .args .refusal) (omega (arith, s .fits .refusal .fits)))
 
 -- the end of the line has a place
 room : (c : tie.After-buffer5) → let put = number c .put-field in put .result < length (put .last .0)
@@ -32,31 +32,16 @@ room c =
     let e = events (k .before) in
     omega (arith, k .put-field .ensures .place, e .put-word .ensures .place, digits (start (e .before)))
 
-slice-aggregate-put-word : tie.Need-slice-aggregate-put-word
-slice-aggregate-put-word c = search needs
-
-slice-aggregate-put-word-2 : tie.Need-slice-aggregate-put-word-2
-slice-aggregate-put-word-2 c = search needs
-
 put-word-requires : tie.Need-put-word-requires
 put-word-requires c κs = omega (arith, digits (start c))
-
-slice-aggregate-put-field : tie.Need-slice-aggregate-put-field
-slice-aggregate-put-field c = search needs
 
 put-field-requires : tie.Need-put-field-requires
 put-field-requires c κs =
     let e = events c in
     omega (arith, e .put-word .ensures .place, digits (start (e .before)))
 
-slice-aggregate-end-line : tie.Need-slice-aggregate-end-line
-slice-aggregate-end-line c = search needs
-
 end-line-requires : tie.Need-end-line-requires
 end-line-requires c κs = room c
-
-same-length : tie.Need-same-length
-same-length c = search needs
 
 returns : tie.Need-returns
 returns c =
@@ -68,12 +53,12 @@ pub put-footer-spec : {M : Type 1} → statement M
 put-footer-spec =
     tie.close
     (tie.spec
-    slice-aggregate-put-word
-    slice-aggregate-put-word-2
+    (λ c. search needs)
+    (λ c. search needs)
     put-word-requires
-    slice-aggregate-put-field
+    (λ c. search needs)
     put-field-requires
-    slice-aggregate-end-line
+    (λ c. search needs)
     end-line-requires
-    same-length
+    (λ c. search needs)
     returns)

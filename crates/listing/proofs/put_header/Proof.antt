@@ -27,23 +27,11 @@ room c =
     let p = number c in
     omega (arith, p .put-word .ensures .place, digits (start (p .before)))
 
-slice-aggregate-put-word : tie.Need-slice-aggregate-put-word
-slice-aggregate-put-word c = search needs
-
-slice-aggregate-put-word-2 : tie.Need-slice-aggregate-put-word-2
-slice-aggregate-put-word-2 c = search needs
-
 put-word-requires : tie.Need-put-word-requires
 put-word-requires c κs = omega (arith, digits (start c))
 
-slice-aggregate-end-line : tie.Need-slice-aggregate-end-line
-slice-aggregate-end-line c = search needs
-
 end-line-requires : tie.Need-end-line-requires
 end-line-requires c κs = room c
-
-same-length : tie.Need-same-length
-same-length c = search needs
 
 returns : tie.Need-returns
 returns c =
@@ -54,10 +42,10 @@ pub put-header-spec : {M : Type 1} → statement M
 put-header-spec =
     tie.close
     (tie.spec
-    slice-aggregate-put-word
-    slice-aggregate-put-word-2
+    (λ c. search needs)
+    (λ c. search needs)
     put-word-requires
-    slice-aggregate-end-line
+    (λ c. search needs)
     end-line-requires
-    same-length
+    (λ c. search needs)
     returns)

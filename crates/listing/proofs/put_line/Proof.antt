@@ -44,23 +44,11 @@ room c =
     let a = start k .args in
     omega (arith, p .store-line .ensures .place, fits k, length-parts (a .event) (a .controller) (a .sums) (take (k .at-most .result) (a .names)))
 
-at-most-requires : tie.Need-at-most-requires
-at-most-requires c κs = search needs
-
-slice-aggregate-store-line : tie.Need-slice-aggregate-store-line
-slice-aggregate-store-line c = search needs
-
 store-line-requires : tie.Need-store-line-requires
 store-line-requires c κs = (omega arith, fits (clipped c))
 
-slice-aggregate-end-line : tie.Need-slice-aggregate-end-line
-slice-aggregate-end-line c = search needs
-
 end-line-requires : tie.Need-end-line-requires
 end-line-requires c κs = room c
-
-same-length : tie.Need-same-length
-same-length c = search needs
 
 returns : tie.Need-returns
 returns c =
@@ -76,10 +64,10 @@ pub put-line-spec : {M : Type 1} → statement M
 put-line-spec =
     tie.close
     (tie.spec
-    at-most-requires
-    slice-aggregate-store-line
+    (λ c κs. search needs)
+    (λ c. search needs)
     store-line-requires
-    slice-aggregate-end-line
+    (λ c. search needs)
     end-line-requires
-    same-length
+    (λ c. search needs)
     returns)
