@@ -56,7 +56,7 @@ fn not_in_text(bytes: &[u8]) -> Option<(usize, u8)> {
     bytes.iter().copied().enumerate().find(|(_, byte)| *byte < LEAST_IN_TEXT)
 }
 
-/// Whether bytes look like a text: they begin as one, with a character of ASCII, and no byte is one that a text has not.
+/// Whether bytes look like a text: they begin as one, with a character of ASCII, and have no byte that no text has.
 pub fn is_text(bytes: &[u8]) -> bool {
     let bytes = bytes.strip_prefix(ORDER_MARK.as_bytes()).unwrap_or(bytes);
     begins_as_text(bytes) && bytes[0].is_ascii() && not_in_text(bytes).is_none()

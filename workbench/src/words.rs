@@ -170,7 +170,7 @@ pub fn reason(play: &Play, refused: &Refused) -> Option<String> {
     match refusal {
         Refusal::FileLength => return Some(format!("the file has {}", count(play.file.len(), "byte", "bytes"))),
         Refusal::Version => {
-            let hint = if is_text(play.file) { "; this looks like a text: use --text in place of --bytes" } else { "" };
+            let hint = if is_text(play.file) { "; these bytes look like a text, which --text takes" } else { "" };
             return Some(format!("byte 0, the version, is {}{hint}", play.file.first()?));
         }
         Refusal::ControllerCount => {

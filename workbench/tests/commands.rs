@@ -250,7 +250,7 @@ fn a_text_where_bytes_belong_names_what_takes_it() {
         let assembled = workbench(&["assemble", "-"], shown.as_bytes());
         assert_eq!((assembled.stdout, assembled.status.code()), (bytes.to_vec(), Some(0)), "{shown}");
     }
-    let reason = "byte 0, the version, is 118; this looks like a text: use --text in place of --bytes";
+    let reason = "byte 0, the version, is 118; these bytes look like a text, which --text takes";
     assert_refused(&["run", "--bytes", "-"], b"version 1\ncontrollers 3\n", 2, reason);
 }
 
