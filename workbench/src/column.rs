@@ -5,24 +5,24 @@ use furnacejade::Payload;
 
 const COLUMN_GAP: i32 = 14;
 const LEAST_COLUMN: i32 = 38;
-/// What each lane has above and below its line at least.
+/// The least room above and below the line of a lane.
 pub const LEAST_REACH: i32 = 15;
 /// The radius of a message where it is sent, and where it joins the log of another.
 pub const SENT: i32 = 10;
 pub const FORWARDED: i32 = 8;
-/// What a handover from the own log rises above the lane, and how far left of the rest it begins.
+/// How far the arrow of a handover from the own log rises above the lane, and how far left of the shape it begins.
 pub const LOOP: i32 = 14;
 const LOOP_SIDE: i32 = 9;
-/// What is free around the name on an arrow, from its middle.
+/// The gap of an arrow above and below the middle of the name that stands in it.
 const NAME: i32 = 9;
 const PADDING: i32 = 6;
 
 /// What stands on a lane.
 #[derive(Debug)]
 pub enum Shape {
-    /// The lane alone.
+    /// Nothing but the lane.
     Bare,
-    /// A message that joins a log, with its kind and its place there.
+    /// A message that joins a log, with its kind and its place in the log.
     Entry {
         kind: u8,
         place: usize,
@@ -52,7 +52,7 @@ impl Shape {
         }
     }
 
-    /// How far it goes above and below its lane.
+    /// How far the shape goes above and below its lane.
     pub fn reach(&self) -> i32 {
         match self {
             Shape::Bare => 1,
@@ -104,17 +104,23 @@ impl Shape {
 /// What a column has at one lane: a shape, and lines of text above and below it.
 #[derive(Debug)]
 pub struct Mark {
-    pub lane: usize,
+    /// The number of the lane's controller.
+    pub lane: u8,
     pub shape: Shape,
     pub above: Vec<Line>,
     pub below: Vec<Line>,
-    /// What is free between the shape and the lines above it.
+    /// The gap between the shape and the lines above it.
     pub lift: i32,
 }
 
 impl Mark {
-    pub fn new(lane: usize, shape: Shape) -> Mark {
+    pub fn new(lane: u8, shape: Shape) -> Mark {
         Mark { lane, shape, above: vec![], below: vec![], lift: 0 }
+    }
+
+    /// The place of the lane among all lanes, from 0.
+    pub fn lane_index(&self) -> usize {
+        usize::from(self.lane) - 1
     }
 
     pub fn width(&self) -> i32 {
@@ -122,7 +128,7 @@ impl Mark {
         (self.shape.width() + 2 * side).max(width_of(&self.above)).max(width_of(&self.below))
     }
 
-    /// How far it goes above its lane, and below.
+    /// How far the mark goes above its lane, and how far below.
     pub fn reach(&self) -> (i32, i32) {
         let reach = self.shape.reach();
         (reach + self.lift + height_of(&self.above) + 3, reach + height_of(&self.below) + 3)
@@ -136,17 +142,18 @@ impl Mark {
     }
 }
 
-/// A handover, to the lane of its column's mark.
+/// The arrow of a handover, from the lane of the log's owner to the lane of its column's mark.
 #[derive(Debug)]
 pub struct Arrow {
-    pub owner: usize,
+    pub owner: u8,
     pub class: &'static str,
     pub name: Line,
 }
 
 impl Arrow {
     pub fn draw(&self, canvas: &mut Canvas, mark: &Mark, x: i32, lanes: &[i32]) {
-        let (from, to, reach) = (lanes[self.owner - 1], lanes[mark.lane - 1], mark.shape.reach());
+        let (reader, reach) = (mark.lane_index(), mark.shape.reach());
+        let (from, to) = (lanes[usize::from(self.owner) - 1], lanes[reader]);
         if self.owner == mark.lane {
             let (left, top) = (x - mark.shape.width() / 2 - LOOP_SIDE, to - reach - LOOP);
             let right = if reach > 1 { x } else { x + LOOP_SIDE };
@@ -155,8 +162,8 @@ impl Arrow {
             return canvas.text((left + right) / 2, top - 4, &self.name);
         }
         let down = (to - from).signum();
-        let (end, neighbour) = (to - down * reach, if down > 0 { mark.lane - 1 } else { mark.lane + 1 });
-        let middle = (lanes[neighbour - 1] + end) / 2 - down * 3;
+        let (end, neighbour) = (to - down * reach, if down > 0 { reader - 1 } else { reader + 1 });
+        let middle = (lanes[neighbour] + end) / 2 - down * 3;
         let (before, after) = (middle - down * NAME, middle + down * NAME);
         canvas.path(self.class, &format!("M{x} {from}V{before}M{x} {after}V{end}"));
         canvas.text(x, middle + 4, &self.name);
@@ -170,7 +177,7 @@ pub struct Column {
     pub title: String,
     pub marks: Vec<Mark>,
     pub arrow: Option<Arrow>,
-    /// Whether it concerns all lanes.
+    /// Whether the column concerns all lanes.
     pub across: bool,
 }
 
@@ -186,7 +193,7 @@ impl Column {
         marks.max(name).max(least) + COLUMN_GAP
     }
 
-    pub fn stops(&self, lane: usize) -> bool {
+    pub fn stops(&self, lane: u8) -> bool {
         self.marks.iter().any(|mark| mark.lane == lane && matches!(mark.shape, Shape::Octagon))
     }
 
@@ -199,7 +206,7 @@ impl Column {
             arrow.draw(canvas, mark, x, lanes);
         }
         for mark in &self.marks {
-            mark.draw(canvas, (x, lanes[mark.lane - 1]));
+            mark.draw(canvas, (x, lanes[mark.lane_index()]));
         }
         canvas.close();
     }

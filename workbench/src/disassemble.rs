@@ -1,40 +1,24 @@
-//! The text of any run file. Bytes that have the form of no record are shown as they are, with what is wrong with them.
+//! The text of any run file. Bytes that have the form of no record are shown as bytes, with what is wrong with them.
 
-use crate::play::first_record;
 use crate::text::record_text;
 use crate::words::{hexadecimal, malformed};
-use furnacejade::Record;
+use furnacejade::{records, Part, Record};
 use std::fmt::Write;
 
-/// So many handovers to one receiver stand in a line.
+/// A line has at most this many handovers to one receiver.
 const HANDOVERS: usize = 8;
 
-/// So many bytes stand in a line.
+/// A line has at most this many bytes.
 const BYTES: usize = 16;
 
 /// The column of the comments.
 const COMMENT: usize = 34;
 
-/// A part of a file: a record, or bytes that are none.
-struct Piece<'a> {
-    number: usize,
-    offset: usize,
-    bytes: &'a [u8],
-    record: Option<Record>,
-}
+/// The number of a part of a file, and the part: a record, or bytes that have the form of none.
+type Numbered<'a> = (usize, Part<'a>);
 
-fn pieces(file: &[u8]) -> Vec<Piece<'_>> {
-    let (mut pieces, mut offset) = (vec![], 2);
-    while offset < file.len() {
-        let bytes = first_record(&file[offset..]);
-        pieces.push(Piece { number: pieces.len() + 1, offset, bytes, record: Record::from_bytes(bytes) });
-        offset += bytes.len();
-    }
-    pieces
-}
-
-fn receiver(piece: &Piece) -> Option<u8> {
-    match piece.record {
+fn receiver((_, part): &Numbered) -> Option<u8> {
+    match part.record {
         Some(Record::Handover { receiver, .. }) => Some(receiver),
         _ => None,
     }
@@ -47,8 +31,8 @@ pub fn disassemble(file: &[u8]) -> String {
         return line(&bytes_line(file), "offset 0: a run file has 2 bytes or more");
     };
     let mut text = format!("version {version}\ncontrollers {controllers}\n\n");
-    let pieces = pieces(file);
-    for run in pieces.chunk_by(|one, next| receiver(one).is_some() && receiver(one) == receiver(next)) {
+    let parts: Vec<Numbered> = (1..).zip(records(file)).collect();
+    for run in parts.chunk_by(|one, next| receiver(one).is_some() && receiver(one) == receiver(next)) {
         for group in run.chunks(HANDOVERS) {
             text += &group_text(group, version);
         }
@@ -56,11 +40,11 @@ pub fn disassemble(file: &[u8]) -> String {
     text
 }
 
-fn group_text(group: &[Piece], version: u8) -> String {
-    let (first, last) = (&group[0], &group[group.len() - 1]);
+fn group_text(group: &[Numbered], version: u8) -> String {
+    let ((number, first), (last, _)) = (&group[0], &group[group.len() - 1]);
     let numbers = match group {
-        [_] => format!("record {}", first.number),
-        _ => format!("records {} to {}", first.number, last.number),
+        [_] => format!("record {number}"),
+        _ => format!("records {number} to {last}"),
     };
     let wrong = malformed(first.bytes, version).map_or(String::new(), |wrong| format!(": {wrong}"));
     let comment = format!("{numbers}, offset {}{wrong}", first.offset);
@@ -70,8 +54,8 @@ fn group_text(group: &[Piece], version: u8) -> String {
         return lines.fold(head, |text, bytes| text + &bytes + "\n");
     };
     let mut event = record_text(record);
-    for piece in &group[1..] {
-        if let Some(Record::Handover { owner, .. }) = piece.record {
+    for (_, part) in &group[1..] {
+        if let Some(Record::Handover { owner, .. }) = part.record {
             let _ = write!(event, " {owner}");
         }
     }

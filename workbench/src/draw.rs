@@ -4,36 +4,36 @@
 
 use crate::column::{Arrow, Column, Mark, Shape, FORWARDED, LEAST_REACH, LOOP, SENT};
 use crate::legend::{legend, marks_text, Sign};
-use crate::play::{self, actor, pending, Applied, Checked, Effect, Heard, Play, Refused, Step};
+use crate::play::{self, actor, in_state, Applied, Checked, Effect, Heard, Play, Refused, Step};
 use crate::svg::{
     class, height_of, shorten, width_of, wrap, Canvas, Line, BOLD, FAINT, LEFT, LEFT_SMALL, PLAIN, SHOWN, SMALL, TITLE,
 };
 use crate::words::{self, count, hexadecimal};
-use furnacejade::{look, Class, Name, Panel, Payload, Record, Register, Sums, CONTROLLERS};
+use furnacejade::{look, Class, Name, Panel, Payload, Record, Register, State, Sums, CONTROLLERS};
 use std::collections::BTreeSet;
 
-/// A band is at most so wide, but for what its panels show in the end.
+/// The greatest width of a band, but for what its panels show in the end.
 const BAND_WIDTH: i32 = 1_200;
-/// A picture is at least so wide, for its title and its legend.
+/// The least width of a picture, for its title and its legend.
 const LEAST_WIDTH: i32 = 760;
 const MARGIN: i32 = 16;
-/// What is between heading, legend and notes.
+/// The gap between heading, legend and notes.
 const GAP: i32 = 8;
-/// Where lanes begin: the names of the controllers stand left of it.
+/// Where lanes begin. The names of the controllers stand left of that.
 const LANES: i32 = 114;
-/// What is between two lanes besides what each has above and below.
+/// The gap between what stands on a lane and what stands on the next.
 const LANE_GAP: i32 = 22;
-/// The row with the numbers of the events, and what is between two bands.
+/// The height of the row with the numbers of the events, and the gap between two bands.
 const HEAD: i32 = 20;
 const BAND_GAP: i32 = 30;
-/// So many pending messages are named, and so many bytes of a refused record.
+/// At most this many messages of a panel are named, and this many bytes of a refused record.
 const NAMED: usize = 6;
 const BYTES: usize = 24;
-/// So many characters of a title are shown, and of a line of facts.
+/// The greatest number of characters of a title, and of a line of facts.
 const TITLE_LENGTH: usize = 100;
 const FACTS: usize = 20;
 
-/// The picture of what became of a run file.
+/// The picture of a run file that was played.
 pub fn svg(title: &str, play: &Play) -> String {
     let mut picture = Picture::new(play);
     if play.table.n > 0 {
@@ -42,9 +42,9 @@ pub fn svg(title: &str, play: &Play) -> String {
     picture.finish(title)
 }
 
-/// What a controller is at a moment.
+/// What a controller's panel shows at a moment, and whether the controller has stopped.
 #[derive(Clone, Copy)]
-struct State {
+struct Moment {
     sums: Sums,
     stopped: bool,
 }
@@ -53,9 +53,9 @@ struct Picture<'a> {
     play: &'a Play<'a>,
     signs: BTreeSet<Sign>,
     /// The controllers now, and at the start of the band.
-    now: [State; CONTROLLERS],
-    start: [State; CONTROLLERS],
-    /// The columns of the band, and what they take from left to right.
+    now: [Moment; CONTROLLERS],
+    start: [Moment; CONTROLLERS],
+    /// The columns of the band, and the width that they take.
     columns: Vec<Column>,
     used: i32,
     bands: Canvas,
@@ -67,7 +67,7 @@ struct Picture<'a> {
 
 impl<'a> Picture<'a> {
     fn new(play: &'a Play<'a>) -> Picture<'a> {
-        let start = [State { sums: Sums::BLANK, stopped: false }; CONTROLLERS];
+        let start = [Moment { sums: Sums::BLANK, stopped: false }; CONTROLLERS];
         Picture {
             play,
             signs: BTreeSet::new(),
@@ -82,7 +82,7 @@ impl<'a> Picture<'a> {
         }
     }
 
-    /// All bands.
+    /// Draws all bands.
     fn run(&mut self) {
         let play = self.play;
         let mut checked = play.checked.as_slice();
@@ -114,7 +114,7 @@ impl<'a> Picture<'a> {
         let c = step.controller;
         let (mut mark, arrow) = match &step.effect {
             Effect::Sent(name) => (self.sent(step, *name), None),
-            Effect::Read { owner, name, heard, marks, .. } => self.read(c, *owner as usize, (*name, heard, marks)),
+            Effect::Read { owner, name, heard, marks, .. } => self.read(c, *owner, (*name, heard, marks)),
             Effect::Stopped { kept, lost } => (self.stop(c, *kept, lost), None),
             Effect::LocalRead(sums) => (self.local_read(c, *sums), None),
         };
@@ -128,9 +128,13 @@ impl<'a> Picture<'a> {
         let mut column = Column::new(step.number, title, vec![mark]);
         column.arrow = arrow;
         self.add(column);
-        let now = &mut self.now[c - 1];
+        let now = &mut self.now[usize::from(c) - 1];
         now.sums = step.applied.as_ref().map_or(now.sums, |applied| applied.sums);
         now.stopped |= matches!(step.effect, Effect::Stopped { .. });
+    }
+
+    fn n(&self) -> u8 {
+        *self.play.table.controller_numbers().end()
     }
 
     fn kind(&self, name: Name) -> u8 {
@@ -140,12 +144,15 @@ impl<'a> Picture<'a> {
     fn sent(&mut self, step: &Step, name: Name) -> Mark {
         let (sign, text) = match step.record {
             Record::Report { amount, .. } => (Sign::Report, signed(amount)),
-            Record::ClassedReport { amount, class, .. } => (Sign::Report, format!("{} {class}", signed(amount))),
+            Record::ClassedReport { amount, class, .. } => {
+                let class = class.class().unwrap_or(Class::None);
+                (Sign::Report, format!("{} {class}", signed(amount)))
+            }
             Record::Write { register, value, .. } => (Sign::Write, format!("r{register} = {value}")),
             _ => (Sign::Sync, "sync".to_string()),
         };
         self.signs.insert(sign);
-        let (kind, place) = (self.kind(name), name.number.0 as usize);
+        let (kind, place) = (self.kind(name), name.number.0.into());
         let mut mark = Mark::new(step.controller, Shape::Entry { kind, place, radius: SENT });
         mark.above = vec![Line::new(BOLD, name)];
         mark.below = vec![Line::new(PLAIN, text)];
@@ -154,8 +161,8 @@ impl<'a> Picture<'a> {
 
     fn read(
         &mut self,
-        reader: usize,
-        owner: usize,
+        reader: u8,
+        owner: u8,
         (name, heard, marks): (Name, &Heard, &[play::Mark]),
     ) -> (Mark, Option<Arrow>) {
         let (sign, shape) = match heard {
@@ -172,7 +179,7 @@ impl<'a> Picture<'a> {
         if sign != Sign::Passed {
             self.signs.insert(Sign::Marks);
             let side = if owner > reader { &mut mark.above } else { &mut mark.below };
-            side.push(Line::new(SMALL, marks_text(marks, self.play.table.n)));
+            side.push(Line::new(SMALL, marks_text(marks, self.n())));
         }
         if owner == reader {
             mark.lift = LOOP + name_line.style.height;
@@ -180,12 +187,12 @@ impl<'a> Picture<'a> {
         (mark, Some(Arrow { owner, class, name: name_line }))
     }
 
-    fn stop(&mut self, c: usize, kept: usize, lost: &[Name]) -> Mark {
+    fn stop(&mut self, c: u8, kept: usize, lost: &[Name]) -> Mark {
         self.signs.insert(Sign::Stop);
         let mut mark = Mark::new(c, Shape::Octagon);
         mark.above = vec![Line::new(BOLD, "stop")];
         mark.below = vec![Line::new(PLAIN, format!("keeps {kept} of {}", kept + lost.len()))];
-        let (own, others): (Vec<Name>, Vec<Name>) = lost.iter().partition(|name| name.sender as usize == c);
+        let (own, others): (Vec<Name>, Vec<Name>) = lost.iter().partition(|name| name.sender == c);
         for (what, names) in [("cut off:", own), ("entries lost:", others)] {
             if !names.is_empty() {
                 let words = [what.to_string()].into_iter().chain(names.iter().map(Name::to_string));
@@ -195,7 +202,7 @@ impl<'a> Picture<'a> {
         mark
     }
 
-    fn local_read(&mut self, c: usize, sums: Sums) -> Mark {
+    fn local_read(&mut self, c: u8, sums: Sums) -> Mark {
         self.signs.insert(Sign::LocalRead);
         let mut mark = Mark::new(c, Shape::Ring);
         mark.above = vec![Line::new(SMALL, "read")];
@@ -204,7 +211,7 @@ impl<'a> Picture<'a> {
     }
 
     /// The names of a set, as a block, and what the panel then shows.
-    fn set(&self, c: usize, applied: &Applied) -> Vec<Line> {
+    fn set(&self, c: u8, applied: &Applied) -> Vec<Line> {
         let across = (2..).find(|k| k * k >= applied.names.len()).unwrap_or(2);
         let rows = applied.names.chunks(across).map(|names| Line::new(PLAIN, list(names)));
         let mut lines: Vec<Line> = rows.collect();
@@ -213,21 +220,22 @@ impl<'a> Picture<'a> {
         lines
     }
 
-    /// The sync of its own that a set finished.
-    fn finished(&self, c: usize, applied: &Applied) -> Option<Name> {
-        let own = |name: &&Name| name.sender as usize == c && self.kind(**name) == Payload::SYNC;
+    /// The controller's own sync that a set finished.
+    fn finished(&self, c: u8, applied: &Applied) -> Option<Name> {
+        let own = |name: &&Name| name.sender == c && self.kind(**name) == Payload::SYNC;
         applied.finished.and_then(|_| applied.names.iter().rfind(own)).copied()
     }
 
-    /// The expectations behind so many events. Those of different panels share a column.
+    /// The expectations that follow a number of events. Those of different panels share a column.
     fn checks(&mut self, checked: &mut &[Checked], events: usize) {
         let mut column: Option<Column> = None;
         while let Some((first, others)) = checked.split_first().filter(|(first, _)| first.events <= events) {
             *checked = others;
             let (expectation, wanted) = (first.expectation, both(first.expectation.sums));
-            let (lane, place) = (expectation.panel as usize, expectation.place);
-            let Ok(shown) = first.shown else {
-                let text = format!("{place}: {wanted} is expected of panel {lane}, which is not there");
+            let (lane, place) = (expectation.panel, expectation.place);
+            let Some(shown) = first.shown else {
+                let panels = words::panels(self.play.table.n);
+                let text = format!("{place}: {wanted} is expected of panel {lane}, which is not there: {panels}");
                 self.notes.push(Line::new(LEFT, text));
                 continue;
             };
@@ -252,15 +260,15 @@ impl<'a> Picture<'a> {
         column.into_iter().for_each(|column| self.add(column));
     }
 
-    /// The column of a record that was refused, at the lane of the controller that it names if it names one.
+    /// The column of a record that was refused. It stands at the lane of the controller that the record names, if there is
+    /// one.
     fn refused(&mut self, refused: &Refused) {
         self.signs.insert(Sign::Refused);
-        let (n, number) = (self.play.table.n, self.play.steps.len() + 1);
-        let concerned = Record::from_bytes(refused.bytes).map(|record| actor(record) as usize);
-        let concerned = concerned.filter(|c| (1..=n).contains(c));
-        let lines = vec![Line::new(PLAIN, "refused"), Line::new(BOLD, refused.number.number())];
-        let mark = Mark::new(concerned.unwrap_or(n.div_ceil(2)), Shape::boxed(class::REFUSED, lines));
-        let title = format!("record {number} is refused with {}: {}", refused.number.number(), refused.number);
+        let (all, number) = (self.play.table.controller_numbers(), self.play.steps.len() + 1);
+        let concerned = Record::from_bytes(refused.bytes).map(actor).filter(|c| all.contains(c));
+        let lines = vec![Line::new(PLAIN, "refused"), Line::new(BOLD, refused.refusal.number())];
+        let mark = Mark::new(concerned.unwrap_or(all.end().div_ceil(2)), Shape::boxed(class::REFUSED, lines));
+        let title = format!("record {number} is {}", refused.refusal);
         let mut column = Column::new(number, title, vec![mark]);
         column.across = concerned.is_none();
         self.add(column);
@@ -297,12 +305,12 @@ impl<'a> Picture<'a> {
         self.used = 0;
     }
 
-    /// Where the lanes of a band are, with room for what stands on them, and where the band ends.
+    /// The heights of the lanes of a band, with room for what stands on them, and the height at which the band ends.
     fn lanes(&self, columns: &[Column], top: i32) -> (Vec<i32>, i32) {
         let mut reaches = vec![(LEAST_REACH, LEAST_REACH); self.play.table.n];
         for mark in columns.iter().flat_map(|column| &column.marks) {
             let (above, below) = mark.reach();
-            let reach = &mut reaches[mark.lane - 1];
+            let reach = &mut reaches[mark.lane_index()];
             *reach = (reach.0.max(above), reach.1.max(below));
         }
         let mut bottom = top - LANE_GAP;
@@ -314,9 +322,9 @@ impl<'a> Picture<'a> {
         (lanes.collect(), bottom)
     }
 
-    /// A lane with its label; behind a stop it is pale.
-    fn lane(&mut self, c: usize, y: i32, stop: Option<i32>, end: i32) {
-        let State { sums, stopped } = self.start[c - 1];
+    /// Draws a lane with its label. After a stop the lane is pale.
+    fn lane(&mut self, c: u8, y: i32, stop: Option<i32>, end: i32) {
+        let Moment { sums, stopped } = self.start[usize::from(c) - 1];
         let label = Line::new(LEFT, format!("controller {c}"));
         match self.height {
             0 => self.bands.text(MARGIN, y + 4, &label),
@@ -339,15 +347,16 @@ impl<'a> Picture<'a> {
         if let Some(refused) = &self.play.refused {
             self.notes.splice(0..0, refusal(self.play, refused));
         }
-        if self.play.unreached > 0 {
-            let text = format!("{} not reached", count(self.play.unreached, "expectation was", "expectations were"));
+        let unreached = self.play.unreached.len();
+        if unreached > 0 {
+            let text = format!("{} not reached", count(unreached, "expectation was", "expectations were"));
             self.notes.push(Line::new(LEFT, text));
         }
         let (mut canvas, heading) = (Canvas::default(), self.heading(title));
         self.width = self.width.max(width_of(&self.notes).max(width_of(&heading)) + 2 * MARGIN);
         canvas.lines(MARGIN, MARGIN, &heading);
         let edges = (MARGIN, self.width - MARGIN);
-        let mut height = legend(&self.signs, self.play.table.n, &mut canvas, edges, MARGIN + height_of(&heading) + GAP);
+        let mut height = legend(&self.signs, self.n(), &mut canvas, edges, MARGIN + height_of(&heading) + GAP);
         canvas.place(&self.bands, height);
         height += (self.height - BAND_GAP + GAP).max(0);
         canvas.lines(MARGIN, height, &self.notes);
@@ -365,7 +374,7 @@ impl<'a> Picture<'a> {
             let facts = format!("version {version}, {controllers}, majority {m}, {events}");
             let rule = format!(
                 "A panel applies a set once its controller has each message in it from {m} of {n} logs, \
-                 and {m} of {n} have it before whatever stays behind."
+                 and {m} of {n} put it before all that stays pending."
             );
             lines.extend([Line::new(LEFT, facts), Line::new(LEFT_SMALL, rule)]);
         }
@@ -373,9 +382,9 @@ impl<'a> Picture<'a> {
     }
 }
 
-/// What the panels show in the end, and what is pending there.
+/// What the panels show in the end, what is pending there, and what was cut off there.
 fn end(play: &Play) -> Vec<Mark> {
-    let panels = (1..=play.table.n).filter_map(|c| Some((c, look(&play.table, c).ok()?)));
+    let panels = play.table.controller_numbers().filter_map(|c| Some((c, look(&play.table, c).ok()?)));
     let mut marks: Vec<Mark> = panels.map(|(c, panel)| end_of(play, c, &panel)).collect();
     let widest = marks.iter().map(|mark| mark.shape.width()).max().unwrap_or(0);
     for mark in &mut marks {
@@ -386,27 +395,36 @@ fn end(play: &Play) -> Vec<Mark> {
     marks
 }
 
-fn end_of(play: &Play, c: usize, panel: &Panel) -> Mark {
+fn end_of(play: &Play, c: u8, panel: &Panel) -> Mark {
     let mut mark = Mark::new(c, Shape::boxed(class::PANEL, vec![Line::new(SHOWN, both(panel.sums))]));
-    let classes = Class::ALL.iter().filter_map(|class| Some((class, panel.of(*class)?)));
-    let classes =
-        classes.filter(|(_, sums)| *sums != Sums::BLANK).map(|(class, sums)| format!("{class} {}", both(sums)));
+    let classes = Class::ALL.into_iter().filter(|class| panel.of(*class) != Sums::BLANK);
+    let classes = classes.map(|class| format!("{class} {}", both(panel.of(class))));
     let registers = (1..).zip(&panel.registers).filter(|(_, register)| **register != Register::BLANK);
     let registers = registers.map(|(r, register)| format!("r{r} = {}", register.value));
     mark.below = classes.chain(registers).map(|fact| Line::new(SMALL, fact)).collect();
-    let waiting = pending(&play.table, c);
-    if !waiting.is_empty() {
-        let mut words = vec!["pending".to_string()];
-        words.extend(waiting.iter().take(NAMED).map(Name::to_string));
-        if waiting.len() > NAMED {
-            words.push(format!("and {} more", waiting.len() - NAMED));
-        }
-        mark.below.extend(wrap(words, FACTS).into_iter().map(|line| Line::new(SMALL, line)));
+    let pending = in_state(&play.table, c, State::Pending);
+    let held = play::held(&play.table, c).into_iter().filter(|name| !pending.contains(name)).collect();
+    for (what, names) in [("pending", pending), ("cut off", held)] {
+        mark.below.extend(facts(what, &names).into_iter().map(|line| Line::new(SMALL, line)));
     }
     mark
 }
 
-/// What was refused, the fact behind it, where it stands and what is there.
+/// The names of messages after a word for their state, in lines; none if there are no messages.
+fn facts(what: &str, names: &[Name]) -> Vec<String> {
+    let mut words = vec![what.to_string()];
+    words.extend(names.iter().take(NAMED).map(Name::to_string));
+    if names.len() > NAMED {
+        words.push(format!("and {} more", names.len() - NAMED));
+    }
+    if names.is_empty() {
+        vec![]
+    } else {
+        wrap(words, FACTS)
+    }
+}
+
+/// What was refused and why, its offset and its bytes.
 fn refusal(play: &Play, refused: &Refused) -> Vec<Line> {
     let what = match play.table.n {
         0 => "The file".to_string(),
@@ -414,8 +432,8 @@ fn refusal(play: &Play, refused: &Refused) -> Vec<Line> {
     };
     let rest = if refused.bytes.len() > BYTES { " …" } else { "" };
     let bytes = hexadecimal(&refused.bytes[..refused.bytes.len().min(BYTES)]);
-    let mut lines = vec![format!("{what} is refused with {}: {}", refused.number.number(), refused.number)];
-    lines.extend(words::fact(play, refused).map(|fact| format!("because {fact}")));
+    let mut lines = vec![format!("{what} is {}", refused.refusal)];
+    lines.extend(words::reason(play, refused).map(|reason| format!("because {reason}")));
     lines.push(format!("offset {}, bytes {bytes}{rest}", refused.offset));
     lines.into_iter().map(|line| Line::new(LEFT, line)).collect()
 }

@@ -6,12 +6,12 @@ use crate::svg::{class, Canvas, Line, BOLD, LEFT_SMALL, LEGEND, PLAIN};
 use furnacejade::Payload;
 use std::collections::BTreeSet;
 
-/// The rows of the legend, what is between two signs, and the length of an arrow there.
+/// The height of a row of the legend, the gap between two signs, and the length of an arrow.
 const ROW: i32 = 24;
 const GAP: i32 = 18;
 const SAMPLE_ARROW: i32 = 26;
-/// Of so many controllers the marks show places.
-const FEW: usize = 4;
+/// The marks show places in runs of at most this many controllers.
+const FEW: u8 = 4;
 
 /// The signs that a legend explains, in its order.
 #[derive(Clone, Copy, Debug, PartialEq, Eq, PartialOrd, Ord)]
@@ -32,7 +32,7 @@ pub enum Sign {
 }
 
 impl Sign {
-    fn meaning(self, n: usize) -> &'static str {
+    fn meaning(self, n: u8) -> &'static str {
         match self {
             Sign::Report => "report, and its place in the log",
             Sign::Sync => "sync",
@@ -67,14 +67,14 @@ impl Sign {
         }
     }
 
-    /// Marks as an example: some logs behind the first have it.
-    fn marks(n: usize) -> Line {
+    /// An example of marks: the logs after the first have the message.
+    fn marks(n: u8) -> Line {
         let logs = (1..=n.min(FEW)).filter(|log| *log > 1 || n == 1);
-        let marks: Vec<play::Mark> = logs.map(|log| (log, (n + 1 - log) as u8)).collect();
+        let marks: Vec<play::Mark> = logs.map(|log| (log, n + 1 - log)).collect();
         Line::new(LEFT_SMALL, marks_text(&marks, n))
     }
 
-    fn width(self, n: usize) -> i32 {
+    fn width(self, n: u8) -> i32 {
         match self {
             Sign::Forwarded => SAMPLE_ARROW + 2 * FORWARDED,
             Sign::Marked | Sign::Passed => SAMPLE_ARROW,
@@ -83,8 +83,8 @@ impl Sign {
         }
     }
 
-    /// Draws an example of it, from x on.
-    fn draw(self, n: usize, canvas: &mut Canvas, (x, y): (i32, i32)) {
+    /// Draws an example of the sign, from x on.
+    fn draw(self, n: u8, canvas: &mut Canvas, (x, y): (i32, i32)) {
         let arrow = format!("M{} {y}h{}", x + 3, SAMPLE_ARROW - 3);
         match self {
             Sign::Forwarded => {
@@ -99,8 +99,9 @@ impl Sign {
     }
 }
 
-/// What signs mean, in rows between two edges and from a top edge on, for a run of n controllers; answers where they end.
-pub fn legend(signs: &BTreeSet<Sign>, n: usize, canvas: &mut Canvas, (left, right): (i32, i32), top: i32) -> i32 {
+/// Draws what signs mean in a run of n controllers, in rows between two edges and below a top edge. Answers where the rows
+/// end.
+pub fn legend(signs: &BTreeSet<Sign>, n: u8, canvas: &mut Canvas, (left, right): (i32, i32), top: i32) -> i32 {
     let (mut x, mut y) = (left, top + 10);
     for sign in signs {
         let (sample, line) = (sign.width(n), Line::new(LEGEND, sign.meaning(n)));
@@ -118,13 +119,13 @@ pub fn legend(signs: &BTreeSet<Sign>, n: usize, canvas: &mut Canvas, (left, righ
     }
 }
 
-/// Marks: of few controllers the place in each log, a dash where there is none; of more the logs that have one.
-pub fn marks_text(marks: &[play::Mark], n: usize) -> String {
+/// Marks as text. In a run of few controllers it is the place in each log, with a dash for none; in others the logs that
+/// have a mark.
+pub fn marks_text(marks: &[play::Mark], n: u8) -> String {
     if n > FEW {
         return marks.iter().map(|(log, _)| log.to_string()).collect::<Vec<String>>().join(",");
     }
-    let place = |log: usize| {
-        marks.iter().find(|(other, _)| *other == log).map_or("-".to_string(), |(_, place)| place.to_string())
-    };
+    let place =
+        |log: u8| marks.iter().find(|(other, _)| *other == log).map_or("-".to_string(), |(_, place)| place.to_string());
     (1..=n).map(place).collect::<Vec<String>>().join(" ")
 }

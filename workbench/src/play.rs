@@ -1,43 +1,44 @@
 //! A run file played event by event. What an event did is read from its answer and from the table before and after it.
 
 use crate::text::Expectation;
-use furnacejade::{event, fresh, look, run};
-use furnacejade::{Answer, Controller, ForwardNumber, Message, Name, Pending, Record, Refusal, Sums, Table, SCRATCH};
+use furnacejade::{event, fresh, look, records, run};
+use furnacejade::{
+    Answer, Controller, ForwardNumber, Message, Name, Part, Pending, Record, Refusal, State, Sums, Table, LISTING,
+    SCRATCH,
+};
 
-/// More than any file's lines need.
-const LISTING: usize = 16_384;
-
-/// What an event did, but for the set that it applied.
+/// What an event did. The set that it applied stands apart.
 #[derive(Debug)]
 pub enum Effect {
     /// A message was sent.
     Sent(Name),
-    /// The receiver read a message in a log, at this entry of it. The marks are those that it then has for the message, before
-    /// it applies anything; none if it has applied it already.
+    /// The receiver read this entry of a log, and there a message. The marks are those that the receiver then has for the
+    /// message, before it applies anything; none if it has applied the message already.
     Read { owner: u8, entry: usize, name: Name, heard: Heard, marks: Vec<Mark> },
-    /// A log was cut; these were the entries behind what is kept.
+    /// A log was cut: how many entries are kept, and which ones came after these.
     Stopped { kept: usize, lost: Vec<Name> },
     /// A controller read its own sums.
     LocalRead(Sums),
 }
 
-/// Who gave a mark, and the mark: the entry of that controller's log.
-pub type Mark = (usize, u8);
+/// A mark: the controller that gave it, and the place of the message in that controller's log.
+pub type Mark = (u8, u8);
 
 /// What the message of a handover was to its receiver.
 #[derive(Debug)]
 pub enum Heard {
-    /// Unknown: it was forwarded, as this entry of the receiver's own log.
+    /// Unknown: the receiver forwarded the message, as this entry of its own log.
     Forwarded { entry: usize },
-    /// Pending: the mark of the log's owner was noted.
+    /// Pending: the receiver noted the mark of the log's owner.
     Marked,
-    /// Pending, and its own message: its own mark was there from the start.
+    /// Pending, and the receiver's own message: its own mark was there from the start.
     Known,
-    /// Applied already: the entry was passed over.
+    /// Applied already: the receiver passed over the entry.
     Passed,
 }
 
-/// A set that a panel applied, with the sums that it then showed, and those that a finished sync of its own answered.
+/// A set that a panel applied, the sums that the panel then showed, and the answer of a sync of its own that the set
+/// finished.
 #[derive(Debug)]
 pub struct Applied {
     pub names: Vec<Name>,
@@ -48,52 +49,53 @@ pub struct Applied {
 /// An event that was accepted.
 #[derive(Debug)]
 pub struct Step {
-    /// From 1; also the number of its record in the file.
+    /// The number of the event, from 1, and of its record in the file.
     pub number: usize,
     pub record: Record,
     /// The controller that acted.
-    pub controller: usize,
+    pub controller: u8,
     pub effect: Effect,
     pub applied: Option<Applied>,
 }
 
-/// A file or a record that was refused: where it begins, and what is there of it.
+/// A file or a record that was refused: why, where it begins, and what is there of it.
 #[derive(Debug)]
 pub struct Refused<'a> {
-    pub number: Refusal,
+    pub refusal: Refusal,
     pub offset: usize,
     pub bytes: &'a [u8],
 }
 
-/// An expectation that was reached, and what the panel showed there and then.
+/// An expectation that was reached.
 #[derive(Debug)]
 pub struct Checked {
     pub expectation: Expectation,
-    /// The events before it.
+    /// How many events come before the expectation.
     pub events: usize,
-    pub shown: Result<Sums, Refusal>,
+    /// What the panel showed; none if there is no such panel.
+    pub shown: Option<Sums>,
 }
 
 impl Checked {
     pub fn holds(&self) -> bool {
-        self.shown == Ok(self.expectation.sums)
+        self.shown == Some(self.expectation.sums)
     }
 }
 
-/// What became of a file.
+/// A file that was played.
 #[derive(Debug)]
 pub struct Play<'a> {
     pub file: &'a [u8],
     pub steps: Vec<Step>,
     pub refused: Option<Refused<'a>>,
     pub checked: Vec<Checked>,
-    /// How many expectations were not reached.
-    pub unreached: usize,
-    /// The table that the last accepted event left; the blank one if the file itself was refused.
+    /// The expectations that were not reached.
+    pub unreached: &'a [Expectation],
+    /// The table that the last accepted event left; a blank table if the file itself was refused.
     pub table: Table,
 }
 
-/// Which controller acts in a record: the one that sends, receives, stops or reads.
+/// The controller that acts in a record: it sends, receives, stops or reads.
 pub fn actor(record: Record) -> u8 {
     match record {
         Record::Report { sender, .. }
@@ -105,41 +107,51 @@ pub fn actor(record: Record) -> u8 {
     }
 }
 
-/// The bytes with which a record begins, to its end or to that of the file.
-pub fn first_record(bytes: &[u8]) -> &[u8] {
-    let length = bytes.first().map_or(0, |length| *length as usize + 1);
-    &bytes[..length.min(bytes.len())]
-}
-
 pub fn name_of(message: &Message) -> Name {
     Name { sender: message.sender, number: message.number }
 }
 
-/// The controller of a number, from 1.
-pub fn controller(table: &Table, number: usize) -> &Controller {
-    &table.controllers[number - 1]
+/// A controller by its number, from 1.
+pub fn controller(table: &Table, number: u8) -> &Controller {
+    &table.controllers[usize::from(number) - 1]
 }
 
 /// The names in a log.
-pub fn log(table: &Table, owner: usize) -> Vec<Name> {
+pub fn log(table: &Table, owner: u8) -> Vec<Name> {
     let Controller { length, log, .. } = controller(table, owner);
-    log[..*length].iter().map(|slot| name_of(&table.messages[*slot as usize])).collect()
+    log[..*length].iter().map(|slot| name_of(&table.messages[usize::from(*slot)])).collect()
 }
 
-/// The names of what is pending at a controller, in the order sent.
-pub fn pending(table: &Table, c: usize) -> Vec<Name> {
-    let messages = table.messages[..table.count].iter().zip(&controller(table, c).pending);
-    messages.filter(|(_, pending)| pending.held != 0).map(|(message, _)| name_of(message)).collect()
+/// How many entries of a log a controller has read.
+pub fn read(table: &Table, reader: u8, owner: u8) -> usize {
+    controller(table, reader).read[usize::from(owner) - 1]
 }
 
-/// The marks that a controller keeps for a message; none if it is not pending there.
-pub fn marks(table: &Table, c: usize, slot: usize) -> Vec<Mark> {
+/// The names of all messages, in the order sent.
+pub fn sent(table: &Table) -> Vec<Name> {
+    table.messages[..table.count].iter().map(name_of).collect()
+}
+
+/// The names of the messages that are in this state at a controller, in the order sent.
+pub fn in_state(table: &Table, c: u8, state: State) -> Vec<Name> {
+    sent(table).into_iter().filter(|name| table.state(c, *name) == state).collect()
+}
+
+/// The names of the messages that a controller holds, in the order sent. They are pending there, or were cut off when it
+/// stopped.
+pub fn held(table: &Table, c: u8) -> Vec<Name> {
+    let pending = controller(table, c).pending.iter();
+    sent(table).into_iter().zip(pending).filter(|(_, pending)| pending.held != 0).map(|(name, _)| name).collect()
+}
+
+/// The marks that a controller keeps for a message; none if it does not hold it.
+fn marks(table: &Table, c: u8, slot: usize) -> Vec<Mark> {
     let Pending { held, marks } = controller(table, c).pending[slot];
-    let marks = (1..=table.n).zip(marks).filter(|(_, mark)| held != 0 && *mark != ForwardNumber::ABSENT);
+    let marks = table.controller_numbers().zip(marks).filter(|(_, mark)| held != 0 && *mark != ForwardNumber::ABSENT);
     marks.map(|(f, mark)| (f, mark.0)).collect()
 }
 
-/// The marks of a message once an entry that gives one has been read.
+/// The marks of a message after a handover, with the mark that the entry gave if it gave one.
 fn marks_with(mut marks: Vec<Mark>, read: Mark, heard: &Heard) -> Vec<Mark> {
     if matches!(heard, Heard::Forwarded { .. } | Heard::Marked) {
         marks.push(read);
@@ -151,28 +163,29 @@ fn marks_with(mut marks: Vec<Mark>, read: Mark, heard: &Heard) -> Vec<Mark> {
 fn effect_of(record: Record, before: &Table, after: &Table, answer: &Answer) -> Effect {
     match record {
         Record::Handover { receiver, owner } => {
-            let (known, then) = (controller(before, receiver as usize), controller(after, receiver as usize));
-            let place = known.read[owner as usize - 1];
-            let slot = controller(before, owner as usize).log[place] as usize;
+            let (known, then) = (controller(before, receiver), controller(after, receiver));
+            let place = read(before, receiver, owner);
+            let slot = usize::from(controller(before, owner).log[place]);
             let heard = match known.pending[slot] {
                 _ if then.length > known.length => Heard::Forwarded { entry: then.length },
                 Pending { held: 0, .. } => Heard::Passed,
-                Pending { marks, .. } if marks[owner as usize - 1] == ForwardNumber::ABSENT => Heard::Marked,
+                Pending { marks, .. } if marks[usize::from(owner) - 1] == ForwardNumber::ABSENT => Heard::Marked,
                 _ => Heard::Known,
             };
             let name = name_of(&before.messages[slot]);
-            let marks = marks_with(marks(before, receiver as usize, slot), (owner as usize, place as u8 + 1), &heard);
+            let marks = marks_with(marks(before, receiver, slot), (owner, place as u8 + 1), &heard);
             Effect::Read { owner, entry: place + 1, name, heard, marks }
         }
         Record::Stop { controller, kept } => {
-            Effect::Stopped { kept: kept as usize, lost: log(before, controller as usize).split_off(kept as usize) }
+            let kept = usize::from(kept);
+            Effect::Stopped { kept, lost: log(before, controller).split_off(kept) }
         }
         Record::LocalRead { .. } => Effect::LocalRead(answer.sums),
         _ => Effect::Sent(name_of(&after.messages[before.count])),
     }
 }
 
-fn applied_by(answer: &Answer, table: &Table, c: usize) -> Option<Applied> {
+fn applied_by(answer: &Answer, table: &Table, c: u8) -> Option<Applied> {
     let names = answer.applied().to_vec();
     if names.is_empty() {
         return None;
@@ -181,60 +194,59 @@ fn applied_by(answer: &Answer, table: &Table, c: usize) -> Option<Applied> {
     Some(Applied { names, sums, finished: answer.sync_answer() })
 }
 
-/// The expectations that stand before an offset and were not checked yet.
-fn check(play: &mut Play, expectations: &mut &[Expectation], offset: usize) {
-    while let Some((expectation, others)) = expectations.split_first().filter(|(first, _)| first.offset <= offset) {
-        let (expectation, events) = (*expectation, play.steps.len());
-        play.checked.push(Checked {
-            expectation,
-            events,
-            shown: look(&play.table, expectation.panel as usize).map(|panel| panel.sums),
-        });
-        *expectations = others;
-    }
-}
-
-/// Plays a file up to its end, its first refusal or so many events.
-pub fn play<'a>(bytes: &'a [u8], mut expectations: &[Expectation], most: usize) -> Play<'a> {
+/// Plays a file up to its end, its first refusal or its first `most` events.
+pub fn play<'a>(bytes: &'a [u8], expectations: &'a [Expectation], most: usize) -> Play<'a> {
     let (mut listing, mut scratch) = (vec![0; LISTING], [0; SCRATCH]);
-    let mut play =
-        Play { file: bytes, steps: vec![], refused: None, checked: vec![], unreached: 0, table: Table::BLANK };
-    let number = run(bytes, &mut listing, &mut scratch).number;
-    if [Refusal::FILE_LENGTH, Refusal::VERSION, Refusal::COUNT].contains(&number) {
-        let offset = usize::from(number == Refusal::COUNT);
-        play.refused = Some(Refused { number, offset, bytes: &bytes[..bytes.len().min(2)] });
-        play.unreached = expectations.len();
+    let (unreached, table) = (expectations, Table::BLANK);
+    let mut play = Play { file: bytes, steps: vec![], refused: None, checked: vec![], unreached, table };
+    // A run of the whole file asks what is asked of a file. (A request for a fresh table does not ask for the length.)
+    let refusal = run(bytes, &mut listing, &mut scratch).refusal.refusal();
+    if let Some(refusal @ (Refusal::FileLength | Refusal::Version | Refusal::ControllerCount)) = refusal {
+        let offset = usize::from(refusal == Refusal::ControllerCount);
+        play.refused = Some(Refused { refusal, offset, bytes: &bytes[..bytes.len().min(2)] });
         return play;
     }
-    play.table = fresh(bytes[0] as usize, bytes[1] as usize).expect("the file's version and count were accepted");
-    let mut rest = &bytes[2..];
-    check(&mut play, &mut expectations, 2);
-    while !rest.is_empty() && play.steps.len() < most {
-        let (before, offset) = (play.table.clone(), bytes.len() - rest.len());
-        match event(&mut play.table, rest, &mut scratch) {
-            Ok((answer, left)) => {
-                let record = Record::from_bytes(first_record(rest)).expect("an accepted record has the form of one");
-                let (number, c) = (play.steps.len() + 1, actor(record) as usize);
+    play.table = fresh(bytes[0], bytes[1]).expect("the file's version and number of controllers were accepted");
+    play.check(2);
+    for Part { offset, bytes, record } in records(bytes).take(most) {
+        let before = play.table.clone();
+        match event(&mut play.table, bytes, &mut scratch) {
+            Ok((answer, _)) => {
+                let record = record.expect("an accepted record has the form of one");
+                let (number, c) = (play.steps.len() + 1, actor(record));
                 let effect = effect_of(record, &before, &play.table, &answer);
                 let applied = applied_by(&answer, &play.table, c);
                 play.steps.push(Step { number, record, controller: c, effect, applied });
-                rest = left;
-                check(&mut play, &mut expectations, bytes.len() - rest.len());
+                play.check(offset + bytes.len());
             }
-            Err(number) => {
-                play.refused = Some(Refused { number, offset, bytes: first_record(rest) });
+            Err(refusal) => {
+                play.refused = Some(Refused { refusal, offset, bytes });
                 break;
             }
         }
     }
-    play.unreached = expectations.len();
     play
 }
 
 impl Play<'_> {
+    /// Checks the expectations up to an offset that were not reached before.
+    fn check(&mut self, offset: usize) {
+        while let Some((expectation, others)) = self.unreached.split_first().filter(|(next, _)| next.offset <= offset) {
+            let (expectation, events) = (*expectation, self.steps.len());
+            let shown = look(&self.table, expectation.panel).ok().map(|panel| panel.sums);
+            self.checked.push(Checked { expectation, events, shown });
+            self.unreached = others;
+        }
+    }
+
     /// The slot of a message that was sent.
     pub fn slot(&self, name: Name) -> Option<usize> {
-        self.table.messages[..self.table.count].iter().position(|message| name_of(message) == name)
+        sent(&self.table).iter().position(|other| *other == name)
+    }
+
+    /// The marks that a controller keeps for a message; none if it does not hold it.
+    pub fn marks(&self, c: u8, name: Name) -> Vec<Mark> {
+        self.slot(name).map(|slot| marks(&self.table, c, slot)).unwrap_or_default()
     }
 
     /// The event that sent a message.
@@ -243,14 +255,14 @@ impl Play<'_> {
     }
 
     /// The event in which a panel applied a message, with the set.
-    pub fn applied(&self, name: Name, panel: usize) -> Option<(&Step, &Applied)> {
+    pub fn applied(&self, name: Name, panel: u8) -> Option<(&Step, &Applied)> {
         let mine = self.steps.iter().filter(|step| step.controller == panel);
         let mut sets = mine.filter_map(|step| Some((step, step.applied.as_ref()?)));
         sets.find(|(_, applied)| applied.names.contains(&name))
     }
 
     /// The event that stopped a controller.
-    pub fn stopped(&self, c: usize) -> Option<&Step> {
+    pub fn stopped(&self, c: u8) -> Option<&Step> {
         self.steps.iter().find(|step| step.controller == c && matches!(step.effect, Effect::Stopped { .. }))
     }
 

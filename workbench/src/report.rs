@@ -1,16 +1,16 @@
-//! A run in words: each event with what it did, the sets, the refusal with the fact behind it, and the panels at the end.
+//! A run in words: each event with what it did, the sets, the refusal with its reason, and the panels at the end.
 
-use crate::play::{controller, marks, pending, Checked, Play, Refused};
+use crate::play::{controller, in_state, read, Checked, Play, Refused};
 use crate::source::Source;
-use crate::text::record_text;
+use crate::text::{record_text, Expectation};
 use crate::words::{self, count, hexadecimal};
-use furnacejade::{look, Class, Panel, Record, Register, Stamp, Sums};
+use furnacejade::{look, Class, Name, Panel, Record, Register, Stamp, State};
 use std::fmt::Write;
 
-/// So many pending messages of a panel are named in the table of panels.
+/// A cell of the table of panels names at most this many messages.
 const NAMED: usize = 12;
 
-/// Whether the file was carried out whole, so that every expectation was reached, and each held.
+/// Whether nothing was refused and every expectation held. (Where nothing is refused every expectation is reached.)
 pub fn succeeded(play: &Play) -> bool {
     play.refused.is_none() && play.checked.iter().all(Checked::holds)
 }
@@ -38,7 +38,7 @@ pub fn report(source: &Source, play: &Play) -> String {
     text
 }
 
-/// A line or two for each event, and one for each expectation behind the events before it.
+/// A line or two for each event, and a line for each expectation, after the events that come before it.
 fn events(text: &mut String, source: &Source, play: &Play) {
     let width = play.steps.iter().map(|step| record_text(step.record).len()).max().unwrap_or(0);
     let mut checked = play.checked.iter().peekable();
@@ -51,36 +51,57 @@ fn events(text: &mut String, source: &Source, play: &Play) {
             }
         }
         while let Some(checked) = checked.next_if(|checked| checked.events == events) {
-            let _ = writeln!(text, "{:5}  {}", "", expectation(source, checked));
+            let _ = writeln!(text, "{:5}  {}", "", expectation(source, play, checked));
         }
     }
 }
 
-/// What came of an expectation.
-fn expectation(source: &Source, checked: &Checked) -> String {
-    let (expected, panel) = (checked.expectation, checked.expectation.panel);
+/// Whether an expectation held, and what the panel showed if it did not.
+fn expectation(source: &Source, play: &Play, checked: &Checked) -> String {
+    let Expectation { place, panel, sums, .. } = checked.expectation;
     let shown = match checked.shown {
-        Ok(shown) if shown == expected.sums => return format!("expect {panel} {}: so it is", expected.sums),
-        Ok(shown) => format!("panel {panel} shows {shown}"),
-        Err(refusal) => format!("panel {panel} is refused with {}: {refusal}", refusal.number()),
+        Some(shown) if shown == sums => return format!("expect {panel} {sums}: so it is"),
+        Some(shown) => format!("panel {panel} shows {}; expected: {}", words::sums(shown), words::sums(sums)),
+        None => format!("there is no panel {panel}: {}", words::panels(play.table.n)),
     };
-    let place = expected.place;
-    format!("{}:{}:{}: FAILED: expected {panel} {}, and {shown}", source.name, place.line, place.column, expected.sums)
+    format!("{}: FAILED: {shown}", source.place(place))
 }
 
-/// What failed, for a command that shows something else: expectations, and the refusal.
+/// What failed: expectations, the refusal, and expectations that were not reached. Each has a line, which begins with its
+/// place.
 pub fn complaints(source: &Source, play: &Play) -> String {
     let failed = play.checked.iter().filter(|checked| !checked.holds());
-    let failed = failed.map(|checked| expectation(source, checked) + "\n").collect::<String>();
-    let refused = play.refused.as_ref().map(|refused| refusal(source, play, refused));
-    failed + &refused.unwrap_or_default()
+    let mut lines: Vec<String> = failed.map(|checked| expectation(source, play, checked)).collect();
+    lines.extend(play.refused.as_ref().map(|refused| refusal_line(source, play, refused)));
+    if let Some(first) = play.unreached.first() {
+        let unreached = count(
+            play.unreached.len(),
+            "expectation was not reached",
+            "expectations were not reached; this is the first",
+        );
+        lines.push(format!("{}: {unreached}", source.place(first.place)));
+    }
+    lines.iter().map(|line| format!("{line}\n")).collect()
 }
 
-/// The number, the question, the record, its place and the fact behind it.
+/// A refusal in one line: its place, what is refused, the question, and the reason.
+fn refusal_line(source: &Source, play: &Play, refused: &Refused) -> String {
+    let place = source.assembled.place(refused.offset);
+    let what = match (refused.offset, place) {
+        (0 | 1, _) => "the file".into(),
+        (_, Some(_)) => format!("record {}", play.steps.len() + 1),
+        (offset, None) => format!("record {}, at offset {offset},", play.steps.len() + 1),
+    };
+    let place = place.map_or(source.name.clone(), |place| source.place(place));
+    let reason = words::reason(play, refused).map_or(String::new(), |reason| format!(" ({reason})"));
+    format!("{place}: {what} is {}{reason}", refused.refusal)
+}
+
+/// What is refused, by which question and why, and its event, offset, bytes and place.
 pub fn refusal(source: &Source, play: &Play, refused: &Refused) -> String {
     let mut lines = vec![];
-    if let Some(fact) = words::fact(play, refused) {
-        lines.push(("because", fact));
+    if let Some(reason) = words::reason(play, refused) {
+        lines.push(("because", reason));
     }
     let in_file = refused.offset >= 2;
     let what = match in_file {
@@ -97,13 +118,13 @@ pub fn refusal(source: &Source, play: &Play, refused: &Refused) -> String {
         lines.push(("bytes", hexadecimal(refused.bytes)));
     }
     if let Some(place) = source.assembled.place(refused.offset) {
-        lines.push(("text", format!("{}:{}:{}", source.name, place.line, place.column)));
+        lines.push(("text", source.place(place)));
     }
-    let head = format!("{what} is refused with {}: {}\n", refused.number.number(), refused.number);
+    let head = format!("{what} is {}\n", refused.refusal);
     lines.iter().fold(head, |text, (what, line)| format!("{text}    {what:8} {line}\n"))
 }
 
-/// How many events were accepted, and what came of the expectations.
+/// How many events were accepted, and how many expectations held.
 fn outcome(source: &Source, play: &Play) -> String {
     let mut text = format!("{} accepted", count(play.steps.len(), "event", "events"));
     let all = source.expectations().len();
@@ -114,47 +135,49 @@ fn outcome(source: &Source, play: &Play) -> String {
         if failed > 0 {
             let _ = write!(text, ", {failed} failed");
         }
-        if play.unreached > 0 {
-            let _ = write!(text, ", {} not reached", play.unreached);
+        if !play.unreached.is_empty() {
+            let _ = write!(text, ", {} not reached", play.unreached.len());
         }
     }
     text
 }
 
-/// A row of the table of panels: what it says, and a cell of lines for each panel.
+/// A row of the table of panels: its title, and a cell for each panel, which has lines.
 type Row = (String, Vec<Vec<String>>);
 
 /// Every panel side by side.
 fn panels(play: &Play) -> String {
-    let table = &play.table;
-    let all: Vec<(usize, Panel)> = (1..=table.n).filter_map(|c| Some((c, look(table, c).ok()?))).collect();
-    let row = |what: &str, cell: &dyn Fn(usize, &Panel) -> String| -> Row {
-        (what.into(), all.iter().map(|(c, panel)| vec![cell(*c, panel)]).collect())
+    let (table, all) = (&play.table, play.table.controller_numbers());
+    let shown: Vec<(u8, Panel)> = all.clone().filter_map(|c| Some((c, look(table, c).ok()?))).collect();
+    let row = |what: &str, cell: &dyn Fn(u8, &Panel) -> String| -> Row {
+        (what.into(), shown.iter().map(|(c, panel)| vec![cell(*c, panel)]).collect())
     };
     let mut rows = vec![row("", &|c, _| format!("panel {c}"))];
-    if (1..=table.n).any(|c| play.stopped(c).is_some()) {
+    if all.clone().any(|c| !table.runs(c)) {
         rows.push(row("stopped", &|c, _| play.stopped(c).map_or("-".into(), |step| format!("event {}", step.number))));
     }
     rows.push(row("added", &|_, panel| panel.sums.added.to_string()));
     rows.push(row("withdrawn", &|_, panel| panel.sums.withdrawn.to_string()));
-    if table.version == 2 {
-        for class in Class::ALL {
-            let of = |panel: &Panel| panel.of(class).unwrap_or(Sums::BLANK);
-            rows.push(row(&format!("{class} added"), &|_, panel| of(panel).added.to_string()));
-            rows.push(row(&format!("{class} withdrawn"), &|_, panel| of(panel).withdrawn.to_string()));
-        }
+    for class in Class::ALL.into_iter().filter(|_| table.version == 2) {
+        rows.push(row(&format!("{class} added"), &|_, panel| panel.of(class).added.to_string()));
+        rows.push(row(&format!("{class} withdrawn"), &|_, panel| panel.of(class).withdrawn.to_string()));
     }
     for (r, register) in (1..).zip(0..furnacejade::REGISTERS) {
-        if all.iter().any(|(_, panel)| panel.registers[register].stamp > Stamp::BLANK) {
+        if shown.iter().any(|(_, panel)| panel.registers[register].stamp > Stamp::BLANK) {
             rows.push(row(&format!("register {r}"), &|_, panel| register_text(panel.registers[register])));
         }
     }
-    let waiting = |c: usize| -> Vec<String> { pending_cell(play, c) };
-    rows.push((format!("pending (marks; {} needed)", play.majority()), (1..=table.n).map(waiting).collect()));
-    for owner in 1..=table.n {
+    rows.push((
+        format!("pending (marks; {} needed)", play.majority()),
+        all.clone().map(|c| pending(play, c)).collect(),
+    ));
+    let cut_off: Vec<Vec<Name>> = all.clone().map(|c| in_state(table, c, State::CutOff)).collect();
+    if cut_off.iter().any(|names| !names.is_empty()) {
+        rows.push(("cut off".into(), cut_off.iter().map(|names| cell(names, Name::to_string)).collect()));
+    }
+    for owner in all {
         let length = controller(table, owner).length;
-        let read = |c: usize, _: &Panel| format!("{} of {length}", controller(table, c).read[owner - 1]);
-        rows.push(row(&format!("read of log {owner}"), &read));
+        rows.push(row(&format!("read of log {owner}"), &|c, _| format!("{} of {length}", read(table, c, owner))));
     }
     aligned(&rows)
 }
@@ -166,14 +189,14 @@ fn register_text(Register { value, stamp }: Register) -> String {
     }
 }
 
-/// What is pending at a controller, with the marks that it has.
-fn pending_cell(play: &Play, c: usize) -> Vec<String> {
-    let names = pending(&play.table, c);
-    let with_marks = |name: &furnacejade::Name| -> String {
-        let marks = play.slot(*name).map_or(0, |slot| marks(&play.table, c, slot).len());
-        format!("{name} ({marks})")
-    };
-    let mut lines: Vec<String> = names.iter().take(NAMED).map(with_marks).collect();
+/// The messages that are pending at a controller, and how many marks each has there.
+fn pending(play: &Play, c: u8) -> Vec<String> {
+    cell(&in_state(&play.table, c, State::Pending), |name| format!("{name} ({})", play.marks(c, *name).len()))
+}
+
+/// A cell with a line for each message.
+fn cell(names: &[Name], line: impl Fn(&Name) -> String) -> Vec<String> {
+    let mut lines: Vec<String> = names.iter().take(NAMED).map(line).collect();
     if names.len() > NAMED {
         lines.push(format!("and {} more", names.len() - NAMED));
     }
@@ -183,7 +206,7 @@ fn pending_cell(play: &Play, c: usize) -> Vec<String> {
     lines
 }
 
-/// The rows with their cells one below the other.
+/// The rows as text, with the cells of a column aligned.
 fn aligned(rows: &[Row]) -> String {
     let title = rows.iter().map(|row| row.0.len()).max().unwrap_or(0);
     let columns = rows.first().map_or(0, |row| row.1.len());

@@ -21,7 +21,7 @@ const DIM: &str = "#888";
 const PALE: &str = "#BBB";
 const MIST: &str = "#EEE";
 
-/// What shapes and lines are called in the style sheet: a letter each, as there may be thousands of them.
+/// The names of shapes and lines in the style sheet. Each is one letter, as a picture may have thousands of them.
 pub mod class {
     pub const LANE: &str = "l";
     pub const STOPPED_LANE: &str = "d";
@@ -73,7 +73,7 @@ impl Line {
         Line { style, text: text.to_string() }
     }
 
-    /// What it takes from left to right, with some slack: no common monospace font has wider characters.
+    /// The width of the line, with some slack: no common monospace font has wider characters.
     pub fn width(&self) -> i32 {
         self.text.chars().count() as i32 * self.style.size * 61 / 100 + 1
     }
@@ -89,7 +89,7 @@ pub fn height_of(lines: &[Line]) -> i32 {
     lines.iter().map(|line| line.style.height).sum()
 }
 
-/// Words in lines of at most so many characters, but for a word that is longer.
+/// Words in lines of at most `most` characters. Only a word that is longer makes a longer line.
 pub fn wrap(words: impl IntoIterator<Item = String>, most: usize) -> Vec<String> {
     let mut lines: Vec<String> = vec![];
     for word in words {
@@ -104,7 +104,7 @@ pub fn wrap(words: impl IntoIterator<Item = String>, most: usize) -> Vec<String>
     lines
 }
 
-/// A text of at most so many characters; what is left out shows.
+/// A text of at most `most` characters. A text that is cut ends in a sign for that.
 pub fn shorten(text: &str, most: usize) -> String {
     match text.char_indices().nth(most) {
         None => text.to_string(),
@@ -129,14 +129,14 @@ pub fn escape(text: &str) -> String {
     escaped
 }
 
-/// Elements, one behind the other.
+/// Elements, one after the other.
 #[derive(Debug, Default)]
 pub struct Canvas {
     elements: String,
 }
 
 impl Canvas {
-    /// Begins a group, which a browser explains with this text.
+    /// Begins a group. A browser shows the title where the mouse is held over the group.
     pub fn open(&mut self, title: &str) {
         self.elements += &format!("<g><title>{}</title>", escape(title));
     }

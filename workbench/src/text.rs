@@ -1,11 +1,12 @@
 //! The text form of a run file: a line for each event, and what assembles it.
 //!
-//! Every field may hold what its bytes can hold: whether the engine carries a record out is for the engine to say.
+//! Every field may hold what its bytes can hold. Whether a record is carried out is for the engine to say.
 
-use furnacejade::{Class, Record, Sums};
+use crate::spelling::did_you_mean;
+use furnacejade::{Class, ClassNumber, Record, Sums};
 use std::fmt::{Display, Formatter};
 
-/// What begins a line, with what follows it.
+/// The word that begins a line, and an example of the line.
 const LINES: [(&str, &str); 10] = [
     ("version", "version 1"),
     ("controllers", "controllers 3"),
@@ -19,7 +20,7 @@ const LINES: [(&str, &str); 10] = [
     ("bytes", "bytes 03 09 01 02, in hexadecimal"),
 ];
 
-/// So many characters of a word are shown in a complaint.
+/// A complaint shows at most this many characters of a word.
 const SHOWN: usize = 40;
 
 /// A place in a text. Lines and columns count from 1, columns in characters.
@@ -35,14 +36,14 @@ impl Display for Place {
     }
 }
 
-/// What is wrong with a text, and where.
+/// A mistake in a text, and its place.
 #[derive(Debug, PartialEq, Eq)]
 pub struct Mistake {
     pub place: Place,
     pub text: String,
 }
 
-/// Both sums that a panel is to show when the bytes before an offset have been carried out.
+/// What a text expects: both sums that a panel shows after the records before an offset.
 #[derive(Clone, Copy, Debug, PartialEq, Eq)]
 pub struct Expectation {
     pub place: Place,
@@ -55,13 +56,13 @@ pub struct Expectation {
 #[derive(Debug, Default, PartialEq, Eq)]
 pub struct Assembled {
     pub bytes: Vec<u8>,
-    /// Where the bytes from an offset on come from, by offset.
+    /// Offsets in order, each with the place in the text that its bytes come from.
     pub places: Vec<(usize, Place)>,
     pub expectations: Vec<Expectation>,
 }
 
 impl Assembled {
-    /// The place that an offset comes from.
+    /// The place in the text that the byte at an offset comes from.
     pub fn place(&self, offset: usize) -> Option<Place> {
         let after = self.places.partition_point(|(start, _)| *start <= offset);
         Some(self.places[after.checked_sub(1)?].1)
@@ -86,7 +87,7 @@ pub fn record_text(record: Record) -> String {
     }
 }
 
-/// The run file of a text, or all that is wrong with it.
+/// The run file of a text, or its mistakes.
 pub fn assemble(text: &str) -> Result<Assembled, Vec<Mistake>> {
     let (mut assembled, mut head, mut mistakes) = (Assembled::default(), Head::Version, vec![]);
     let mut lines = 0;
@@ -107,13 +108,13 @@ pub fn assemble(text: &str) -> Result<Assembled, Vec<Mistake>> {
     }
 }
 
-/// A word of a text, as a complaint shows it: not all of a long one, and nothing that would control a terminal.
+/// A word of a text as a complaint shows it. A long word is cut, and no character of it controls a terminal.
 fn quoted(word: &str) -> String {
     let rest = if word.chars().nth(SHOWN).is_some() { "…" } else { "" };
     format!("`{}{rest}`", word.chars().take(SHOWN).flat_map(char::escape_debug).collect::<String>())
 }
 
-/// What a text must have next.
+/// The part of a text that must come next.
 #[derive(Clone, Copy, PartialEq, Eq)]
 enum Head {
     Version,
@@ -125,7 +126,7 @@ impl Head {
     fn wanted(self) -> &'static str {
         match self {
             Head::Version => "`version 1` or `version 2`",
-            Head::Controllers => "`controllers` and how many there are",
+            Head::Controllers => "a line such as `controllers 3`",
             Head::Records => "an event",
         }
     }
@@ -140,13 +141,13 @@ struct Word<'a> {
 struct Line<'a> {
     number: usize,
     words: std::vec::IntoIter<Word<'a>>,
-    /// The column behind the last word.
+    /// The column after the last word.
     end: usize,
-    /// What the line begins with.
-    first: &'a str,
+    /// The word that begins the line, as `LINES` has it.
+    first: &'static str,
 }
 
-/// The words of a line, and the column behind the last. The signs `<-` and `=` need no space around them.
+/// The words of a line, and the column after the last. The signs `<-` and `=` need no space around them.
 fn words(line: &str) -> (Vec<Word<'_>>, usize) {
     let mut rest = line.split('#').next().unwrap_or_default().trim_end();
     let (mut words, mut column) = (vec![], 1);
@@ -178,7 +179,7 @@ impl<'a> Line<'a> {
         Mistake { place: Place { line: self.number, column }, text }
     }
 
-    /// The next word, which is to be what the text says.
+    /// The next word. If there is none, `what` is missing.
     fn word(&mut self, what: &str) -> Result<Word<'a>, Mistake> {
         match self.words.next() {
             Some(word) => Ok(word),
@@ -186,7 +187,7 @@ impl<'a> Line<'a> {
         }
     }
 
-    /// How a line that begins as this one does is written.
+    /// An example of a line that begins as this one does.
     fn form(&self) -> String {
         let form = LINES.iter().find(|(first, _)| *first == self.first);
         form.map_or(String::new(), |(_, form)| format!("a line reads: {form}"))
@@ -195,7 +196,7 @@ impl<'a> Line<'a> {
     /// The next word, which must be this one.
     fn literally(&mut self, wanted: &str) -> Result<(), Mistake> {
         let word = self.word(&format!("`{wanted}`"))?;
-        match word.text == wanted {
+        match word.text.eq_ignore_ascii_case(wanted) {
             true => Ok(()),
             false => {
                 let text = format!("{} stands where `{wanted}` belongs; {}", quoted(word.text), self.form());
@@ -206,13 +207,13 @@ impl<'a> Line<'a> {
 
     fn number<T: TryFrom<i64>>(&mut self, what: &str, least: i64, most: i64) -> Result<T, Mistake> {
         let word = self.word(what)?;
-        self.in_range(&word, &format!("{what} belongs,"), least, most)
+        self.in_range(&word, what, least, most)
     }
 
     fn in_range<T: TryFrom<i64>>(&self, word: &Word, what: &str, least: i64, most: i64) -> Result<T, Mistake> {
         let number = word.text.parse().ok().filter(|number| (least..=most).contains(number));
         number.and_then(|number| T::try_from(number).ok()).ok_or_else(|| {
-            let text = format!("{} stands where {what} a number from {least} to {most}", quoted(word.text));
+            let text = format!("{what} must be a number from {least} to {most}, not {}", quoted(word.text));
             self.mistake(word.column, text)
         })
     }
@@ -221,11 +222,21 @@ impl<'a> Line<'a> {
         self.number(what, 0, 255)
     }
 
-    fn class(&mut self) -> Result<Class, Mistake> {
+    /// An amount: what two bytes can hold, of which the engine accepts a part.
+    fn amount(&mut self) -> Result<i16, Mistake> {
+        let word = self.word("the amount")?;
+        let amount = self.in_range(&word, "the amount", i16::MIN as i64, i16::MAX as i64);
+        amount.map_err(|Mistake { place, text }| Mistake {
+            place,
+            text: format!("{text}; the engine accepts -360 to 360, and not 0"),
+        })
+    }
+
+    fn class(&mut self) -> Result<ClassNumber, Mistake> {
         let word = self.word("the class")?;
-        match Class::ALL.into_iter().find(|class| class.to_string() == word.text) {
-            Some(class) => Ok(class),
-            None => self.in_range(&word, "the class belongs: XL, L, M, S, or", 0, 255).map(Class),
+        match word.text.parse::<Class>() {
+            Ok(class) => Ok(class.into()),
+            Err(_) => self.in_range(&word, "the class, if it is not XL, L, M or S,", 0, 255).map(ClassNumber),
         }
     }
 
@@ -233,37 +244,42 @@ impl<'a> Line<'a> {
         match self.words.next() {
             None => Ok(()),
             Some(word) => {
-                let text = format!("{} is more than belongs here; {}", quoted(word.text), self.form());
+                let text = format!("{} is one word too many; {}", quoted(word.text), self.form());
                 Err(self.mistake(word.column, text))
             }
         }
     }
 
-    /// The line's bytes, or its expectation, behind what was assembled before.
+    /// The word that begins the line, as `LINES` has it: words may be written in capitals.
+    fn first(&self, word: &Word) -> Result<&'static str, Mistake> {
+        let known = LINES.map(|(first, _)| first);
+        known.into_iter().find(|first| word.text.eq_ignore_ascii_case(first)).ok_or_else(|| {
+            let hint = did_you_mean(word.text, known);
+            let hint = hint.unwrap_or_else(|| format!("a line begins with one of {}", known.join(", ")));
+            self.mistake(word.column, format!("no line begins with {}; {hint}", quoted(word.text)))
+        })
+    }
+
+    /// Adds the line's bytes, or its expectation, to what was assembled before.
     fn assemble(&mut self, head: &mut Head, assembled: &mut Assembled) -> Result<(), Mistake> {
-        let Some(first) = self.words.next() else { return Ok(()) };
-        let place = Place { line: self.number, column: first.column };
-        self.first = first.text;
-        if LINES.iter().all(|(word, _)| *word != first.text) {
-            let known: Vec<&str> = LINES.iter().map(|(word, _)| *word).collect();
-            let text = format!("no line begins with {}, but with one of {}", quoted(first.text), known.join(", "));
-            return Err(self.mistake(first.column, text));
-        }
-        // Bytes may stand in the place of a head too, as those of a file that has none.
-        let (wanted, next) = match (first.text, *head) {
+        let Some(word) = self.words.next() else { return Ok(()) };
+        let place = Place { line: self.number, column: word.column };
+        self.first = self.first(&word)?;
+        // Bytes may stand in the place of the head too, as a file may be shorter than a head.
+        let (wanted, next) = match (self.first, *head) {
             ("version", _) => (Head::Version, Head::Controllers),
             ("controllers", _) => (Head::Controllers, Head::Records),
             ("bytes", Head::Version) => (Head::Version, Head::Records),
             _ => (Head::Records, Head::Records),
         };
         let due = *head;
-        // A head that comes too late changes nothing, and one that is missing is missed once.
+        // A head that comes too late changes nothing. A head that is missing is complained of once.
         *head = if due == Head::Records { due } else { next };
         if wanted != due {
-            let text = format!("{} stands where {} belongs", quoted(first.text), due.wanted());
-            return Err(self.mistake(first.column, text));
+            let text = format!("{} stands where {} belongs", quoted(word.text), due.wanted());
+            return Err(self.mistake(word.column, text));
         }
-        match first.text {
+        match self.first {
             "version" => assembled.add(&[self.byte("the version")?], place),
             "controllers" => assembled.add(&[self.byte("the number of controllers")?], place),
             "hand" => return self.handovers(assembled),
@@ -285,7 +301,7 @@ impl<'a> Line<'a> {
         Ok(match event {
             "report" => {
                 let sender = self.byte("the sender")?;
-                let amount = self.number("the amount", i16::MIN as i64, i16::MAX as i64)?;
+                let amount = self.amount()?;
                 match self.words.as_slice() {
                     [] => Record::Report { sender, amount },
                     _ => {
@@ -298,7 +314,7 @@ impl<'a> Line<'a> {
             "stop" => {
                 let controller = self.byte("the controller")?;
                 self.literally("keep")?;
-                Record::Stop { controller, kept: self.number("how many entries are kept", 0, u16::MAX as i64)? }
+                Record::Stop { controller, kept: self.number("the number of entries kept", 0, u16::MAX as i64)? }
             }
             "read" => Record::LocalRead { controller: self.byte("the controller")? },
             _ => {
@@ -318,8 +334,7 @@ impl<'a> Line<'a> {
         let mut owner = self.word("the owner of a log")?;
         loop {
             let place = Place { line: self.number, column: owner.column };
-            let record =
-                Record::Handover { receiver, owner: self.in_range(&owner, "the owner of a log belongs,", 0, 255)? };
+            let record = Record::Handover { receiver, owner: self.in_range(&owner, "the owner of a log", 0, 255)? };
             assembled.add(&record.bytes(), place);
             owner = match self.words.next() {
                 Some(word) => word,
@@ -339,7 +354,7 @@ impl<'a> Line<'a> {
                 }
                 _ => {
                     let place = Place { line: self.number, column: word.column };
-                    let text = format!("{} stands where bytes belong, two hexadecimal digits each", quoted(word.text));
+                    let text = format!("a byte must have two hexadecimal digits, not {}", quoted(word.text));
                     return Err(Mistake { place, text });
                 }
             }

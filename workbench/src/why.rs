@@ -1,16 +1,17 @@
 //! Why a panel has applied a message, or has not.
 
-use crate::play::{controller, log, marks, pending, Play};
+use crate::play::{held, log, read, Play};
 use crate::text::record_text;
 use crate::words::{self, count, entries, list, log_of, message, sums};
-use furnacejade::{count_before, Name};
+use furnacejade::{count_before, Name, State};
 use std::fmt::Write;
+use std::ops::RangeInclusive;
 
-/// A message that was sent, and a panel that is there, when the steps of a play have been carried out.
+/// A message that was sent in a play, and a panel that the play has.
 pub struct Question<'a> {
     pub play: &'a Play<'a>,
     pub name: Name,
-    pub panel: usize,
+    pub panel: u8,
 }
 
 impl Question<'_> {
@@ -18,46 +19,36 @@ impl Question<'_> {
         let Question { play, name, panel } = self;
         let head = format!("{} at panel {panel}, after event {}", message(play, *name), play.steps.len());
         let sent = self.sent();
-        if let Some(applied) = self.applied() {
-            return format!("{head}: applied\n\n{sent}{applied}");
-        }
-        match (self.is_pending(), self.is_cut_off()) {
-            (true, _) => format!("{head}: pending\n\n{sent}{}{}{}", self.marks(), self.kept_out(), self.more()),
-            (false, true) => format!("{head}: cut off\n\n{sent}"),
-            (false, false) => format!("{head}: unknown\n\n{sent}{}{}", self.marks(), self.more()),
-        }
+        let (state, rest) = match play.table.state(*panel, *name) {
+            State::Applied => ("applied", self.applied()),
+            State::CutOff => ("cut off", String::new()),
+            State::Pending => ("pending", self.marks() + &self.kept_out() + &self.more()),
+            State::Unknown => ("unknown", self.marks() + &self.more()),
+        };
+        format!("{head}: {state}\n\n{sent}{rest}")
     }
 
-    fn n(&self) -> usize {
-        self.play.table.n
+    fn all(&self) -> RangeInclusive<u8> {
+        self.play.table.controller_numbers()
     }
 
-    fn has(&self, owner: usize, name: Name) -> bool {
+    fn has(&self, owner: u8, name: Name) -> bool {
         log(&self.play.table, owner).contains(&name)
-    }
-
-    fn is_pending(&self) -> bool {
-        pending(&self.play.table, self.panel).contains(&self.name)
-    }
-
-    /// Whether its entry in its sender's own log went with the sender's stop.
-    fn is_cut_off(&self) -> bool {
-        !self.has(self.name.sender as usize, self.name)
     }
 
     /// How many marks the panel's controller has for a message.
     fn marks_of(&self, name: Name) -> usize {
-        self.play.slot(name).map_or(0, |slot| marks(&self.play.table, self.panel, slot).len())
+        self.play.marks(self.panel, name).len()
     }
 
-    /// When it was sent, whether it was cut off, and whether the panel still applies anything.
+    /// When the message was sent, whether it was cut off, and whether the panel still applies anything.
     fn sent(&self) -> String {
         let Question { play, name, panel } = self;
         let mut text = String::new();
         if let Some(step) = play.sent(*name) {
             let _ = writeln!(text, "sent at event {} ({})", step.number, record_text(step.record));
         }
-        if let Some(step) = play.stopped(name.sender as usize).filter(|_| self.is_cut_off()) {
+        if let Some(step) = play.stopped(name.sender).filter(|_| !self.has(name.sender, *name)) {
             let event = format!("event {} ({})", step.number, record_text(step.record));
             let _ = writeln!(text, "cut off at {event}: nobody had read it in the log of {}", name.sender);
         }
@@ -67,30 +58,29 @@ impl Question<'_> {
         text
     }
 
-    /// When it was applied, with what, and what the panel then showed.
-    fn applied(&self) -> Option<String> {
-        let (step, applied) = self.play.applied(self.name, self.panel)?;
+    /// When the message was applied, with which others, and what the panel then showed.
+    fn applied(&self) -> String {
+        let Some((step, applied)) = self.play.applied(self.name, self.panel) else { return String::new() };
         let others: Vec<Name> = applied.names.iter().copied().filter(|other| *other != self.name).collect();
         let set = match &others[..] {
             [] => "alone".into(),
             others => format!("as one set with {}", list(others)),
         };
         let event = format!("event {} ({})", step.number, record_text(step.record));
-        Some(format!("applied at {event}, {set}; the panel then showed {}\n", sums(applied.sums)))
+        format!("applied at {event}, {set}; the panel then showed {}\n", sums(applied.sums))
     }
 
-    /// Which controllers have marked it, and how many are needed.
+    /// Which controllers have marked the message, and how many are needed.
     fn marks(&self) -> String {
         let Question { play, name, panel } = self;
-        let marks = play.slot(*name).map(|slot| marks(&play.table, *panel, slot)).unwrap_or_default();
+        let marks = play.marks(*panel, *name);
         let mut text = format!("\nmarks at panel {panel}: {} ({} needed)\n", marks.len(), play.majority());
         let mut possible = 0;
-        for f in 1..=self.n() {
+        for f in self.all() {
             let mark = marks.iter().find(|(owner, _)| *owner == f);
             let entry = log(&play.table, f).iter().position(|other| other == name);
             let state = match (mark, entry, play.stopped(f)) {
-                (Some((_, mark)), Some(_), _) => format!("marked, entry {mark} of its log"),
-                (Some((_, mark)), None, _) => format!("marked, entry {mark} of its log before that was cut"),
+                (Some((_, mark)), _, _) => format!("marked, entry {mark} of its log"),
                 (None, Some(place), _) => format!("in its log as entry {}, which {panel} has not read", place + 1),
                 (None, None, Some(step)) => format!("not in its log, and stopped at event {}", step.number),
                 (None, None, None) => format!("not in its log{}", self.to_hear(f)),
@@ -104,46 +94,47 @@ impl Question<'_> {
         text
     }
 
-    /// Whether the panel may yet learn of a controller's mark: it runs, and the controller's log has the message, or may.
-    fn may_mark(&self, f: usize) -> bool {
-        let runs = |c: usize| self.play.stopped(c).is_none();
-        let anywhere = || (1..=self.n()).any(|owner| self.has(owner, self.name));
-        runs(self.panel) && (self.has(f, self.name) || runs(f) && anywhere())
+    /// Whether the panel may yet learn of a controller's mark: the panel's controller runs, and the log of the other has the
+    /// message or may get it.
+    fn may_mark(&self, f: u8) -> bool {
+        let table = &self.play.table;
+        let anywhere = || self.all().any(|owner| self.has(owner, self.name));
+        table.runs(self.panel) && (self.has(f, self.name) || table.runs(f) && anywhere())
     }
 
     /// Which handovers let a controller hear of the message.
-    fn to_hear(&self, f: usize) -> String {
+    fn to_hear(&self, f: u8) -> String {
         self.shortest(f, self.name).map_or(String::new(), |hand| format!("; {hand} would put it there"))
     }
 
     /// The fewest handovers with which a controller reads a message.
-    fn shortest(&self, reader: usize, name: Name) -> Option<String> {
-        let unread =
-            |owner: usize| words::unread(self.play, owner, reader).iter().position(|(_, other)| *other == name);
-        let ways = (1..=self.n()).filter_map(|owner| Some((owner, unread(owner)? + 1)));
+    fn shortest(&self, reader: u8, name: Name) -> Option<String> {
+        let unread = |owner: u8| words::unread(self.play, owner, reader).iter().position(|(_, other)| *other == name);
+        let ways = self.all().filter_map(|owner| Some((owner, unread(owner)? + 1)));
         ways.min_by_key(|(_, times)| *times).map(|(owner, times)| hand(reader, owner, times))
     }
 
-    /// The other pending messages that a message does not go before, with how many put it first and how many the other.
-    fn not_behind(&self, name: Name) -> Vec<(Name, usize, usize)> {
+    /// The other pending messages that a message does not go before. With each stand two counts: how many controllers put
+    /// the message first, and how many the other.
+    fn not_before(&self, name: Name) -> Vec<(Name, usize, usize)> {
         let Question { play, panel, .. } = self;
         let before = |first: Name, second: Name| count_before(&play.table, *panel, first, second).unwrap_or(0);
-        let others = pending(&play.table, *panel).into_iter().filter(|other| *other != name);
+        let others = held(&play.table, *panel).into_iter().filter(|other| *other != name);
         let counts = others.map(|other| (other, before(name, other), before(other, name)));
         counts.filter(|(_, first, _)| *first < play.majority()).collect()
     }
 
-    /// Which pending messages keep it out, and by what count.
+    /// Which pending messages keep the message out, and by what count.
     fn kept_out(&self) -> String {
         let Question { play, name, panel } = self;
         let needed = play.majority();
-        if pending(&play.table, *panel).iter().all(|other| self.marks_of(*other) >= needed) {
-            let next = (1..=self.n()).find(|owner| !words::unread(play, *owner, *panel).is_empty());
-            let next = next.filter(|_| play.stopped(*panel).is_none());
+        if held(&play.table, *panel).iter().all(|other| self.marks_of(*other) >= needed) {
+            let next = self.all().find(|owner| play.table.unread(*panel, *owner) > 0);
+            let next = next.filter(|_| play.table.runs(*panel));
             let next = next.map_or(String::new(), |owner| format!(": {} applies it", hand(*panel, owner, 1)));
             return format!("\nall that is pending here has its marks, and sets are applied at handovers{next}\n");
         }
-        let others = self.not_behind(*name);
+        let others = self.not_before(*name);
         let what = if self.marks_of(*name) < needed { "does not go before, so far" } else { "kept out by" };
         let number = match others.len() {
             0 => "none".into(),
@@ -154,17 +145,22 @@ impl Question<'_> {
             let [put, back] = [first, second].map(|number| if number == 1 { "puts" } else { "put" });
             let counts = format!("{first} {put} {name} before it, {needed} needed; {second} {back} it before {name}");
             let marks = count(self.marks_of(other), "mark", "marks");
-            let _ = writeln!(text, "    {}: {counts}; it has {marks}", message(play, other));
+            let mut what = message(play, other);
+            if play.table.state(*panel, other) == State::CutOff {
+                what.insert_str(what.len() - 1, ", cut off");
+            }
+            let _ = writeln!(text, "    {what}: {counts}; it has {marks}");
         }
         text
     }
 
-    /// The message, what it does not go before, and what these do not go before, and so on.
+    /// The message, the messages that it does not go before, those that these do not go before, and so on.
     fn concerned(&self) -> Vec<Name> {
         let mut names = vec![self.name];
         let mut next = 0;
-        while let Some(name) = names.get(next).copied().filter(|_| self.is_pending()) {
-            let others = self.not_behind(name).into_iter().map(|(other, _, _)| other);
+        let pending = self.play.table.state(self.panel, self.name) == State::Pending;
+        while let Some(name) = names.get(next).copied().filter(|_| pending) {
+            let others = self.not_before(name).into_iter().map(|(other, _, _)| other);
             let new: Vec<Name> = others.filter(|other| !names.contains(other)).collect();
             names.extend(new);
             next += 1;
@@ -172,19 +168,20 @@ impl Question<'_> {
         names
     }
 
-    /// What is unread here of this message and of those that concern it, and which of them are in too few logs.
+    /// What the panel's controller has not read of the message and of those that concern it, and which of these are in too
+    /// few logs.
     fn more(&self) -> String {
         let Question { play, panel, .. } = self;
-        if play.stopped(*panel).is_some() {
+        if !play.table.runs(*panel) {
             return String::new();
         }
         let concerned = self.concerned();
         let mut lines = vec![];
-        for owner in 1..=self.n() {
+        for owner in self.all() {
             let unread = (1..).zip(words::unread(play, owner, *panel));
             for (times, (entry, other)) in unread.filter(|(_, (_, other))| concerned.contains(other)) {
-                if !self.is_marked(other, owner) {
-                    let read = entries(controller(&play.table, *panel).read[owner - 1]);
+                if play.marks(*panel, other).iter().all(|(f, _)| *f != owner) {
+                    let read = entries(read(&play.table, *panel, owner));
                     let place = format!("entry {entry} of {} ({read} read)", log_of(owner, *panel));
                     lines.push(format!("{}: {}, {place}", hand(*panel, owner, times), message(play, other)));
                 }
@@ -197,25 +194,18 @@ impl Question<'_> {
         lines.iter().fold(format!("\nwhat would bring more:{head}\n"), |text, line| format!("{text}    {line}\n"))
     }
 
-    /// Whether the panel's controller has a controller's mark for a message.
-    fn is_marked(&self, name: Name, owner: usize) -> bool {
-        let slot = self.play.slot(name);
-        slot.is_some_and(|slot| marks(&self.play.table, self.panel, slot).iter().any(|(f, _)| *f == owner))
-    }
-
     /// Handovers that put a message in more logs, if fewer have it than marks are needed.
     fn too_few_logs(&self, name: Name) -> Vec<String> {
-        let having = (1..=self.n()).filter(|owner| self.has(*owner, name)).count();
+        let having = self.all().filter(|owner| self.has(*owner, name)).count();
         let needed = self.play.majority();
-        let others =
-            (1..=self.n()).filter(|f| having < needed && !self.has(*f, name) && self.play.stopped(*f).is_none());
+        let others = self.all().filter(|f| having < needed && !self.has(*f, name) && self.play.table.runs(*f));
         let logs = count(having, "log has", "logs have");
-        let what = |f: usize| format!("puts {} in log {f}; {logs} it, {needed} needed", message(self.play, name));
+        let what = |f: u8| format!("puts {} in log {f}; {logs} it, {needed} needed", message(self.play, name));
         others.filter_map(|f| Some(format!("{}: {}", self.shortest(f, name)?, what(f)))).collect()
     }
 }
 
 /// Handovers to one reader from one log, as a text has them: "hand 3 <- 1 1".
-fn hand(reader: usize, owner: usize, times: usize) -> String {
+fn hand(reader: u8, owner: u8, times: usize) -> String {
     format!("`hand {reader} <-{}`", format!(" {owner}").repeat(times))
 }

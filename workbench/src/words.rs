@@ -1,15 +1,16 @@
-//! Events, sets and refusals in words. Each says what was read from an answer or from a table.
+//! Events, sets and refusals in words. What they say was read from an answer or from a table.
 
-use crate::play::{actor, controller, log, name_of, pending, Applied, Effect, Heard, Play, Refused, Step};
+use crate::play::{actor, controller, in_state, log, read, Applied, Effect, Heard, Play, Refused, Step};
+use crate::source::is_text;
 use crate::text::record_text;
-use furnacejade::{Class, Message, Name, Payload, Record, Refusal, Sums};
+use furnacejade::{Class, Message, Name, Payload, Record, Refusal, State, Sums};
 
-/// One thing or several: "1 entry", "2 entries".
+/// A number of things: "1 entry", "2 entries".
 pub fn count(number: usize, one: &str, more: &str) -> String {
     format!("{number} {}", if number == 1 { one } else { more })
 }
 
-/// "1.1, 2.1 and 3.1".
+/// Things in a sentence: "1.1, 2.1 and 3.1".
 pub fn list<T: ToString>(things: &[T]) -> String {
     let texts: Vec<String> = things.iter().map(T::to_string).collect();
     match &texts[..] {
@@ -29,11 +30,12 @@ pub fn sums(Sums { added, withdrawn }: Sums) -> String {
 /// What a message says: "+30", "-2 M", "sync", "register 3 = 1500".
 pub fn said(message: &Message) -> String {
     let Payload { kind, class, added, withdrawn, reg, value } = message.payload;
-    match (kind, class) {
+    let amount = i32::from(added) - i32::from(withdrawn);
+    match (kind, class.class()) {
         (Payload::SYNC, _) => "sync".into(),
         (Payload::WRITE, _) => format!("register {reg} = {value}"),
-        (_, Class::NONE) => format!("{:+}", added as i32 - withdrawn as i32),
-        _ => format!("{:+} {class}", added as i32 - withdrawn as i32),
+        (_, None | Some(Class::None)) => format!("{amount:+}"),
+        (_, Some(class)) => format!("{amount:+} {class}"),
     }
 }
 
@@ -44,7 +46,7 @@ pub fn message(play: &Play, name: Name) -> String {
 }
 
 /// A log as seen by one of its readers: "its own log", "log 2".
-pub fn log_of(owner: usize, reader: usize) -> String {
+pub fn log_of(owner: u8, reader: u8) -> String {
     if owner == reader {
         "its own log".into()
     } else {
@@ -52,13 +54,21 @@ pub fn log_of(owner: usize, reader: usize) -> String {
     }
 }
 
-/// What an event did, but for the set that it applied.
+/// The range of the panels of a run.
+pub fn panels(n: usize) -> String {
+    match n {
+        1 => "the only panel is 1".into(),
+        _ => format!("panels are 1 to {n}"),
+    }
+}
+
+/// What an event did. The set that it applied has a line of its own.
 pub fn effect(play: &Play, step: &Step) -> String {
     let c = step.controller;
     match &step.effect {
         Effect::Sent(name) => format!("controller {c} sends {}", message(play, *name)),
         Effect::Read { owner, entry, name, heard, marks } => {
-            let read = format!("controller {c} reads {name}, entry {entry} of {}", log_of(*owner as usize, c));
+            let read = format!("controller {c} reads {name}, entry {entry} of {}", log_of(*owner, c));
             let heard = match heard {
                 Heard::Forwarded { entry } => format!("new to it, forwarded as entry {entry} of its own log"),
                 Heard::Marked => format!("marked by {owner}"),
@@ -72,7 +82,7 @@ pub fn effect(play: &Play, step: &Step) -> String {
         }
         Effect::Stopped { kept, lost } => {
             let stops = format!("controller {c} stops: {} of {} kept", kept, entries(kept + lost.len()));
-            let (own, others): (Vec<Name>, Vec<Name>) = lost.iter().partition(|name| name.sender as usize == c);
+            let (own, others): (Vec<Name>, Vec<Name>) = lost.iter().partition(|name| name.sender == c);
             let cut = |names: &[Name], what: &str| match names {
                 [] => String::new(),
                 _ => format!("; {what} {}", list(names)),
@@ -83,7 +93,7 @@ pub fn effect(play: &Play, step: &Step) -> String {
     }
 }
 
-/// A set with its messages and the panel's sums.
+/// A set that a panel applied, with its messages and the sums that the panel then shows.
 pub fn applied(play: &Play, step: &Step, Applied { names, sums: shown, finished }: &Applied) -> String {
     let c = step.controller;
     let messages: Vec<String> = names.iter().map(|name| message(play, *name)).collect();
@@ -109,7 +119,7 @@ fn forms(kind: u8) -> Vec<Record> {
     (1..16).filter_map(record).collect()
 }
 
-/// The version that a form belongs to, if it belongs to one alone.
+/// The version in which records have this form, if they have it in one version only.
 fn version_of(form: Record) -> Option<u8> {
     match form {
         Record::Report { .. } => Some(1),
@@ -118,15 +128,15 @@ fn version_of(form: Record) -> Option<u8> {
     }
 }
 
-/// What is wrong with the form of a record, of which these are the bytes that are there; nothing if it has the form of one
-/// of this version.
+/// What is wrong with the form of a record; none if it has the form of a record of this version. Of a record that is cut
+/// short these are the bytes that are there.
 pub fn malformed(bytes: &[u8], version: u8) -> Option<String> {
     let (length, rest) = bytes.split_first()?;
     if rest.len() < *length as usize {
         let there = count(rest.len(), "is", "are");
         return Some(format!("the length byte counts {}, and {there} there", count(*length as usize, "byte", "bytes")));
     }
-    let Some(kind) = rest.first() else { return Some("the length is 0, and so there is no kind".into()) };
+    let Some(kind) = rest.first() else { return Some("the length is 0, so there is no kind".into()) };
     if ![1, 2].contains(&version) && Record::from_bytes(bytes).is_some() {
         return None;
     }
@@ -154,41 +164,50 @@ fn named(record: Record) -> Vec<u8> {
     }
 }
 
-/// The fact behind a refusal, read from the bytes and the table.
-pub fn fact(play: &Play, refused: &Refused) -> Option<String> {
-    let number = refused.number;
-    match number {
-        Refusal::FILE_LENGTH => return Some(format!("the file has {}", count(play.file.len(), "byte", "bytes"))),
-        Refusal::VERSION => return Some(format!("byte 0, the version, is {}", play.file.first()?)),
-        Refusal::COUNT => return Some(format!("byte 1, the number of controllers, is {}", play.file.get(1)?)),
-        Refusal::RECORD | Refusal::KIND | Refusal::LENGTH => return malformed(refused.bytes, play.table.version as u8),
+/// The reason for a refusal, read from the bytes and the table.
+pub fn reason(play: &Play, refused: &Refused) -> Option<String> {
+    let (table, refusal) = (&play.table, refused.refusal);
+    match refusal {
+        Refusal::FileLength => return Some(format!("the file has {}", count(play.file.len(), "byte", "bytes"))),
+        Refusal::Version => {
+            let hint = if is_text(play.file) { "; these bytes look like a text, which --text takes" } else { "" };
+            return Some(format!("byte 0, the version, is {}{hint}", play.file.first()?));
+        }
+        Refusal::ControllerCount => {
+            return Some(format!("byte 1, the number of controllers, is {}", play.file.get(1)?));
+        }
+        Refusal::Record | Refusal::Kind | Refusal::RecordLength => {
+            return malformed(refused.bytes, table.version as u8)
+        }
         _ => {}
     }
     let record = Record::from_bytes(refused.bytes)?;
-    if number == Refusal::CONTROLLER {
-        let n = play.table.n;
-        let strangers: Vec<u8> = named(record).into_iter().filter(|c| !(1..=n).contains(&(*c as usize))).collect();
-        return Some(format!("the run has controllers 1 to {n}, and none is {}", strangers.first()?));
-    }
-    let c = actor(record) as usize;
-    match (number, record) {
-        (Refusal::STOPPED, _) => Some(format!("controller {c} stopped at event {}", play.stopped(c)?.number)),
-        (Refusal::FULL, _) => Some(format!("the run has {}", count(play.table.count, "message", "messages"))),
-        (Refusal::OWN_PENDING | Refusal::READ_PENDING, _) => own_pending(play, c),
-        (Refusal::NOT_SYNCED, _) => Some(latest(play, c)),
-        (Refusal::NO_ENTRY, Record::Handover { owner, .. }) => Some(all_read(play, c, owner as usize)),
-        (Refusal::KEPT, Record::Stop { kept, .. }) => Some(not_to_keep(play, c, kept as usize)),
-        (Refusal::AMOUNT, Record::Report { amount, .. } | Record::ClassedReport { amount, .. }) => {
+    let c = actor(record);
+    match (refusal, record) {
+        (Refusal::Controller, _) => {
+            let stranger = named(record).into_iter().find(|c| !table.controller_numbers().contains(c))?;
+            Some(format!("the run has controllers 1 to {}, and none is {stranger}", table.n))
+        }
+        (Refusal::Stopped, _) => Some(format!("controller {c} stopped at event {}", play.stopped(c)?.number)),
+        (Refusal::Full, _) => Some(format!("the run has {}", count(table.count, "message", "messages"))),
+        (Refusal::OwnPending | Refusal::ReadPending, _) => own_pending(play, c),
+        (Refusal::NotSynced, _) => Some(match table.latest(c) {
+            Some(name) => format!("the latest message of controller {c} is {}", message(play, name)),
+            None => format!("controller {c} has sent nothing"),
+        }),
+        (Refusal::NoEntry, Record::Handover { owner, .. }) => Some(all_read(play, c, owner)),
+        (Refusal::Kept, Record::Stop { kept, .. }) => Some(not_to_keep(play, c, kept.into())),
+        (Refusal::Amount, Record::Report { amount, .. } | Record::ClassedReport { amount, .. }) => {
             Some(format!("the amount is {amount}"))
         }
-        (Refusal::CLASS, Record::ClassedReport { class, .. }) => Some(format!("the class is {}", class.0)),
-        (Refusal::REGISTER, Record::Write { register, .. }) => Some(format!("the register is {register}")),
+        (Refusal::Class, Record::ClassedReport { class, .. }) => Some(format!("the class is {}", class.0)),
+        (Refusal::Register, Record::Write { register, .. }) => Some(format!("the register is {register}")),
         _ => None,
     }
 }
 
-/// How much of a log a reader has read that has nothing left for it.
-fn all_read(play: &Play, reader: usize, owner: usize) -> String {
+/// How much of a log a reader has read who has read all of it.
+fn all_read(play: &Play, reader: u8, owner: u8) -> String {
     match controller(&play.table, owner).length {
         0 => format!("log {owner} has no entries"),
         1 => format!("controller {reader} has read the one entry of log {owner}"),
@@ -196,35 +215,28 @@ fn all_read(play: &Play, reader: usize, owner: usize) -> String {
     }
 }
 
-/// What forbids to keep so many entries of a log.
-fn not_to_keep(play: &Play, owner: usize, kept: usize) -> String {
-    let (length, read) = (controller(&play.table, owner).length, |r: usize| controller(&play.table, r).read[owner - 1]);
-    match (1..=play.table.n).find(|reader| read(*reader) > kept) {
+/// Why a stop may not keep this number of entries of a log.
+fn not_to_keep(play: &Play, owner: u8, kept: usize) -> String {
+    let read = |reader: u8| read(&play.table, reader, owner);
+    match play.table.controller_numbers().find(|reader| read(*reader) > kept) {
         Some(reader) => {
             format!("controller {reader} has read {} of log {owner}, and {kept} are to be kept", entries(read(reader)))
         }
-        None => format!("log {owner} has {}, and {kept} are to be kept", entries(length)),
+        None => {
+            format!("log {owner} has {}, and {kept} are to be kept", entries(controller(&play.table, owner).length))
+        }
     }
 }
 
-/// What a controller has sent and not applied.
-fn own_pending(play: &Play, c: usize) -> Option<String> {
-    let own: Vec<Name> = pending(&play.table, c).into_iter().filter(|name| name.sender as usize == c).collect();
+/// The messages that a controller has sent and not applied.
+fn own_pending(play: &Play, c: u8) -> Option<String> {
+    let mut own = in_state(&play.table, c, State::Pending);
+    own.retain(|name| name.sender == c);
     let is = if own.len() == 1 { "is" } else { "are" };
     (!own.is_empty()).then(|| format!("{} of its own {is} pending at controller {c}", list(&own)))
 }
 
-/// What a controller has sent last.
-fn latest(play: &Play, c: usize) -> String {
-    let sent = play.table.messages[..play.table.count].iter().filter(|message| message.sender as usize == c);
-    match sent.max_by_key(|message| message.number) {
-        Some(last) => format!("the latest message of controller {c} is {} ({})", name_of(last), said(last)),
-        None => format!("controller {c} has sent nothing"),
-    }
-}
-
-/// Where the names of a log stand that a reader has not read, with their entries.
-pub fn unread(play: &Play, owner: usize, reader: usize) -> Vec<(usize, Name)> {
-    let read = controller(&play.table, reader).read[owner - 1];
-    (1..).zip(log(&play.table, owner)).skip(read).collect()
+/// The entries of a log that a reader has not read: their places and names.
+pub fn unread(play: &Play, owner: u8, reader: u8) -> Vec<(usize, Name)> {
+    (1..).zip(log(&play.table, owner)).skip(read(&play.table, reader, owner)).collect()
 }

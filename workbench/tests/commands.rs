@@ -22,10 +22,12 @@ fn text(bytes: &[u8]) -> String {
     String::from_utf8(bytes.to_vec()).expect("output is text")
 }
 
-/// What a command prints, which ends with this status and has nothing to complain of.
+/// What a command prints that ends with this status. Only where that is 0 it has nothing to complain of.
 fn printed(words: &[&str], input: &[u8], status: i32) -> String {
     let output = workbench(words, input);
-    assert_eq!((text(&output.stderr).as_str(), output.status.code()), ("", Some(status)), "{words:?}");
+    let complaints = text(&output.stderr);
+    assert_eq!(output.status.code(), Some(status), "{words:?}: {complaints}");
+    assert_eq!(complaints.is_empty(), status == 0, "{words:?}: {complaints}");
     text(&output.stdout)
 }
 
@@ -90,7 +92,9 @@ fn what_was_disassembled_assembles_to_the_same_bytes() {
         vec![1, 3],
         vec![0, 255, 0, 0],
         vec![2, 9, 4, 1, 200, 128, 0, 255],
-        b"version 1\n".to_vec(),
+        vec![255],
+        vec![200, 150], // which UTF-8 has too
+        b"v1\x04\x01\x01\x00\x1E".to_vec(),
     ]);
     files.push([vec![1, 3], vec![255; 300], vec![4, 4, 1, 255]].concat());
     for bytes in files {
@@ -110,7 +114,7 @@ fn bytes_that_are_no_record_are_shown_with_their_offset() {
         "",
         "sync 1 # record 1, offset 2",
         "bytes 03 09 01 02 # record 2, offset 5: no kind has the number 9",
-        "bytes 00 # record 3, offset 9: the length is 0, and so there is no kind",
+        "bytes 00 # record 3, offset 9: the length is 0, so there is no kind",
         "report 1 +7 class 2 # record 4, offset 10: a report of version 1 has length 4, and this one 5: it names no class",
         "bytes 04 04 01 # record 5, offset 16: the length byte counts 4 bytes, and 2 are there",
     ];
@@ -127,25 +131,46 @@ fn a_text_with_every_line_is_assembled() {
     assert_eq!(workbench(&["assemble", "-"], lines.as_bytes()).stdout, wanted);
 }
 
-/// Lines behind a head of two, and how the complaint of each begins.
+#[test]
+fn words_may_be_in_capitals_and_classes_in_small_letters() {
+    let assembled = |lines: &str| {
+        let output = workbench(&["assemble", "-"], lines.as_bytes());
+        assert_eq!((text(&output.stderr).as_str(), output.status.code()), ("", Some(0)), "{lines}");
+        output.stdout
+    };
+    let small =
+        "version 2\ncontrollers 5\nreport 4 +30 class M\nreport 4 1 class XL\nsync 1\nhand 1 <- 4\nstop 4 keep 4\n\
+        read 2\nwrite 1 register 3 = 1500\nexpect 2 867 30\nbytes 0a\n";
+    let capitals = small.to_uppercase();
+    assert_eq!(assembled(&capitals), assembled(small));
+    assert_eq!(assembled(&capitals.replace(" M\n", " m\n").replace("XL", "xl")), assembled(small));
+    let wrong = complaint(&["assemble", "-"], b"VERSION 1\nCONTROLLERS 3\nSTOP 1 4\n");
+    let wanted = "standard input:3:8: `4` stands where `keep` belongs; a line reads: stop 1 keep 4\n";
+    assert_eq!(wrong, wanted);
+}
+
+/// Lines after a head of two, and how the complaint of each begins.
 const MISTAKES: &[(&str, &str)] = &[
-    ("synk 1", "3:1: no line begins with `synk`"),
+    ("synk 1", "3:1: no line begins with `synk`; did you mean `sync`?\n"),
+    ("Reprot 1 +5", "3:1: no line begins with `Reprot`; did you mean `report`?\n"),
+    ("handover 1 <- 2", "3:1: no line begins with `handover`; did you mean `hand`?\n"),
+    ("start 1", "3:1: no line begins with `start`; a line begins with one of version, controllers, report, sync, "),
     ("sync", "3:5: the sender is missing"),
-    ("sync 256", "3:6: `256` stands where the sender belongs, a number from 0 to 255"),
-    ("sync 1 2", "3:8: `2` is more than belongs here"),
-    ("  report 1 40000", "3:12: `40000` stands where the amount belongs, a number from -32768 to 32767"),
+    ("sync 256", "3:6: the sender must be a number from 0 to 255, not `256`\n"),
+    ("sync 1 2", "3:8: `2` is one word too many; a line reads: sync 1\n"),
+    ("  report 1 40000", "3:12: the amount must be a number from -32768 to 32767, not `40000`; the engine accepts -360 to 360, and not 0\n"),
     ("report 1 +5 klass 2", "3:13: `klass` stands where `class` belongs"),
-    ("report 1 +5 class XXL", "3:19: `XXL` stands where the class belongs: XL, L, M, S, or a number from 0 to 255"),
+    ("report 1 +5 class XXL", "3:19: the class, if it is not XL, L, M or S, must be a number from 0 to 255, not `XXL`\n"),
     ("hand 1 <-", "3:10: the owner of a log is missing"),
-    ("hand 1 <- 2 x 3", "3:13: `x` stands where the owner of a log belongs"),
+    ("hand 1 <- 2 x 3", "3:13: the owner of a log must be a number from 0 to 255, not `x`\n"),
     ("hand 1 - 2", "3:8: `-` stands where `<-` belongs"),
     ("stop 1 4", "3:8: `4` stands where `keep` belongs"),
-    ("stop 1 keep 65536", "3:13: `65536` stands where how many entries are kept belongs"),
+    ("stop 1 keep 65536", "3:13: the number of entries kept must be a number from 0 to 65535, not `65536`\n"),
     ("write 1 register 3 1500", "3:20: `1500` stands where `=` belongs"),
-    ("write 1 register 3 = 4294967296", "3:22: `4294967296` stands where the value belongs"),
+    ("write 1 register 3 = 4294967296", "3:22: the value must be a number from 0 to 4294967295, not `4294967296`\n"),
     ("expect 1 30", "3:12: what was withdrawn is missing"),
-    ("bytes 0g", "3:7: `0g` stands where bytes belong"),
-    ("bytes 1 2", "3:7: `1` stands where bytes belong"),
+    ("bytes 0g", "3:7: a byte must have two hexadecimal digits, not `0g`\n"),
+    ("bytes 1 2", "3:7: a byte must have two hexadecimal digits, not `1`\n"),
     ("version 1", "3:1: `version` stands where an event belongs"),
     ("\u{1b}[31mx 1", "3:1: no line begins with `\\u{1b}[31mx`"),
     ("# \u{e9}\n\u{e9} 1", "4:1: no line begins with `\u{e9}`"),
@@ -169,21 +194,64 @@ fn mistakes_have_a_file_a_line_and_a_column() {
 fn a_text_begins_with_its_head() {
     let heads = [
         ("", "1:1: the text ends before `version 1` or `version 2`"),
-        ("version 1", "2:1: the text ends before `controllers` and how many there are"),
+        ("version 1", "2:1: the text ends before a line such as `controllers 3`"),
         ("controllers 3", "1:1: `controllers` stands where `version 1` or `version 2` belongs"),
-        ("version 1\nsync 1", "2:1: `sync` stands where `controllers` and how many there are belongs"),
+        ("version 1\nsync 1", "2:1: `sync` stands where a line such as `controllers 3` belongs"),
     ];
     for (text, wanted) in heads {
         assert_eq!(complaint(&["assemble", "-"], text.as_bytes()), format!("standard input:{wanted}\n"));
     }
-    assert_eq!(
-        complaint(&["assemble", "-"], b"version 1\n# \xC3\xA9 \xFF"),
-        "standard input:2:5: a text is written in UTF-8, and this byte is not\n"
-    );
+    let other = complaint(&["assemble", "-"], b"version 1\n# \xC3\xA9 \xFF");
+    assert!(other.starts_with("standard input:2:5: a text is written in UTF-8, and this byte is not; "), "{other}");
     // A mark of the order of bytes is no part of a text, and a text in another encoding is told where.
     let marked = workbench(&["run", "-"], "\u{feff}version 1\ncontrollers 3\n".as_bytes());
     assert_eq!(marked.status.code(), Some(0));
     assert!(complaint(&["run", "-"], b"# Pr\xFCfung\n").starts_with("standard input:1:5: a text is written in UTF-8"));
+}
+
+/// What takes a run file where a command expects a text.
+const BYTES_FOR_A_TEXT: &str = "use --bytes\n";
+
+#[test]
+fn bytes_where_a_text_belongs_name_what_takes_them() {
+    let mangled = b"v1\x04\x01\x01\x00\x1E";
+    let looks = "standard input: this looks like a run file: byte 2 is 04, which no text has; ";
+    for command in [&["run", "-"][..], &["run", "--text", "-"], &["why", "-", "1.1", "1"], &["draw", "-"]] {
+        assert_eq!(complaint(command, mangled), format!("{looks}{BYTES_FOR_A_TEXT}"));
+        // Without such a byte it is a text, or has the place of what is not UTF-8.
+        assert!(complaint(command, b"v1").contains("no line begins with `v1`"));
+        assert!(complaint(command, b"v1\xFF").ends_with(&format!("if this is a run file, {BYTES_FOR_A_TEXT}")));
+    }
+    let advice = "`workbench disassemble` gives its text, and `workbench run` plays it\n";
+    assert_eq!(complaint(&["assemble", "-"], mangled), format!("{looks}{advice}"));
+    let run = complaint(&["assemble", "../bindings/worked.run"], b"");
+    assert!(run.starts_with("../bindings/worked.run: this looks like a run file: byte 0 is 01, "), "{run}");
+    assert!(complaint(&["run", "--text", "../bindings/worked.run"], b"").ends_with(BYTES_FOR_A_TEXT));
+    // A text may have such a byte in a comment.
+    assert!(printed(&["run", "-"], b"version 1 # \x01\ncontrollers 3\n", 0).contains("\n0 events accepted\n"));
+}
+
+#[test]
+fn a_text_where_bytes_belong_names_what_takes_it() {
+    let texts: [&[u8]; 7] = [
+        b"version 1\ncontrollers 3\n",
+        b"# Pr\xFCfung\n",
+        "#\u{5375}\n".as_bytes(),
+        "\u{feff}version 1".as_bytes(),
+        b"bytes 03 09 01 02",
+        b"a",
+        b"\n\n\n",
+    ];
+    let advice = "`workbench assemble` makes a run file of it, and --bytes takes it for one\n";
+    for bytes in texts {
+        let looks = format!("standard input: this looks like a text, and not like a run file; {advice}");
+        assert_eq!(complaint(&["disassemble", "-"], bytes), looks);
+        let shown = printed(&["disassemble", "--bytes", "-"], bytes, 0);
+        let assembled = workbench(&["assemble", "-"], shown.as_bytes());
+        assert_eq!((assembled.stdout, assembled.status.code()), (bytes.to_vec(), Some(0)), "{shown}");
+    }
+    let reason = "byte 0, the version, is 118; these bytes look like a text, which --text takes";
+    assert_refused(&["run", "--bytes", "-"], b"version 1\ncontrollers 3\n", 2, reason);
 }
 
 #[test]
@@ -191,35 +259,110 @@ fn an_expectation_that_fails_is_named_and_fails_the_run() {
     let lines = "version 1\ncontrollers 1\nreport 1 +5\n  expect 1 5 0\nhand 1 <- 1\nexpect 1 5 0\nexpect 2 0 0\n";
     let report = printed(&["run", "-"], lines.as_bytes(), 1);
     for wanted in [
-        "standard input:4:3: FAILED: expected 1 5 0, and panel 1 shows 0 0\n",
+        "standard input:4:3: FAILED: panel 1 shows 0 added, 0 withdrawn; expected: 5 added, 0 withdrawn\n",
         "expect 1 5 0: so it is\n",
-        "standard input:7:1: FAILED: expected 2 0 0, and panel 2 is refused with 8: Is every controller named from 1 to n?\n",
+        "standard input:7:1: FAILED: there is no panel 2: the only panel is 1\n",
         "2 events accepted; of 3 expectations, 1 held, 2 failed\n",
     ] {
         assert!(report.contains(wanted), "{report}");
     }
-    let drawn = workbench(&["draw", "-"], lines.as_bytes());
-    assert_eq!(drawn.status.code(), Some(1));
-    assert!(text(&drawn.stderr).starts_with("standard input:4:3: FAILED: "), "{}", text(&drawn.stderr));
     let report = printed(&["run", "-"], b"version 1\ncontrollers 1\nread 2\nexpect 1 0 0\n", 1);
     assert!(report.contains("0 events accepted; of 1 expectation, 0 held, 1 not reached\n"), "{report}");
 }
 
+#[test]
+fn what_fails_is_on_standard_error_with_its_place() {
+    let lines =
+        "version 1\ncontrollers 3\nreport 1 +5\nexpect 1 5 0\nexpect 9 0 0\n  read 1\nexpect 1 5 0\nexpect 1 5 0\n";
+    let failures = "standard input:4:1: FAILED: panel 1 shows 0 added, 0 withdrawn; expected: 5 added, 0 withdrawn\n\
+        standard input:5:1: FAILED: there is no panel 9: panels are 1 to 3\n\
+        standard input:6:3: record 2 is refused by question 18: has the controller of a local read no message of its own \
+        pending? (1.1 of its own is pending at controller 1)\n";
+    let unreached = "standard input:7:1: 2 expectations were not reached; this is the first\n";
+    let complaints = |words: &[&str], input: &[u8]| {
+        let output = workbench(words, input);
+        assert_eq!((output.stdout.is_empty(), output.status.code()), (false, Some(1)), "{words:?}");
+        text(&output.stderr)
+    };
+    for command in ["run", "draw"] {
+        assert_eq!(complaints(&[command, "-"], lines.as_bytes()), format!("{failures}{unreached}"));
+    }
+    let refused = failures.lines().last().expect("the refusal").to_string() + "\n";
+    assert_eq!(complaints(&["why", "-", "1.1", "1"], lines.as_bytes()), refused);
+    // A run file has no lines: the offset is the place.
+    let at_offset = refused.replace(":6:3: record 2 is", ": record 2, at offset 7, is");
+    assert_eq!(complaints(&["run", "-"], &[1, 3, 4, 1, 1, 0, 5, 2, 5, 1]), at_offset);
+    let file =
+        "standard input: the file is refused by question 2: is the version 1 or 2? (byte 0, the version, is 3)\n";
+    assert_eq!(complaints(&["run", "-"], &[3, 3]), file);
+}
+
+#[test]
+fn an_amount_that_the_engine_refuses_is_noted_where_it_is_assembled() {
+    let lines =
+        "version 1\ncontrollers 3\nreport 1 +361\n  report 1 0\nreport 1 360\nreport 1 -360\nreport 9 -361 class 1\n\
+        bytes 04 01 01 7F FF\n";
+    let output = workbench(&["assemble", "-"], lines.as_bytes());
+    let note = |place: &str, amount: i16| {
+        let question = "by question 9: Is a report's amount from -360 to 360 and not 0?\n";
+        format!("standard input:{place}: note: the engine refuses an amount of {amount} {question}")
+    };
+    let notes = [note("3:1", 361), note("4:3", 0), note("7:1", -361), note("8:1", 32767)].concat();
+    assert_eq!((text(&output.stderr), output.status.code()), (notes, Some(0)));
+    let reports = [[4, 1, 1, 1, 0x69], [4, 1, 1, 0, 0], [4, 1, 1, 1, 0x68], [4, 1, 1, 0xFE, 0x98]].concat();
+    let others = [&[5, 1, 9, 0xFE, 0x97, 1][..], &[4, 1, 1, 0x7F, 0xFF]].concat();
+    assert_eq!(output.stdout, [vec![1, 3], reports, others].concat());
+    // A run says it where it comes to it.
+    assert_refused(&["run", "-"], lines.as_bytes(), 9, "the amount is 361");
+}
+
+#[test]
+fn what_was_cut_off_is_shown_so_at_its_sender_too() {
+    let sample = "samples/stop.txt";
+    for panel in ["1", "5"] {
+        let answer = printed(&["why", sample, "5.3", panel], b"", 0);
+        assert!(answer.starts_with(&format!("5.3 (+12 XL) at panel {panel}, after event 45: cut off\n")), "{answer}");
+        assert!(
+            answer.contains("\ncut off at event 10 (stop 5 keep 2): nobody had read it in the log of 5\n"),
+            "{answer}"
+        );
+        assert!(!answer.contains("marks at panel"), "{answer}");
+    }
+    // Before the stop it was pending, and where others are asked about it is named as what it is.
+    assert!(printed(&["why", sample, "5.3", "5", "--after", "9"], b"", 0).contains("after event 9: pending\n"));
+    assert!(printed(&["why", sample, "1.1", "5"], b"", 0).contains("    5.3 (+12 XL, cut off): 2 put 1.1 before it, "));
+    let report = printed(&["run", sample], b"", 0);
+    let row = |title: &str| {
+        let row = report.lines().find(|line| line.starts_with(title)).unwrap_or_default();
+        row.split_whitespace().collect::<Vec<_>>().join(" ")
+    };
+    assert_eq!(
+        (row("cut off").as_str(), row("pending").as_str()),
+        ("cut off 5.3 5.3 5.3 5.3 5.3", "pending (marks; 3 needed) - - - - 1.1 (2)")
+    );
+    let picture = printed(&["draw", sample], b"", 0);
+    assert!(picture.contains(">pending 1.1 5.1<") && picture.contains(">cut off 5.3<"), "{picture}");
+    // The only controller may have applied what it then cuts off.
+    let alone = b"version 1\ncontrollers 1\nreport 1 +5\nreport 1 +6\nhand 1 <- 1\nstop 1 keep 1\n";
+    assert!(printed(&["why", "-", "1.2", "1"], alone, 0).starts_with("1.2 (+6) at panel 1, after event 4: applied\n"));
+    assert!(!printed(&["run", "-"], alone, 0).contains("\ncut off "));
+}
+
 /// The part of a report that is about its refusal.
 fn refusal(report: &str) -> Vec<&str> {
-    let lines = report.lines().skip_while(|line| !line.contains(" is refused with "));
+    let lines = report.lines().skip_while(|line| !line.contains(" is refused by question "));
     lines.take_while(|line| !line.ends_with(" accepted")).collect()
 }
 
 #[test]
-fn a_refusal_has_its_place_and_the_fact_behind_it() {
+fn a_refusal_has_its_place_and_its_reason() {
     let report = printed(
         &["run", "-"],
         b"version 1\ncontrollers 4\nreport 1 +5\nreport 1 +6\nreport 1 +7\nhand 4 <- 1 1 1 1\n",
         1,
     );
     let wanted = [
-        "record 7 is refused with 13: Does the log have an entry that the receiver has not read?",
+        "record 7 is refused by question 13: does the log have an entry that the receiver has not read?",
         "    because  controller 4 has read all 3 entries of log 1",
         "    event    hand 4 <- 1",
         "    offset   29",
@@ -229,10 +372,10 @@ fn a_refusal_has_its_place_and_the_fact_behind_it() {
     assert_eq!(refusal(&report), wanted);
 }
 
-/// Lines behind a head of version 1 and three controllers, with the number that refuses the last and the fact behind it.
-const FACTS: &[(&str, u8, &str)] = &[
+/// Lines after a head of version 1 and three controllers, the number of the question that refuses the last, and the reason.
+const REASONS: &[(&str, u8, &str)] = &[
     ("bytes 04 01 01", 5, "the length byte counts 4 bytes, and 2 are there"),
-    ("bytes 00", 6, "the length is 0, and so there is no kind"),
+    ("bytes 00", 6, "the length is 0, so there is no kind"),
     ("bytes 01 07", 6, "no kind has the number 7"),
     ("report 1 +5 class 1", 7, "a report of version 1 has length 4, and this one 5: it names no class"),
     ("hand 1 <- 4", 8, "the run has controllers 1 to 3, and none is 4"),
@@ -255,18 +398,18 @@ const FACTS: &[(&str, u8, &str)] = &[
 ];
 
 /// Whether a run is refused with this number, for this reason.
-fn assert_refused(words: &[&str], input: &[u8], number: u8, fact: &str) {
+fn assert_refused(words: &[&str], input: &[u8], number: u8, reason: &str) {
     let report = printed(words, input, 1);
     let found = refusal(&report);
-    assert!(found[0].contains(&format!(" is refused with {number}: ")), "{report}");
-    assert_eq!(found[1], format!("    because  {fact}"));
+    assert!(found[0].contains(&format!(" is refused by question {number}: ")), "{report}");
+    assert_eq!(found[1], format!("    because  {reason}"));
 }
 
 #[test]
-fn each_refusal_of_a_record_says_its_fact() {
+fn each_refusal_of_a_record_says_why() {
     let head = "version 1\ncontrollers 3\n";
-    for (lines, number, fact) in FACTS {
-        assert_refused(&["run", "-"], format!("{head}{lines}\n").as_bytes(), *number, fact);
+    for (lines, number, reason) in REASONS {
+        assert_refused(&["run", "-"], format!("{head}{lines}\n").as_bytes(), *number, reason);
     }
     let full = format!("{head}{}", "report 1 +1\n".repeat(65));
     assert_refused(&["run", "-"], full.as_bytes(), 12, "the run has 64 messages");
@@ -275,23 +418,23 @@ fn each_refusal_of_a_record_says_its_fact() {
         ("report 1 0 class 1", 9, "the amount is 0"),
         ("report 1 1 class 5", 17, "the class is 5"),
     ];
-    for (line, number, fact) in in_version_2 {
-        assert_refused(&["run", "-"], format!("version 2\ncontrollers 3\n{line}\n").as_bytes(), number, fact);
+    for (line, number, reason) in in_version_2 {
+        assert_refused(&["run", "-"], format!("version 2\ncontrollers 3\n{line}\n").as_bytes(), number, reason);
     }
 }
 
 #[test]
-fn each_refusal_of_a_file_says_its_fact() {
+fn each_refusal_of_a_file_says_why() {
     let files: [(&[u8], u8, &str); 4] = [
         (&[1], 1, "the file has 1 byte"),
         (&[1; 65_536], 1, "the file has 65536 bytes"),
         (&[3, 3], 2, "byte 0, the version, is 3"),
         (&[1, 8], 3, "byte 1, the number of controllers, is 8"),
     ];
-    for (bytes, number, fact) in files {
+    for (bytes, number, reason) in files {
         for command in ["run", "why"] {
             let more: &[&str] = if command == "why" { &["1.1", "1"] } else { &[] };
-            assert_refused(&[&[command, "--bytes", "-"], more].concat(), bytes, number, fact);
+            assert_refused(&[&[command, "--bytes", "-"], more].concat(), bytes, number, reason);
         }
     }
     let report = printed(&["run", "-"], b"version 1\ncontrollers 8\n", 1);
@@ -304,8 +447,14 @@ fn why_asks_for_a_message_and_a_panel_that_are_there() {
     let wanted = [
         (vec!["why", sample, "2.1", "1"], "2.1 was not sent in 11 events; sent: 1.1 and 3.1\n"),
         (vec!["why", sample, "3.1", "1", "--after", "4"], "3.1 was not sent in 4 events; sent: 1.1\n"),
-        (vec!["why", sample, "3", "1"], "`3` names no message, as 3.1 does\n"),
-        (vec!["why", sample, "3.1", "4"], "panel 4 is refused with 8: Is every controller named from 1 to n?\n"),
+        (
+            vec!["why", sample, "3", "1"],
+            "`3` names no message: a message is named by its sender and its number, as in 3.1\n",
+        ),
+        (vec!["why", sample, "3.1", "4"], "there is no panel 4: panels are 1 to 3\n"),
+        (vec!["why", sample, "3.1", "0"], "there is no panel 0: panels are 1 to 3\n"),
+        (vec!["why", sample, "3.1", "300"], "there is no panel 300: panels are 1 to 3\n"),
+        (vec!["why", sample, "3.1", "x"], "there is no panel x: panels are 1 to 3\n"),
         (vec!["why", sample, "3.1", "1", "--after", "12"], "event 12 is not reached: 11 events accepted\n"),
     ];
     for (words, wanted) in wanted {
@@ -313,7 +462,7 @@ fn why_asks_for_a_message_and_a_panel_that_are_there() {
     }
     let refused = workbench(&["why", "-", "1.1", "1"], b"version 1\ncontrollers 1\nreport 1 +5\nread 1\n");
     assert_eq!(refused.status.code(), Some(1));
-    assert!(text(&refused.stdout).contains("record 2 is refused with 18: "));
+    assert!(text(&refused.stdout).contains("record 2 is refused by question 18: "));
 }
 
 #[test]
@@ -349,14 +498,23 @@ fn every_command_has_help_and_complains_of_what_it_does_not_know() {
     for command in ["assemble", "disassemble", "run", "why", "draw"] {
         assert!(printed(&[command, "--help"], b"", 0).starts_with(&format!("workbench {command} ")));
         assert!(printed(&["--help"], b"", 0).contains(&format!("    workbench {command} ")));
-        assert!(complaint(&[command, "--loud"], b"").contains("there is no option --loud"));
+        assert!(complaint(&[command, "--loud"], b"").contains("there is no option --loud; `workbench "));
+        assert!(complaint(&[command, "--hlep"], b"").contains("there is no option --hlep; did you mean `--help`? "));
         assert!(complaint(&[command], b"").starts_with(&format!("workbench {command}: ")));
         let more: &[&str] = if command == "why" { &["1.1", "1"] } else { &[] };
         let missing = complaint(&[&[command, "no/such.file"], more].concat(), b"");
         assert!(missing.starts_with("no/such.file: "), "{missing}");
     }
     assert_eq!(workbench(&["assemble", "samples/worked.txt", "-o", "-"], b"").stdout, file("../bindings/worked.run"));
-    assert!(complaint(&["shout"], b"").starts_with("workbench: there is no command shout"));
+    let unknown = "workbench: there is no command ";
+    assert_eq!(complaint(&["shout"], b""), format!("{unknown}shout; `workbench --help` lists them\n"));
+    for (word, meant) in [("rnu", "run"), ("RUN", "run"), ("dissasemble", "disassemble"), ("asm", "")] {
+        let meant = if meant.is_empty() { meant.into() } else { format!("did you mean `{meant}`? ") };
+        assert_eq!(complaint(&[word], b""), format!("{unknown}{word}; {meant}`workbench --help` lists them\n"));
+    }
+    let version = printed(&["--version"], b"", 0);
+    assert_eq!(version, format!("workbench {}, interface {}\n", env!("CARGO_PKG_VERSION"), furnacejade::INTERFACE));
+    assert!(complaint(&["run", "--byte", "-"], b"").contains("there is no option --byte; did you mean `--bytes`? "));
     assert!(complaint(&["assemble", "samples/worked.txt", "-o", "no/such.file"], b"").starts_with("no/such.file: "));
 }
 
