@@ -135,8 +135,8 @@ impl Workbench<'_> {
         Done { output: fs::read(self.file(name)).unwrap_or_default(), ..done }
     }
 
-    /// The text of a file gives the file again. A file that looks like a text is disassembled only if it is said to be a
-    /// run file.
+    /// The text of a file gives the file again. A file that looks like a text is disassembled only if it is said to be
+    /// a run file.
     fn check_text(&self, bytes: &[u8]) -> Result<(), Wrong> {
         let mut text = self.written("disassemble", ("run", bytes), "text", &[]);
         if looks_like_text(bytes) {
