@@ -15,7 +15,7 @@ use core::str::FromStr;
 /// ```
 #[derive(Clone, Copy, Debug, PartialEq, Eq, PartialOrd, Ord, Hash)]
 pub enum Class {
-    /// No class: that of a report of version 1, and of every sync and write.
+    /// No class: reports of version 1, syncs and writes have none.
     None,
     /// Very large eggs.
     Xl,

@@ -44,7 +44,7 @@ pub struct MessageNumber(pub u8);
 pub struct Payload {
     /// [`Payload::REPORT`], [`Payload::SYNC`] or [`Payload::WRITE`].
     pub kind: u8,
-    /// The number of [`Class::Xl`] to [`Class::S`] for a report of version 2, else that of [`Class::None`].
+    /// The number of its class: [`Class::Xl`] to [`Class::S`] for a report of version 2, else [`Class::None`].
     pub class: ClassNumber,
     /// The amount if it is positive, else 0.
     pub added: u16,

@@ -269,7 +269,8 @@ pub fn event<'a>(table: &mut Table, bytes: &'a [u8], scratch: &mut [u8]) -> Resu
     Ok((answer, &bytes[bytes.len().saturating_sub(left)..]))
 }
 
-/// What the panel of a controller shows, 1 to n, running or stopped: the sums, those of each class, and the registers.
+/// What the panel of a controller shows, 1 to n, running or stopped: the sums of all classes together, the sums of each
+/// class, and the registers.
 ///
 /// # Errors
 ///

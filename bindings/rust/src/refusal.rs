@@ -22,8 +22,8 @@ macro_rules! refusals {
                 #[doc = concat!("Question ", $number, ": ", $question)]
                 $name,
             )*
-            /// A number that no question of this package has. It stands in an answer that was made by hand, or in one
-            /// of a later library.
+            /// A number that no question of this package has. It stands in an answer that was made by hand, or
+            /// in an answer of a later library.
             Unknown(NonZeroU8),
         }
 

@@ -25,7 +25,7 @@ pub fn planted(fault: usize) -> bool {
 }
 
 /// The copy of the reference.
-#[allow(dead_code, unused_parens, clippy::all)]
+#[allow(dead_code, unused_imports, unused_parens, clippy::all)]
 mod copy {
     include!(concat!(env!("OUT_DIR"), "/reference.rs"));
 }

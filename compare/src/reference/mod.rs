@@ -6,6 +6,7 @@ mod applied_set;
 pub mod calls;
 mod files;
 mod messages;
+mod queries;
 mod records;
 mod state;
 mod tables;
@@ -14,6 +15,7 @@ mod well_formed;
 pub use applied_set::*;
 pub use files::*;
 pub use messages::*;
+pub use queries::*;
 pub use tables::*;
 pub use well_formed::*;
 

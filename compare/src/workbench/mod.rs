@@ -34,6 +34,12 @@ fn is_drawn(index: usize) -> bool {
     index % DRAWN_IN == index / DRAWN_IN % DRAWN_IN
 }
 
+/// Whether a file looks like a text: it begins with two characters of one, the first of ASCII, and has no byte below 9.
+fn looks_like_text(bytes: &[u8]) -> bool {
+    let in_text = |byte: &u8| matches!(byte, b'\t' | b'\r' | b'\n' | 32..=126 | 128..);
+    bytes.first().is_some_and(u8::is_ascii) && bytes.iter().take(2).all(in_text) && bytes.iter().all(|byte| *byte >= 9)
+}
+
 /// What a check expected, and what it found.
 struct Wrong {
     check: &'static str,
@@ -119,21 +125,26 @@ impl Workbench<'_> {
     }
 
     /// The same for a command that may write its answer to a file.
-    fn written(&self, command: &str, input: (&str, &[u8]), name: &str) -> Done {
+    fn written(&self, command: &str, input: (&str, &[u8]), name: &str, words: &[&str]) -> Done {
         if self.piped {
-            return self.done(command, input, &[]);
+            return self.done(command, input, words);
         }
         // What an earlier command wrote must not be taken for the answer.
         let _ = fs::remove_file(self.file(name));
-        let done = self.done(command, input, &["-o", &self.file(name)]);
+        let done = self.done(command, input, &[words, &["-o", &self.file(name)]].concat());
         Done { output: fs::read(self.file(name)).unwrap_or_default(), ..done }
     }
 
-    /// The text of a file gives the file again.
+    /// The text of a file gives the file again. A file that looks like a text is disassembled only if it is said to be
+    /// a run file.
     fn check_text(&self, bytes: &[u8]) -> Result<(), Wrong> {
-        let text = self.written("disassemble", ("run", bytes), "text");
+        let mut text = self.written("disassemble", ("run", bytes), "text", &[]);
+        if looks_like_text(bytes) {
+            text.ends_with("disassemble: a text", 2)?;
+            text = self.written("disassemble", ("run", bytes), "text", &["--bytes"]);
+        }
         text.ends_with("disassemble", 0)?;
-        let back = self.written("assemble", ("text", &text.output), "again");
+        let back = self.written("assemble", ("text", &text.output), "again", &[]);
         back.ends_with("assemble", 0)?;
         let shown = |bytes: &[u8]| format!("{}\nfrom the text\n{}", hexadecimal(bytes), text.text());
         same("assemble", shown(bytes), shown(&back.output))
@@ -143,6 +154,10 @@ impl Workbench<'_> {
     fn check_run(&self, file: &Played) -> Result<(), Wrong> {
         let done = self.done("run", ("run", file.bytes), &["--bytes"]);
         done.ends_with("run", file.status())?;
+        let said: Vec<&str> =
+            done.errors.lines().map(|line| refusal_in(line).map_or(line, |(_, number)| number)).collect();
+        let refusals: Vec<u8> = Some(file.run.refusal).filter(|refusal| *refusal != 0).into_iter().collect();
+        same("run: standard error", format!("{refusals:?}"), format!("[{}]", said.join(", ")))?;
         let text = done.text();
         same("run", file.printed.clone(), rebuilt(&text).unwrap_or(text.clone()))?;
         same("run: events", events(file), events_in(&text))?;

@@ -3,7 +3,7 @@
 
 use super::played::{first_records, majority, name_text, Played};
 use crate::cases::text::hexadecimal;
-use crate::reference::{Controller, Name, Payload, Register, State, REGISTERS, SCRATCH};
+use crate::reference::{Controller, Name, Payload, Register, Says, Standing, State, REGISTERS, SCRATCH};
 
 /// The words with which the text of a record begins.
 const EVENTS: [&str; 6] = ["report", "sync", "hand", "stop", "read", "write"];
@@ -61,9 +61,9 @@ pub fn rebuilt(text: &str) -> Option<String> {
     None
 }
 
-/// What a line says is refused, and the number: "record 12 is refused with 13: ...".
+/// What a line says is refused, and the number: "record 12 is refused by question 13: ...".
 pub fn refusal_in(line: &str) -> Option<(&str, &str)> {
-    let (what, rest) = line.split_once(" is refused with ")?;
+    let (what, rest) = line.split_once(" is refused by question ")?;
     Some((what, rest.split_once(':')?.0))
 }
 
@@ -178,6 +178,15 @@ pub fn said_of(state: &State, name: &str) -> String {
     }
 }
 
+/// The first line of the row of what was cut off, which has the first message of each panel; if there is one.
+fn cut_off(state: &State) -> Option<Vec<String>> {
+    let names = || state.messages.iter().map(|message| message.name);
+    let first = |c: usize| names().find(|name| state.standing(c, name) == Standing::CutOff);
+    let all: Vec<Option<Name>> = (1..=state.n).map(first).collect();
+    let shown = |name: &Option<Name>| name.as_ref().map_or("-".into(), name_text);
+    all.iter().any(Option::is_some).then(|| all.iter().map(shown).collect())
+}
+
 /// Rows of the table of panels: their titles, and their lines with one space between the cells.
 pub fn rows(state: &State) -> Vec<(String, String)> {
     let shown: Vec<_> = (1..=state.n).filter_map(|c| state.look(c).ok()).collect();
@@ -199,6 +208,7 @@ pub fn rows(state: &State) -> Vec<(String, String)> {
             rows.push(row(&format!("register {r}"), cells));
         }
     }
+    rows.push(cut_off(state).map_or(("cut off".into(), NO_ROW.into()), |cells| row("cut off", cells)));
     for (owner, log) in (0..state.n).map(|owner| (owner, &state.controllers[owner].log)) {
         let cells = state.controllers.iter().map(|c| format!("{} of {}", c.read[owner], log.len())).collect();
         rows.push(row(&format!("read of log {}", owner + 1), cells));
@@ -213,9 +223,12 @@ fn register_text(Register { value, stamp }: Register) -> String {
     }
 }
 
+/// What stands for a row that the table of panels does not have.
+const NO_ROW: &str = "no such row";
+
 /// A row of the table of panels, with one space between its words.
 pub fn row_in(text: &str, title: &str) -> String {
     let table = text.lines().skip_while(|line| !line.contains(" accepted"));
     let mut rows = table.filter(|line| line.strip_prefix(title).is_some_and(|rest| rest.starts_with("  ")));
-    rows.next().unwrap_or("no such row").split_whitespace().collect::<Vec<_>>().join(" ")
+    rows.next().unwrap_or(NO_ROW).split_whitespace().collect::<Vec<_>>().join(" ")
 }

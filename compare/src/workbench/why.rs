@@ -4,7 +4,7 @@
 use super::played::{first_records, majority, name_text, run_of, Played};
 use crate::cases::records::handover;
 use crate::generate::random::Random;
-use crate::reference::{Controller, Name, State, SCRATCH};
+use crate::reference::{Controller, Name, Says, Standing, State, SCRATCH};
 
 /// What is asked: a message and a panel, after an event or at the end, and the state there and then.
 pub struct Question {
@@ -42,12 +42,11 @@ pub fn question(file: &Played) -> Option<Question> {
 
 /// What a message is to a panel.
 pub fn state_of(state: &State, name: &Name, panel: usize) -> &'static str {
-    let at = &state.controllers[panel - 1];
-    match state.controllers[name.sender - 1].log.contains(name) {
-        _ if at.applied.contains(name) => "applied",
-        _ if at.pending.contains_key(name) => "pending",
-        true => "unknown",
-        false => "cut off",
+    match state.standing(panel, name) {
+        Standing::Unknown => "unknown",
+        Standing::Pending => "pending",
+        Standing::Applied => "applied",
+        Standing::CutOff => "cut off",
     }
 }
 
@@ -177,7 +176,7 @@ pub fn followed(state: &State, name: &Name, offer: &str) -> String {
     for owner in &owners {
         let (answer, _) = then.event(&handover(reader, *owner), &mut [0; SCRATCH]);
         if answer.refusal != 0 {
-            return format!("refused with {}", answer.refusal);
+            return format!("refused by question {}", answer.refusal);
         }
     }
     let (at, owner) = (&then.controllers[reader - 1], owners[owners.len() - 1]);
