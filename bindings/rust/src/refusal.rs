@@ -1,7 +1,7 @@
 //! Refusals: one list of their numbers, names and questions, and the types that are made from it.
 
 use core::error::Error;
-use core::fmt::{Display, Formatter};
+use core::fmt::{Debug, Display, Formatter};
 use core::num::NonZeroU8;
 
 macro_rules! refusals {
@@ -14,9 +14,10 @@ macro_rules! refusals {
         /// assert_eq!(refusal, Refusal::Table);
         /// assert_eq!((refusal.number(), refusal.question()), (4, "Is the table well formed?"));
         /// assert_eq!(refusal.to_string(), "refused by question 4: is the table well formed?");
+        /// assert_eq!(format!("{refusal:?}"), "Table (refused by question 4: is the table well formed?)");
         /// ```
         #[non_exhaustive]
-        #[derive(Clone, Copy, Debug, PartialEq, Eq, PartialOrd, Ord, Hash)]
+        #[derive(Clone, Copy, PartialEq, Eq, PartialOrd, Ord, Hash)]
         pub enum Refusal {
             $(
                 #[doc = concat!("Question ", $number, ": ", $question)]
@@ -30,6 +31,13 @@ macro_rules! refusals {
         impl Refusal {
             /// The refusal of each question, in the order of the questions' numbers, from 1 on.
             pub const ALL: &'static [Refusal] = &[$(Refusal::$name,)*];
+
+            const fn name(self) -> &'static str {
+                match self {
+                    $(Refusal::$name => stringify!($name),)*
+                    Refusal::Unknown(_) => "Unknown",
+                }
+            }
 
             /// The number of the question.
             #[must_use]
@@ -89,6 +97,13 @@ impl Display for Refusal {
         let mut question = self.question().chars();
         let first = question.next().map_or(' ', |letter| letter.to_ascii_lowercase());
         write!(f, "refused by question {}: {first}{}", self.number(), question.as_str())
+    }
+}
+
+/// Its name and its text, since this is what a program prints whose `main` returns a refusal.
+impl Debug for Refusal {
+    fn fmt(&self, f: &mut Formatter<'_>) -> core::fmt::Result {
+        write!(f, "{} ({self})", self.name())
     }
 }
 

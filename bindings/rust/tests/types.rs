@@ -24,7 +24,8 @@ fn the_refusals_are_1_to_20_in_order() {
         );
     }
     assert_eq!(Refusal::Controller.to_string(), "refused by question 8: is every controller named from 1 to n?");
-    assert_eq!(format!("{:?}", Refusal::NoEntry), "NoEntry");
+    let shown = "NoEntry (refused by question 13: does the log have an entry that the receiver has not read?)";
+    assert_eq!(format!("{:?}", Refusal::NoEntry), shown);
 }
 
 #[test]
