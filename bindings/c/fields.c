@@ -2,6 +2,7 @@
  * reads nothing else; sees that equal calls make equal tables byte for byte, whatever stood in their memory before; writes
  * every record, and files into places that are too small; and lends random bytes as a table, which the engine answers like any
  * other. */
+#include <limits.h>
 #include <stdio.h>
 #include <stdlib.h>
 #include <string.h>
@@ -325,6 +326,34 @@ static void files(uint8_t version, const uint8_t *file, size_t size) {
     expect(run.refusal, FURNACEJADE_REFUSED_FILE_LENGTH, "a file that did not fit", version, 0);
 }
 
+/* This record has these bytes, and no others. */
+#define IS(record, ...)                                                                                        \
+    do {                                                                                                       \
+        const uint8_t wanted[] = {__VA_ARGS__};                                                                \
+        expect((uint8_t)record.length, sizeof wanted, #record, 0, 0);                                          \
+        expect((uint8_t)(memcmp(record.bytes, wanted, sizeof wanted) == 0), 1, #record, 0, 1);                 \
+    } while (0)
+
+/* A number that its bytes cannot hold becomes the greatest or least that they can: nothing is cut to a number that passes. */
+static void beyond(void) {
+    uint8_t file[FURNACEJADE_HEAD];
+    size_t length;
+    IS(furnacejade_record_report(255, 32767), 4, 1, 255, 0x7F, 0xFF);
+    IS(furnacejade_record_report(257, 65566), 4, 1, 255, 0x7F, 0xFF);
+    IS(furnacejade_record_report(0, -32768), 4, 1, 0, 0x80, 0);
+    IS(furnacejade_record_report(SIZE_MAX, LONG_MIN), 4, 1, 255, 0x80, 0);
+    IS(furnacejade_record_classed_report(256, LONG_MAX, 258), 5, 1, 255, 0x7F, 0xFF, 255);
+    IS(furnacejade_record_sync(513), 2, 2, 255);
+    IS(furnacejade_record_handover(258, 257), 3, 3, 255, 255);
+    IS(furnacejade_record_stop(261, 65536), 4, 4, 255, 0xFF, 0xFF);
+    IS(furnacejade_record_stop(254, 65534), 4, 4, 254, 0xFF, 0xFE);
+    IS(furnacejade_record_local_read(300), 2, 5, 255);
+    IS(furnacejade_record_write(257, 264, 0xA1B2C3D4), 7, 6, 255, 255, 0xA1, 0xB2, 0xC3, 0xD4);
+    expect((uint8_t)furnacejade_put_head(file, sizeof file, &length, 258, 263), 1, "head", 258, 263);
+    expect(file[0], 255, "head", 258, 0);
+    expect(file[1], 255, "head", 263, 1);
+}
+
 /* A record is not put before the head, after the end of the room, or with a length that none has. Header and library are of
  * one state, and the words of a number can be had. */
 static void words(void) {
@@ -634,6 +663,7 @@ int main(void) {
     unused();
     files(1, plain, sizeof plain);
     files(2, classed, sizeof classed);
+    beyond();
     words();
     bytes(plain, sizeof plain);
     bytes(classed, sizeof classed);

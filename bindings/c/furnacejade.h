@@ -8,11 +8,11 @@
  *
  * What is asked of the caller:
  *   - A slice of bytes is passed as its first byte and its length. Pointers are not null, for a slice of length 0 too.
- *   - Tables and answers are aligned as their types are, to 8 bytes (malloc does so). Bytes, scratch and listings may
- *     stand anywhere.
+ *   - Tables and answers are aligned as their types are, to 8 bytes at most (malloc does so). Bytes, scratch and listings
+ *     may stand anywhere.
  *   - What is lent to be written (a table, scratch, a listing, an answer) overlaps nothing else lent to the same call.
- *   - Nothing need be cleared. A call overwrites its answer wholly and reads nothing of it, and it reads no scratch byte
- *     that it has not written. The proofs speak of memory in which every byte has been set once, no matter to what.
+ *   - Nothing need be cleared. A call overwrites every field of its answer and reads nothing of it, and it reads no scratch
+ *     byte that it has not written. The proofs speak of memory in which every byte has been set once, no matter to what.
  * Nothing else is asked: every pattern of bytes is a table, and a call answers it.
  *
  * At the start, see that header and library are of one state:
@@ -329,9 +329,10 @@ FURNACEJADE_FULLY(furnacejade_table,
 #undef FURNACEJADE_BYTES
 #undef FURNACEJADE_ASSERT
 
-/* RECORDS. Each is made by value, so that no place can be too small for it. Nothing is asked of the fields here: the event
- * that is made of the record answers what is wrong with them. A report is written for tables and files of one version; the
- * other records are the same in both.
+/* RECORDS. Each is made by value, so that no place can be too small for it. A field may hold anything: the event that is made
+ * of the record answers what is wrong with it. A number that its bytes cannot hold becomes the greatest (or least) that they
+ * can, which no question lets pass: lane 257 is not taken for lane 1. Only a register's value has no such number; it has 32
+ * bits. A report is written for tables and files of one version; the other records are the same in both.
  *
  *     furnacejade_play(table, furnacejade_record_handover(2, 1), scratch, sizeof scratch, &answer);
  */
@@ -340,58 +341,70 @@ typedef struct {
     uint8_t bytes[FURNACEJADE_LONGEST_RECORD];
 } furnacejade_record;
 
+/* A number as one byte: 255 if it is greater. */
+static inline uint8_t furnacejade_byte(size_t number) { return number < 255 ? (uint8_t)number : 255; }
+
+/* An amount as two bytes: -32,768 or 32,767 if it is beyond. */
+static inline uint16_t furnacejade_amount(long amount) {
+    return (uint16_t)(amount < -32768 ? -32768 : amount > 32767 ? 32767 : amount);
+}
+
 /* Kind 1 in version 1: a report of an amount by its sender. Any number of a sender's reports may be pending. */
-static inline furnacejade_record furnacejade_record_report(uint8_t sender, int16_t amount) {
-    furnacejade_record record = {5, {4, 1, sender, (uint8_t)((uint16_t)amount >> 8), (uint8_t)((uint16_t)amount & 255)}};
+static inline furnacejade_record furnacejade_record_report(size_t sender, long amount) {
+    uint16_t two = furnacejade_amount(amount);
+    furnacejade_record record = {5, {4, 1, furnacejade_byte(sender), (uint8_t)(two >> 8), (uint8_t)(two & 255)}};
     return record;
 }
 
 /* Kind 1 in version 2: a report of an amount of one weight class by its sender. */
-static inline furnacejade_record furnacejade_record_classed_report(uint8_t sender, int16_t amount, uint8_t weight_class) {
+static inline furnacejade_record furnacejade_record_classed_report(size_t sender, long amount, size_t weight_class) {
+    uint16_t two = furnacejade_amount(amount);
     furnacejade_record record = {
-        6, {5, 1, sender, (uint8_t)((uint16_t)amount >> 8), (uint8_t)((uint16_t)amount & 255), weight_class}};
+        6, {5, 1, furnacejade_byte(sender), (uint8_t)(two >> 8), (uint8_t)(two & 255), furnacejade_byte(weight_class)}};
     return record;
 }
 
-/* Kind 2: a sync by its sender. The handover with which the sender applies it answers finished 1 and the sums. A message is
- * finished when its own sender has applied it: every message of any controller that was finished before the sync was sent is
- * in these sums. A sync is refused (11) while a message of the sender's own is pending. */
-static inline furnacejade_record furnacejade_record_sync(uint8_t sender) {
-    furnacejade_record record = {3, {2, 2, sender}};
+/* Kind 2: a sync by its sender. The handover with which the sender applies it answers finished 1 and the sums; the next call
+ * overwrites that answer. A message is finished when its own sender has applied it: every message of any controller that was
+ * finished before the sync was sent is in these sums. A sync is refused (11) while a message of the sender's own is pending. */
+static inline furnacejade_record furnacejade_record_sync(size_t sender) {
+    furnacejade_record record = {3, {2, 2, furnacejade_byte(sender)}};
     return record;
 }
 
 /* Kind 3: a handover to a receiver of the next entry of an owner's log. */
-static inline furnacejade_record furnacejade_record_handover(uint8_t receiver, uint8_t owner) {
-    furnacejade_record record = {4, {3, 3, receiver, owner}};
+static inline furnacejade_record furnacejade_record_handover(size_t receiver, size_t owner) {
+    furnacejade_record record = {4, {3, 3, furnacejade_byte(receiver), furnacejade_byte(owner)}};
     return record;
 }
 
 /* Kind 4: a stop of a controller, whose log is cut to the length kept. */
-static inline furnacejade_record furnacejade_record_stop(uint8_t controller, uint16_t kept) {
-    furnacejade_record record = {5, {4, 4, controller, (uint8_t)(kept >> 8), (uint8_t)(kept & 255)}};
+static inline furnacejade_record furnacejade_record_stop(size_t controller, size_t kept) {
+    uint16_t two = kept < 65535 ? (uint16_t)kept : 65535;
+    furnacejade_record record = {5, {4, 4, furnacejade_byte(controller), (uint8_t)(two >> 8), (uint8_t)(two & 255)}};
     return record;
 }
 
 /* Kind 5: a local read of a controller's sums. It sends no message and leaves the table as it is. The sums stand in the
  * answer, and may lack what is finished elsewhere. It is refused (18) while a message of the controller's own is pending. */
-static inline furnacejade_record furnacejade_record_local_read(uint8_t controller) {
-    furnacejade_record record = {3, {2, 5, controller}};
+static inline furnacejade_record furnacejade_record_local_read(size_t controller) {
+    furnacejade_record record = {3, {2, 5, furnacejade_byte(controller)}};
     return record;
 }
 
 /* Kind 6: a write of a register, 1 to 8, by its sender. Its sender sends a sync first, applies it, and then writes before it
  * sends anything else. A write is refused (20) if the sender's latest message is no sync, and (11) while a message of the
  * sender's own is pending. */
-static inline furnacejade_record furnacejade_record_write(uint8_t sender, uint8_t reg, uint32_t value) {
-    furnacejade_record record = {8, {7, 6, sender, reg, (uint8_t)(value >> 24), (uint8_t)(value >> 16 & 255),
-                                     (uint8_t)(value >> 8 & 255), (uint8_t)(value & 255)}};
+static inline furnacejade_record furnacejade_record_write(size_t sender, size_t reg, uint32_t value) {
+    furnacejade_record record = {
+        8, {7, 6, furnacejade_byte(sender), furnacejade_byte(reg), (uint8_t)(value >> 24), (uint8_t)(value >> 16 & 255),
+            (uint8_t)(value >> 8 & 255), (uint8_t)(value & 255)}};
     return record;
 }
 
 /* RUN FILES. A file is written from its head on into a place with room for a given number of bytes, and *length counts what
  * has been written. Each function returns 1 if its bytes fit. Otherwise it writes nothing and returns 0, and *length becomes 0
- * and stays that: a file without a head takes no record, and furnacejade_run refuses it by question 1. The compiler warns
+ * and stays that: no record is put while *length is below 2, and furnacejade_run refuses the file by question 1. The compiler warns
  * where the result is not looked at.
  *
  *     size_t length;
@@ -406,11 +419,11 @@ static inline furnacejade_record furnacejade_record_write(uint8_t sender, uint8_
 #endif
 
 /* The two bytes that a run file begins with: its version, 1 or 2, and the number of controllers. It sets *length. */
-FURNACEJADE_USE_RESULT static inline int furnacejade_put_head(uint8_t *file, size_t room, size_t *length, uint8_t version, uint8_t n) {
+FURNACEJADE_USE_RESULT static inline int furnacejade_put_head(uint8_t *file, size_t room, size_t *length, size_t version, size_t n) {
     *length = 0;
     if (room < FURNACEJADE_HEAD) return 0;
-    file[0] = version;
-    file[1] = n;
+    file[0] = furnacejade_byte(version);
+    file[1] = furnacejade_byte(n);
     *length = FURNACEJADE_HEAD;
     return 1;
 }
@@ -493,7 +506,8 @@ static inline unsigned furnacejade_state(const furnacejade_table *t, size_t c, f
     return controller->pending[slot].held ? FURNACEJADE_PENDING : FURNACEJADE_UNKNOWN;
 }
 
-/* How many entries of an owner's log a receiver has not read. Question 13 asks whether there is one. */
+/* How many entries of an owner's log a receiver has not read. Question 13 asks whether there is one. A receiver that has
+ * stopped keeps its unread entries for good: a loop that hands over asks furnacejade_runs too. */
 static inline size_t furnacejade_unread(const furnacejade_table *t, size_t receiver, size_t owner) {
     const furnacejade_controller *reader = furnacejade_controller_of(t, receiver), *log = furnacejade_controller_of(t, owner);
     if (!reader || !log || log->length < reader->read[owner - 1]) return 0;
@@ -501,7 +515,8 @@ static inline size_t furnacejade_unread(const furnacejade_table *t, size_t recei
 }
 
 /* The least length that a stop of a controller may keep, which is the greatest read position that anybody has in its log, and
- * the greatest, which is the log's length. Question 14 asks whether the length kept is one from the least to the greatest. */
+ * the greatest, which is the log's length. Question 14 asks whether the length kept is one from the least to the greatest. (A
+ * controller that has stopped is not stopped again: question 10 comes first.) */
 static inline size_t furnacejade_least_kept(const furnacejade_table *t, size_t c) {
     size_t least = 0;
     if (!furnacejade_controller_of(t, c)) return 0;
