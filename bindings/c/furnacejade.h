@@ -344,6 +344,9 @@ typedef struct {
 /* A number as one byte: 255 if it is greater. */
 static inline uint8_t furnacejade_byte(size_t number) { return number < 255 ? (uint8_t)number : 255; }
 
+/* A length as two bytes: 65,535 if it is greater. */
+static inline uint16_t furnacejade_length(size_t length) { return length < 65535 ? (uint16_t)length : 65535; }
+
 /* An amount as two bytes: -32,768 or 32,767 if it is beyond. */
 static inline uint16_t furnacejade_amount(long amount) {
     return (uint16_t)(amount < -32768 ? -32768 : amount > 32767 ? 32767 : amount);
@@ -380,7 +383,7 @@ static inline furnacejade_record furnacejade_record_handover(size_t receiver, si
 
 /* Kind 4: a stop of a controller, whose log is cut to the length kept. */
 static inline furnacejade_record furnacejade_record_stop(size_t controller, size_t kept) {
-    uint16_t two = kept < 65535 ? (uint16_t)kept : 65535;
+    uint16_t two = furnacejade_length(kept);
     furnacejade_record record = {5, {4, 4, furnacejade_byte(controller), (uint8_t)(two >> 8), (uint8_t)(two & 255)}};
     return record;
 }
@@ -516,17 +519,18 @@ static inline size_t furnacejade_unread(const furnacejade_table *t, size_t recei
 
 /* The least length that a stop of a controller may keep, which is the greatest read position that anybody has in its log, and
  * the greatest, which is the log's length. Question 14 asks whether the length kept is one from the least to the greatest. (A
- * controller that has stopped is not stopped again: question 10 comes first.) */
+ * controller that has stopped is not stopped again: question 10 comes first.) A length is given as a stop's record has it, which
+ * is 65,535 if it is greater; no well-formed table has such a length. */
 static inline size_t furnacejade_least_kept(const furnacejade_table *t, size_t c) {
     size_t least = 0;
     if (!furnacejade_controller_of(t, c)) return 0;
     for (size_t reader = 0; reader < furnacejade_controllers(t); reader++)
         if (least < t->controllers[reader].read[c - 1]) least = t->controllers[reader].read[c - 1];
-    return least;
+    return furnacejade_length(least);
 }
 static inline size_t furnacejade_most_kept(const furnacejade_table *t, size_t c) {
     const furnacejade_controller *controller = furnacejade_controller_of(t, c);
-    return controller ? controller->length : 0;
+    return controller ? furnacejade_length(controller->length) : 0;
 }
 
 /* THE CALLS. */

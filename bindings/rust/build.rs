@@ -10,9 +10,11 @@ fn main() {
     // Documentation and lints need no archive, and a build script does not learn what it runs for: so this is a
     // warning. Where a program is built, it stands above the linker's error.
     if !Path::new(&archive).exists() {
+        let tried = std::path::absolute(&archive).unwrap_or_else(|_| archive.clone().into());
         println!(
-            "cargo::warning={archive} is missing, and no program can be linked without it. Run `rt staticlib engine` \
-             in the repository, or set ENGINE_LIB to the folder that holds libengine.a."
+            "cargo::warning={} is missing, and no program can be linked without it. Run `rt staticlib engine` in the \
+             repository, or set ENGINE_LIB to the full path of the folder that holds libengine.a.",
+            tried.display()
         );
     }
     println!("cargo::rerun-if-changed={archive}");

@@ -78,7 +78,11 @@ impl Assembled {
 pub fn record_text(record: Record) -> String {
     match record {
         Record::Report { sender, amount } => format!("report {sender} {amount:+}"),
-        Record::ClassedReport { sender, amount, class } => format!("report {sender} {amount:+} class {}", class.0),
+        Record::ClassedReport { sender, amount, class } => {
+            let class =
+                class.class().filter(|class| *class != Class::None).map_or(class.0.to_string(), |c| c.to_string());
+            format!("report {sender} {amount:+} class {class}")
+        }
         Record::Sync { sender } => format!("sync {sender}"),
         Record::Handover { receiver, owner } => format!("hand {receiver} <- {owner}"),
         Record::Stop { controller, kept } => format!("stop {controller} keep {kept}"),

@@ -148,12 +148,12 @@ pub fn malformed(bytes: &[u8], version: u8) -> Option<String> {
     let wanted = form.bytes()[0];
     let text = record_text(*form);
     let event = text.split(' ').next().unwrap_or_default();
-    let (in_version, hint) = match version_of(*form) {
-        Some(1) => (" of version 1", ": it names no class"),
-        Some(_) => (" of version 2", ": it names a class"),
-        None => ("", ""),
+    let named = match version_of(*form) {
+        Some(1) => " of version 1 names no class, and",
+        Some(_) => " of version 2 names a class, and",
+        None => "",
     };
-    (*length != wanted).then(|| format!("a {event}{in_version} has length {wanted}, and this one {length}{hint}"))
+    (*length != wanted).then(|| format!("a {event}{named} has length {wanted}; this one has length {length}"))
 }
 
 /// The controllers that a record names.

@@ -115,7 +115,7 @@ fn bytes_that_are_no_record_are_shown_with_their_offset() {
         "sync 1 # record 1, offset 2",
         "bytes 03 09 01 02 # record 2, offset 5: no kind has the number 9",
         "bytes 00 # record 3, offset 9: the length is 0, so there is no kind",
-        "report 1 +7 class 2 # record 4, offset 10: a report of version 1 has length 4, and this one 5: it names no class",
+        "report 1 +7 class L # record 4, offset 10: a report of version 1 names no class, and has length 4; this one has length 5",
         "bytes 04 04 01 # record 5, offset 16: the length byte counts 4 bytes, and 2 are there",
     ];
     assert_eq!(lines, wanted);
@@ -377,7 +377,7 @@ const REASONS: &[(&str, u8, &str)] = &[
     ("bytes 04 01 01", 5, "the length byte counts 4 bytes, and 2 are there"),
     ("bytes 00", 6, "the length is 0, so there is no kind"),
     ("bytes 01 07", 6, "no kind has the number 7"),
-    ("report 1 +5 class 1", 7, "a report of version 1 has length 4, and this one 5: it names no class"),
+    ("report 1 +5 class 1", 7, "a report of version 1 names no class, and has length 4; this one has length 5"),
     ("hand 1 <- 4", 8, "the run has controllers 1 to 3, and none is 4"),
     ("sync 0", 8, "the run has controllers 1 to 3, and none is 0"),
     ("report 1 -361", 9, "the amount is -361"),
@@ -414,7 +414,7 @@ fn each_refusal_of_a_record_says_why() {
     let full = format!("{head}{}", "report 1 +1\n".repeat(65));
     assert_refused(&["run", "-"], full.as_bytes(), 12, "the run has 64 messages");
     let in_version_2 = [
-        ("report 1 +5", 7, "a report of version 2 has length 5, and this one 4: it names a class"),
+        ("report 1 +5", 7, "a report of version 2 names a class, and has length 5; this one has length 4"),
         ("report 1 0 class 1", 9, "the amount is 0"),
         ("report 1 1 class 5", 17, "the class is 5"),
     ];

@@ -2,7 +2,7 @@
 
 use crate::{Class, ClassNumber, RefusalNumber};
 use core::error::Error;
-use core::fmt::{Display, Formatter};
+use core::fmt::{Arguments, Display, Formatter, Write};
 use core::mem::{offset_of, size_of};
 use core::str::FromStr;
 
@@ -296,7 +296,7 @@ impl Name {
 
 impl Display for Name {
     fn fmt(&self, f: &mut Formatter<'_>) -> core::fmt::Result {
-        write!(f, "{}.{}", self.sender, self.number.0)
+        padded(f, format_args!("{}.{}", self.sender, self.number.0))
     }
 }
 
@@ -385,7 +385,34 @@ impl Sums {
 
 impl Display for Sums {
     fn fmt(&self, f: &mut Formatter<'_>) -> core::fmt::Result {
-        write!(f, "{} {}", self.added, self.withdrawn)
+        padded(f, format_args!("{} {}", self.added, self.withdrawn))
+    }
+}
+
+/// A short text with the width that a format asks for, as in `{:>8}`.
+fn padded(f: &mut Formatter<'_>, text: Arguments<'_>) -> core::fmt::Result {
+    let mut short = Short { length: 0, bytes: [0; Short::LONGEST] };
+    short.write_fmt(text)?;
+    f.pad(core::str::from_utf8(&short.bytes[..short.length]).unwrap_or_default())
+}
+
+/// A text on the stack.
+struct Short {
+    length: usize,
+    bytes: [u8; Short::LONGEST],
+}
+
+impl Short {
+    /// Two numbers of 32 bits and what stands between them.
+    const LONGEST: usize = 21;
+}
+
+impl Write for Short {
+    fn write_str(&mut self, text: &str) -> core::fmt::Result {
+        let end = self.length + text.len();
+        self.bytes.get_mut(self.length..end).ok_or(core::fmt::Error)?.copy_from_slice(text.as_bytes());
+        self.length = end;
+        Ok(())
     }
 }
 

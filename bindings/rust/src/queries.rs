@@ -15,7 +15,8 @@ pub enum State {
     /// The controller has applied the message.
     Applied,
     /// The controller has not applied the message and never will: its sender has stopped, and the message's entry in
-    /// the sender's log went with the cut. At its stopped sender it stays pending for good, and is cut off there too.
+    /// the sender's log went with the cut. This is the answer at its stopped sender too, though the table still holds the
+    /// message as pending there.
     CutOff,
 }
 
@@ -59,7 +60,8 @@ impl Table {
     }
 
     /// How many entries of the owner's log the receiver has not read. A handover is refused by question 13 if there is
-    /// none.
+    /// none. A receiver that has stopped keeps its unread entries for good: a loop that hands over asks
+    /// [`runs`](Table::runs) too.
     #[must_use]
     pub fn unread(&self, receiver: u8, owner: u8) -> usize {
         let (Some(log), Some(position)) = (self.controller(owner), self.read_position(receiver, owner)) else {
@@ -69,12 +71,17 @@ impl Table {
     }
 
     /// The lengths that a stop of the controller may keep of its log: from the greatest read position that any
-    /// controller has in it to its length. Question 14 asks for one of these. None if there is no such controller.
+    /// controller has in it to its length. Question 14 asks for one of these. None if there is no such controller. (A
+    /// controller that has stopped is not stopped again: question 10 comes first.)
+    ///
+    /// A length is given as a stop's record has it. One of more than 65,535, which no well-formed table has, is given as
+    /// that.
     #[must_use]
-    pub fn kept(&self, controller: u8) -> Option<RangeInclusive<usize>> {
+    pub fn kept(&self, controller: u8) -> Option<RangeInclusive<u16>> {
         let longest = self.controller(controller)?.length;
         let positions = self.controller_numbers().filter_map(|reader| self.read_position(reader, controller));
-        Some(positions.max().unwrap_or(0)..=longest)
+        let said = |length| u16::try_from(length).unwrap_or(u16::MAX);
+        Some(said(positions.max().unwrap_or(0))..=said(longest))
     }
 
     /// Whether the controller runs. Question 10 asks that of whoever sends, receives, stops or reads.

@@ -6,7 +6,8 @@ use core::num::NonZeroU8;
 
 macro_rules! refusals {
     ($(($number:literal, $name:ident, $question:literal),)*) => {
-        /// Why a call was refused: the first question that was answered no.
+        /// Why a call was refused: the first question that was answered no. `docs/API.md` says what to do after each. A
+        /// later package may have more of them, so a `match` ends with `_`.
         ///
         /// ```
         /// use furnacejade::{look, Refusal, Table};
@@ -94,6 +95,9 @@ refusals! {
 
 impl Display for Refusal {
     fn fmt(&self, f: &mut Formatter<'_>) -> core::fmt::Result {
+        if let Refusal::Unknown(number) = self {
+            return write!(f, "refused by number {number}, which no question of this package has");
+        }
         let mut question = self.question().chars();
         let first = question.next().map_or(' ', |letter| letter.to_ascii_lowercase());
         write!(f, "refused by question {}: {first}{}", self.number(), question.as_str())

@@ -36,7 +36,7 @@ fn a_number_of_no_question_is_unknown_and_0_is_no_refusal() {
         assert_eq!(RefusalNumber::from(refusal), RefusalNumber(number));
     }
     let refusal = RefusalNumber(99).check().unwrap_err();
-    assert_eq!(refusal.to_string(), "refused by question 99: no question of this package has this number");
+    assert_eq!(refusal.to_string(), "refused by number 99, which no question of this package has");
     assert_eq!((RefusalNumber::ACCEPTED.refusal(), RefusalNumber::ACCEPTED.check()), (None, Ok(())));
     assert_eq!(RefusalNumber::ACCEPTED, RefusalNumber(0));
 }

@@ -42,7 +42,7 @@ impl Says for Package<'_> {
         self.0.unread(byte(receiver), byte(owner))
     }
     fn kept(&self, c: usize) -> Option<(usize, usize)> {
-        self.0.kept(byte(c)).map(|kept| (*kept.start(), *kept.end()))
+        self.0.kept(byte(c)).map(|kept| (usize::from(*kept.start()), usize::from(*kept.end())))
     }
     fn runs(&self, c: usize) -> bool {
         self.0.runs(byte(c))
@@ -72,10 +72,11 @@ fn line(title: &str, cell: impl Fn(usize) -> String) -> String {
 }
 
 /// All answers about a table, whose names these are. Where there is no such controller the least length that a stop may
-/// keep and the greatest are 0, as in C.
+/// keep and the greatest are 0, as in C. A length is said as a stop's record has it, in two bytes.
 pub fn text(says: &dyn Says, names: &[Name]) -> String {
     let latest = |c| says.latest(c).map_or("0.0".into(), |x| format!("{}.{}", x.sender, x.number));
-    let kept = |c| says.kept(c).map_or("0-0".into(), |(least, greatest)| format!("{least}-{greatest}"));
+    let said = |length: usize| length.min(65_535);
+    let kept = |c| says.kept(c).map_or("0-0".into(), |(least, greatest)| format!("{}-{}", said(least), said(greatest)));
     let mut text = line("latest", latest) + &line("runs", |c| u8::from(says.runs(c)).to_string()) + &line("kept", kept);
     for r in COLUMNS {
         text += &line(&format!("unread {r}:"), |o| says.unread(r, o).to_string());

@@ -72,7 +72,7 @@ fn record_text(record: &[u8]) -> String {
     let amount = || i16::from_be_bytes([record[3], record[4]]);
     match record {
         [4, 1, c, ..] => format!("report {c} {:+}", amount()),
-        [5, 1, c, _, _, class] => format!("report {c} {:+} class {class}", amount()),
+        [5, 1, c, _, _, class] => format!("report {c} {:+} class {}", amount(), CLASSES[*class as usize - 1]),
         [2, 2, c] => format!("sync {c}"),
         [3, 3, r, o] => format!("hand {r} <- {o}"),
         [4, 4, c, high, low] => format!("stop {c} keep {}", u16::from_be_bytes([*high, *low])),
