@@ -71,7 +71,7 @@ static void local_read(uint8_t lane) {
 
 static void stop(uint8_t lane, size_t kept) {
     printf("lane %d stops, %zu of %zu entries kept: ", lane, kept, furnacejade_most_kept(table, lane));
-    if (play(furnacejade_record_stop(lane, (uint16_t)kept)) == FURNACEJADE_ACCEPTED) printf("done\n");
+    if (play(furnacejade_record_stop(lane, kept)) == FURNACEJADE_ACCEPTED) printf("done\n");
     else print_refusal();
 }
 

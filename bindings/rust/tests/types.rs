@@ -1,7 +1,7 @@
 //! Refusals, classes, names and records: numbers, texts and bytes, in both directions.
 
 use furnacejade::{head, records};
-use furnacejade::{Class, ClassNumber, Name, Record, RecordBytes, Refusal, RefusalNumber, LONGEST_RECORD};
+use furnacejade::{Class, ClassNumber, Name, Record, RecordBytes, Refusal, RefusalNumber, Sums, LONGEST_RECORD};
 use std::num::NonZeroU8;
 
 #[test]
@@ -39,6 +39,16 @@ fn a_number_of_no_question_is_unknown_and_0_is_no_refusal() {
     assert_eq!(refusal.to_string(), "refused by number 99, which no question of this package has");
     assert_eq!((RefusalNumber::ACCEPTED.refusal(), RefusalNumber::ACCEPTED.check()), (None, Ok(())));
     assert_eq!(RefusalNumber::ACCEPTED, RefusalNumber(0));
+}
+
+#[test]
+fn names_and_sums_take_the_width_that_a_format_asks_for() {
+    assert_eq!(
+        format!("{:>5}|{:<5}|{:^7}|", Name::new(3, 1), Name::new(3, 12), Name::new(255, 255)),
+        "  3.1|3.12 |255.255|"
+    );
+    let (sums, most) = (Sums { added: 30, withdrawn: 2 }, Sums { added: u32::MAX, withdrawn: u32::MAX });
+    assert_eq!(format!("{sums:>6}|{most}|"), "  30 2|4294967295 4294967295|");
 }
 
 #[test]
