@@ -407,8 +407,8 @@ static inline furnacejade_record furnacejade_record_write(size_t sender, size_t 
 
 /* RUN FILES. A file is written from its head on into a place with room for a given number of bytes, and *length counts what
  * has been written. Each function returns 1 if its bytes fit. Otherwise it writes nothing and returns 0, and *length becomes 0
- * and stays that: no record is put while *length is below 2, and furnacejade_run refuses the file by question 1. The compiler warns
- * where the result is not looked at.
+ * and stays that: no record is put while *length is below 2, and furnacejade_run refuses the file by question 1. The compiler
+ * warns where the result is not looked at.
  *
  *     size_t length;
  *     if (!furnacejade_put_head(file, sizeof file, &length, 1, 3)

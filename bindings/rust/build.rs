@@ -8,7 +8,8 @@ fn main() {
         .unwrap_or_else(|_| format!("{}/../../target/staticlib", env!("CARGO_MANIFEST_DIR")));
     let archive = format!("{folder}/libengine.a");
     // Documentation and lints need no archive, and a build script does not learn what it runs for: so this is a
-    // warning. Where a program is built, it stands above the linker's error.
+    // warning. Cargo does not show it when it is to be quiet; then the name of the library that is not found says it.
+    let mut library = "engine";
     if !Path::new(&archive).exists() {
         let tried = std::path::absolute(&archive).unwrap_or_else(|_| archive.clone().into());
         println!(
@@ -16,8 +17,9 @@ fn main() {
              repository, or set ENGINE_LIB to the full path of the folder that holds libengine.a.",
             tried.display()
         );
+        library = "engine, which rt staticlib engine writes";
     }
     println!("cargo::rerun-if-changed={archive}");
     println!("cargo::rustc-link-search=native={folder}");
-    println!("cargo::rustc-link-lib=static=engine");
+    println!("cargo::rustc-link-lib=static={library}");
 }

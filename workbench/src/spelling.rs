@@ -5,7 +5,7 @@ pub fn did_you_mean<'a>(word: &str, known: impl IntoIterator<Item = &'a str>) ->
     let word: Vec<char> = word.to_lowercase().chars().collect();
     let distances = known.into_iter().map(|other| (distance(&word, &other.chars().collect::<Vec<char>>()), other));
     let (distance, nearest) = distances.min_by_key(|(distance, _)| *distance)?;
-    (distance <= word.len() / 3).then(|| format!("did you mean `{nearest}`?"))
+    (distance <= (word.len() / 3).max(1)).then(|| format!("did you mean `{nearest}`?"))
 }
 
 /// How many letters of a word are wrong, missing, too many, or exchanged with the next one. A word that begins with the

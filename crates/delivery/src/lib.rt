@@ -106,7 +106,7 @@ fn candidates(
     Chosen { count, members }
 }
 
-// Line 16's relation: whether a majority has.
+// Line 16's relation, as a flag: whether p goes before q, that is, at a majority.
 fn flag(n: usize, m: usize, p: Pending, q: Pending) -> u8
     requires { ⌜ m ≡ majority n ⌝ }
     ensures { λ r. ⌜ yes? r ≡ leb (majority n) (goesBefore n p q) ⌝ }

@@ -64,7 +64,7 @@ pub fn seat(controller: u8) -> usize
     )
 }
 
-// Both, out of a table.
+// The two controllers that an event reads, out of a table.
 pub fn both(t: Table, e: Event) -> Parties
     ensures { λ r. ⌜ r ≡ partiesOf t e ⌝ }
 {
@@ -241,7 +241,8 @@ pub fn sums(t: Table, c: Controller) -> Sums
     totals::sums(t.count, messages, applied)
 }
 
-// What applies nothing leaves its subject so. Whatever is accepted leaves scratch zero: here, or by the delivery rule of a handover.
+// The effect of a command that applies nothing and leaves its subject as c. Whatever is accepted leaves scratch zero: here, or by
+// the delivery rule of a handover.
 pub fn quiet(c: Controller, scratch: &mut [u8]) -> Effect
     ensures { λ r. ⌜ Quiet c (now (scratch .entry)) r (now (scratch .exit)) ⌝ }
 {
@@ -378,7 +379,7 @@ pub fn sent_message(
     Message::of(sender, number, date, payload)
 }
 
-// The table after an event that leaves its subject so: a send adds its message.
+// The table after an event that leaves its subject as c: a send adds its message.
 pub fn stored(t: Table, e: Event, c: Controller) -> Table
     ensures { λ r. ⌜ Stores t e c r ⌝ }
 {

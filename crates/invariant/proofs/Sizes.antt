@@ -9,7 +9,7 @@ use lib.ListN.{length, getD, set, length-set, getD-replicate}
 use lib.Seq.{getD-set-same, getD-set-other}
 use Rattle.lists.proofs.Tests.{cond-case}
 use Rattle.lists.proofs.Build.{length-tabulate, getD-tabulate}
-use Rattle.model.specs.Tables.{seats, capacity, absent, at, place, entry, highest, noController, noPending, unheld, idle, start, fresh, withController, withMessage, withEntry, withRead, withMark, controllerIn, messagesOf}
+use Rattle.model.specs.Tables.{seats, capacity, absent, at, place, entry, noController, noPending, unheld, idle, start, fresh, withController, withMessage, withEntry, withRead, withMark, controllerIn, messagesOf}
 use Rattle.model.specs.Delivery.{Slots, has}
 use Rattle.model.specs.Events.{sent, forward, received, deliver, subject, after, withSent, next}
 use Rattle.model.specs.Sized.{Sized, SizedController}

@@ -2,11 +2,12 @@
 use mathlib.Core.Path.{_≡_, refl, sym, _∙_}
 use mathlib.Core.Logic.{_≢_}
 use mathlib.Core.Bool.{true, false, _&&_}
-use Prim.Native.Nat.{ℕ, _≤_, _<_}
+use Prim.Native.Nat.{ℕ, _≤_, _<_, _-_}
 use native.Mathlib.Omega.{arith}
 use lib.Dec.{leb, ltb}
+use lib.ListN.{getD}
 use borrow.Author.Tests.{eq-eqb, ne-eqb}
-use Rattle.model.specs.Tables.{seats, noPanel, at, messagesOf}
+use Rattle.model.specs.Tables.{seats, noPanel, noController, controllerIn, messagesOf}
 use Rattle.model.specs.Delivery.{goesBefore}
 use Rattle.model.specs.Events.{panelOf}
 use Rattle.model.specs.Fair.{named}
@@ -56,8 +57,10 @@ module _ (t : Table) (c : ℕ) where
     unfolding countBefore
     count-refused d a b = rw (← e, ne-eqb k 0 d) refl
 
-    pub count-given : k ≡ 0 → (a b : Name) (p q : Pending) (x : ℕ)
-        → p ≡ pendingOf (messagesOf t) (at t c .pending) a → q ≡ pendingOf (messagesOf t) (at t c .pending) b
+    -- the controller is read at index i
+    pub count-given : k ≡ 0 → (i : ℕ) → i ≡ c - 1 → (a b : Name) (p q : Pending) (x : ℕ)
+        → p ≡ pendingOf (messagesOf t) (getD (t .controllers) i noController .pending) a
+        → q ≡ pendingOf (messagesOf t) (getD (t .controllers) i noController .pending) b
         → x ≡ goesBefore (t .n) p q → _≡_ {A = CountAnswer} (record { refusal = k; count = x }) (countBefore t c a b)
-    unfolding countBefore
-    count-given z a b p q x ep eq ex = rw (← e, eq-eqb k 0 z, ex, ep, eq) refl
+    unfolding countBefore controllerIn
+    count-given z i ei a b p q x ep eq ex = rw (← e, eq-eqb k 0 z, ex, ep, eq, ei) refl

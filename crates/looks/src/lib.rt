@@ -47,7 +47,8 @@ pub fn count_before(t: Table, c: usize, first: Name, second: Name) -> CountAnswe
     if refusal != 0 {
         return CountAnswer { refusal, count: 0 };
     }
-    let x = t.controllers[c - 1];
+    let i = numbers::predecessor(c);
+    let x = t.controllers[i];
     let messages = t.messages;
     let pending = x.pending;
     let p = naming::pending_of(t.count, messages, pending, first);

@@ -9,7 +9,7 @@ use Rattle.lists.proofs.Tests.{cond-case}
 use Rattle.lists.specs.Every.{Every}
 use Rattle.model.specs.Tables.{messagesOf}
 use Rattle.model.specs.Events.{earlier, insert, namesBelow, namesOf}
-use Rattle.model.specs.Runs.{decimal, sumFields, nameFields, line, header, footer}
+use Rattle.model.specs.Runs.{decimal, sumFields, nameFields, line, footer}
 use Rattle.model.specs.declared.Name.{Name}
 use Rattle.model.specs.declared.Sums.{Sums}
 use Rattle.model.specs.declared.Table.{Table}
@@ -69,11 +69,7 @@ length-line e c z ms =
       length-append (nameFields ms) (10 ∷ []),
     )
 
--- the lines around the listing, of numbers that are bytes and words
-pub header-bound : (n : ℕ) → n < 256 → length (header n) ≤ 16
-unfolding header
-header-bound n h = omega (arith, decimal-bound 2 n (omega arith), length-append (decimal n) (10 ∷ []))
-
+-- the line after the listing, of numbers that are bytes and words
 pub footer-bound : (e k : ℕ) → e < 2 ^ 64 → k < 256 → length (footer e k) ≤ 29
 unfolding footer
 footer-bound e k h l =

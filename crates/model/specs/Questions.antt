@@ -6,7 +6,7 @@ use mathlib.Core.List.{List, [], _∷_, _++_}
 use lib.ListN.{length}
 use lib.Dec.{eqb, leb, ltb}
 use Rattle.lists.specs.Below.{count, all, greatest}
-use Rattle.model.specs.Tables.{Messages, seats, capacity, scratchSize, reportKind, syncKind, writeKind, yes?, controllerIn, messageIn, at, messagesOf, inBuffer, flagged, place}
+use Rattle.model.specs.Tables.{Messages, seats, capacity, scratchSize, reportKind, syncKind, writeKind, lastKind, yes?, controllerIn, messageIn, at, messagesOf, inBuffer, flagged, place}
 use Rattle.model.specs.Events.{numberOf}
 use Rattle.model.specs.Records.{byte, size, kind, sizeOf, decode}
 use Rattle.model.specs.Fair.{named, fairAmount, fairClass, fairRegister, known}
@@ -61,7 +61,7 @@ lookQuestions t c = lentTable t ∷ ask 8 (named (t .n) c) ∷ []
 
 -- questions 6 and 7, in version v, of a record of kind k with n bytes after its length byte
 unfoldable pub kindQuestions : ℕ → ℕ → ℕ → List Question
-kindQuestions v n k = ask 6 (ltb 0 n && (ltb 0 k && leb k 6)) ∷ ask 7 (eqb n (sizeOf v k)) ∷ []
+kindQuestions v n k = ask 6 (ltb 0 n && (ltb 0 k && leb k lastKind)) ∷ ask 7 (eqb n (sizeOf v k)) ∷ []
 
 -- questions 5 to 7, of the record that the bytes begin with
 unfoldable pub recordQuestions : ℕ → List ℕ → List Question

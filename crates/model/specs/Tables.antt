@@ -66,6 +66,10 @@ syncKind = 2
 abbrev pub writeKind : ℕ
 writeKind = 6
 
+-- the last kind of a record
+abbrev pub lastKind : ℕ
+lastKind = writeKind
+
 -- a report's class, what it adds and what it withdraws; class 0 is none
 abbrev pub report : ℕ → ℕ → ℕ → Payload
 report k a w = record { kind = reportKind; class = k; added = a; withdrawn = w; reg = 0; value = 0 }

@@ -9,7 +9,7 @@ impl Table {
 }
 
 impl Panel {
-    // Those of the four weight classes, and that of none.
+    // The four weight classes, and the class of reports that name none.
     pub const CLASSES: usize = 5;
 
     pub const REGISTERS: usize = 8;

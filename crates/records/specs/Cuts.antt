@@ -4,7 +4,7 @@ use mathlib.Core.Bool.{Bool, _&&_, cond}
 use mathlib.Core.List.{List, [], _∷_}
 use lib.ListN.{length}
 use lib.Dec.{eqb, leb, ltb}
-use Rattle.model.specs.Tables.{writeKind}
+use Rattle.model.specs.Tables.{lastKind}
 use Rattle.model.specs.Records.{size, decode}
 use Rattle.model.specs.Questions.{ask, firstNo, recordQuestions}
 use Rattle.records.specs.declared.Cut.{Cut}
@@ -28,10 +28,7 @@ unfoldable pub found : Cut → Found
 found (Whole k) = record { refusal = 0; size = k }
 found Short = record { refusal = 5; size = 0 }
 
--- the last kind, and the bytes of the longest record, a write
-abbrev pub lastKind : ℕ
-lastKind = writeKind
-
+-- the bytes of the longest record, a write
 abbrev pub longestRecord : ℕ
 longestRecord = 8
 

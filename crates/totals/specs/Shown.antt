@@ -26,7 +26,7 @@ largestAmount = 65535
 abbrev pub largestSum : ℕ
 largestSum = capacity * largestAmount
 
--- each sum is at most so much
+-- each sum is at most `most`
 pub record AtMost (most : ℕ) (z : Sums) : Type 0 where
   pub added : z .added ≤ most
   pub withdrawn : z .withdrawn ≤ most
