@@ -62,7 +62,8 @@ Plays a text or a run file up to its end or its first refusal, and prints
 A failed expectation and the refusal each have a line on standard error too, which begins with the file and the line. The
 exit status is then 1.
 
-A file is taken for a text if it begins as one. --text and --bytes say which it is.
+A file is taken for a text if it begins as one. --text and --bytes say which it is. `workbench assemble --help` has the lines
+of a text.
 ";
 
 pub const WHY: &str = "\
