@@ -91,9 +91,9 @@ module _ (h : Head) (heads : Heads h) (calls : List Call) where
   one-more : (i : ℕ) (e : Entry) (after : List Entry) → drop i es ≡ e ∷ after → take (suc i) es ≡ take i es ++ (e ∷ [])
   one-more i e after q = rw (← add-one i, take-add i 1 es, q)
 
-  pub moment-behind : (i : ℕ) (e : Entry) (after : List Entry) → drop i es ≡ e ∷ after
+  pub moment-past : (i : ℕ) (e : Entry) (after : List Entry) → drop i es ≡ e ∷ after
       → Moment n (freshState top) (told (tableAt h calls i) e) (moment h calls (suc i))
-  moment-behind i e after q =
+  moment-past i e after q =
       rw (ap (foldl told (freshOf h)) (one-more i e after q) ∙ foldl-append told (freshOf h) (take i es) (e ∷ [])) at (moment-at (suc i))
 
   pub moment-next : (i : ℕ) (e : Entry) (after : List Entry) → drop i es ≡ e ∷ after → moment h calls (suc i) ≡ foldl moved (moment h calls i) (steps v e)

@@ -13,7 +13,7 @@ use Rattle.lists.specs.Build.{overlay}
 use Rattle.lists.proofs.Tests.{cond-true, cond-false}
 use Rattle.model.specs.Tables.{fresh}
 use Rattle.model.specs.Events.{controllerOf}
-use Rattle.model.specs.Records.{byte, behind, decode}
+use Rattle.model.specs.Records.{byte, afterRecord, decode}
 use Rattle.model.specs.Questions.{firstNo, fileQuestions, stepQuestions}
 use Rattle.model.specs.Calls.{Outcome, accepted, step}
 use Rattle.model.specs.Runs.{Progress, lineAt, verdict, records, begun, progress, ran, fileRun}
@@ -33,7 +33,7 @@ entries-same : (k e : ℕ) (s : List ℕ) (ls ms : List (List ℕ)) → ((n : �
 unfolding recordEntries
 entries-same zero e s ls ms h = refl
 entries-same (suc k) e s ls ms h =
-    ap₂ (λ (x : Line) (xs : List Entry). listed s x ∷ xs) (h e (omega arith)) (entries-same k (e + 1) (behind s) ls ms (λ n l. h n (omega arith)))
+    ap₂ (λ (x : Line) (xs : List Entry). listed s x ∷ xs) (h e (omega arith)) (entries-same k (e + 1) (afterRecord s) ls ms (λ n l. h n (omega arith)))
 
 -- After p the run q has accepted the first `many` of the records of s, and its lines after those of p are legal steps when read back.
 record Done (p : Progress) (s : List ℕ) (q : Progress) : Type 0 where
@@ -75,13 +75,13 @@ module _ (p : Progress) (s : List ℕ) (room space : ℕ) (v : verdict p s room 
     other-read : (n : ℕ) → e ≢ n → lineFor n (split 10 (lineAt p s room ++ tail)) ≡ lineFor n (split 10 tail)
     other-read n d = own-read n ∙ cond-false _ _ (ne-eqb e n d)
 
-    first-read : recordEntries (suc k) e s (split 10 (lineAt p s room ++ tail)) ≡ listed s says ∷ recordEntries k (e + 1) (behind s) (split 10 tail)
+    first-read : recordEntries (suc k) e s (split 10 (lineAt p s room ++ tail)) ≡ listed s says ∷ recordEntries k (e + 1) (afterRecord s) (split 10 tail)
     unfolding recordEntries
     first-read =
         ap₂ (λ (x : Line) (xs : List Entry). listed s x ∷ xs) (own-read e ∙ cond-true _ _ (eq-eqb e e refl))
-        (entries-same k (e + 1) (behind s) _ _ (λ n l. other-read n (omega arith)))
+        (entries-same k (e + 1) (afterRecord s) _ _ (λ n l. other-read n (omega arith)))
 
-  went-on : (q : Progress) → Done (gone p s room space) (behind s) q → Done p s q
+  went-on : (q : Progress) → Done (gone p s room space) (afterRecord s) q → Done p s q
   unfolding Course Gives told
   went-on q d = record {
     many = suc (d .many);
@@ -100,8 +100,8 @@ unfolding records
 run-done zero p s room space = stopped p s (p .refusal)
 run-done (suc f) p [] room space = stopped p [] (p .refusal)
 run-done (suc f) p (b ∷ s) room space =
-    advance-case p (b ∷ s) room space (λ q. Done p (b ∷ s) (cond (eqb (q .refusal) 0) (records f q (behind (b ∷ s)) room space) q))
-    (λ v. went-on p (b ∷ s) room space v _ (run-done f (gone p (b ∷ s) room space) (behind (b ∷ s)) room space))
+    advance-case p (b ∷ s) room space (λ q. Done p (b ∷ s) (cond (eqb (q .refusal) 0) (records f q (afterRecord (b ∷ s)) room space) q))
+    (λ v. went-on p (b ∷ s) room space v _ (run-done f (gone p (b ∷ s) room space) (afterRecord (b ∷ s)) room space))
     (λ d. rw (ne-eqb (verdict p (b ∷ s) room space) 0 d) (stopped p (b ∷ s) (verdict p (b ∷ s) room space)))
 
 ran-course : (v n : ℕ) (s listing scratch : List ℕ) (q : Progress) → Done (begun v n) (drop 2 s) q

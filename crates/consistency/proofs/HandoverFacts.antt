@@ -13,7 +13,7 @@ use Rattle.lists.proofs.Below.{count-ext}
 use Rattle.model.specs.Tables.{message, noSums, withController, Among, messageIn, messagesOf}
 use Rattle.model.specs.Delivery.{Slots, has as member}
 use Rattle.model.specs.Events.{subject, withSent, next, appliedBy, controllerOf, resulting, panelOf, finishes}
-use Rattle.model.specs.Records.{behind, decode}
+use Rattle.model.specs.Records.{afterRecord, decode}
 use Rattle.model.specs.Calls.{EventAnswer, answering, accepted}
 use Rattle.model.specs.declared.Name.{Name}
 use Rattle.model.specs.declared.Panel.{Panel}
@@ -126,7 +126,7 @@ module _ {n : ℕ} {t : Table} (formed : WellFormed t) (r o : ℕ) (q : Said) (m
   entry-finishes (answered s w a) g is k =
       let h = handover-taken (answered s w a) g is k in
       let c = call-carries (a .refusal) (t .version) s _ q (Handover r o) _ ms is in
-      handover-answers formed r o q ms (h .0) (h .1) (behind s) a (call-accepted t s w a g (c .0) .1 ∙ ap (λ x. answering t x (behind s)) (c .1))
+      handover-answers formed r o q ms (h .0) (h .1) (afterRecord s) a (call-accepted t s w a g (c .0) .1 ∙ ap (λ x. answering t x (afterRecord s)) (c .1))
   entry-finishes (observed x a) g is k = absurd (cons-ne-nil _ [] (sym is))
   entry-finishes (served s a) g is k = absurd (cons-ne-nil _ [] (sym is))
   entry-finishes (handed p a) g is k =

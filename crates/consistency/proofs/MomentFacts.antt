@@ -32,7 +32,7 @@ use Rattle.broadcast.specs.Delivery.{Subset}
 use Rattle.broadcast.proofs.Theorem.{containment, ending}
 use Rattle.consistency.specs.Entries.{name, has, ownOf}
 use Rattle.consistency.specs.Ledger.{Ledger, applied, newest, registerAt, sentNames, remaining, showing}
-use Rattle.consistency.specs.Demand3.{Contains, Exactly, NoLater, Runs, ReadOut, readRecord, IsRead, Within}
+use Rattle.consistency.specs.Demand3.{Contains, Exactly, NoLater, IsRunning, ReadOut, readRecord, IsRead, Within}
 use Rattle.consistency.proofs.Bridge.{system, codeAt, code-injective, Related}
 use Rattle.consistency.proofs.BridgeFacts.{few, shown, applied-delivered, delivered-slot, remains-logged, own-logged, all-read, quorum-runs}
 use Rattle.consistency.proofs.PassedOver.{earlier-applied}
@@ -197,7 +197,7 @@ module _ {n : ℕ} {s₀ : State} {t : Table} {l : Ledger} (m : Moment n s₀ t 
 
 -- THE ENDING
 
-module _ {n : ℕ} {s₀ : State} {t : Table} {l : Ledger} (m : Moment n s₀ t l) (e : ReadOut n l) (r : ℕ) (on : Runs n l r) where
+module _ {n : ℕ} {s₀ : State} {t : Table} {l : Ledger} (m : Moment n s₀ t l) (e : ReadOut n l) (r : ℕ) (on : IsRunning n l r) where
   abbrev g : Related n t (m .state)
   g = m .related
 

@@ -7,7 +7,7 @@ use lib.ListN.{length}
 use borrow.Author.Tests.{ne-eqb}
 use Rattle.model.specs.Tables.{fresh, withController, withMessage}
 use Rattle.model.specs.Events.{withSent, next, resulting}
-use Rattle.model.specs.Records.{behind, decode}
+use Rattle.model.specs.Records.{afterRecord, decode}
 use Rattle.model.specs.WellFormed.{wellFormed}
 use Rattle.model.specs.Questions.{FreshAllowed, firstNo, eventQuestions, commandQuestions, lentTable, stepQuestions}
 use Rattle.model.specs.Calls.{EventAnswer, Outcome, answering, accepted, refused, event}
@@ -73,7 +73,7 @@ unfolding accepted commandQuestions answering resulting stepsOf stepped Takes Co
 accepted-taken t s = go (decode (t .version) s) refl
   where
     go : (a : Command) → decode (t .version) s ≡ a → firstNo (commandQuestions t a) ≡ 0
-        → Course stepped Takes t (stepsOf (said (t .version) s) a (answering t a (behind s) .names)) (resulting t a)
+        → Course stepped Takes t (stepsOf (said (t .version) s) a (answering t a (afterRecord s) .names)) (resulting t a)
     go (Act e) d q = (record-legal t s e d q, refl)
     go (Read c) d q = refl
 
@@ -84,7 +84,7 @@ unfolding event accepted refused steps Course lentTable
 event-taken t s w =
     let k = firstNo (lentTable t ∷ stepQuestions t s (length w)) in
     settled-case (λ (o : Outcome). Course stepped Takes t (steps (t .version) (answered s w (o .answer))) (o .table)) t s k
-    (λ e. rw (answering-accepted t (decode (t .version) s) (behind s)) (accepted-taken t s (step-asked t s (length w) (no-no 3 (wellFormed t) _ e .1) .1)))
+    (λ e. rw (answering-accepted t (decode (t .version) s) (afterRecord s)) (accepted-taken t s (step-asked t s (length w) (no-no 3 (wellFormed t) _ e .1) .1)))
     (λ d. rw (ne-eqb k 0 d) refl)
 
 -- a handover that a served call made is a legal step

@@ -27,7 +27,7 @@ use Rattle.consistency.proofs.Grown.{names, names-grown}
 use Rattle.consistency.proofs.LedgerRegisters.{write-or-later, write-one}
 use Rattle.consistency.proofs.MomentFacts.{comparable, within, look-shows}
 use Rattle.consistency.proofs.HandoverFacts.{finishing-own, entry-finishes}
-use Rattle.consistency.proofs.CallLists.{version-at, gives-at, look-at, moment-at, moment-behind, moment-next, later-at}
+use Rattle.consistency.proofs.CallLists.{version-at, gives-at, look-at, moment-at, moment-past, moment-next, later-at}
 
 module _ (h : Head) (heads : Heads h) (calls : List Call) where
   abbrev n : ℕ
@@ -71,7 +71,7 @@ module _ (h : Head) (heads : Heads h) (calls : List Call) where
       Finishes e (finishing (l .sent) ms r) (showing (l .sent) (applied l r) .sums)
   syncs i r o q ms e after p is =
       entry-finishes (moment-at h heads calls i .related .formed) r o q ms e (gives-at h heads calls i e after p) (rw (version-at h heads calls i) is)
-      (moment-behind h heads calls i e after p .recorded)
+      (moment-past h heads calls i e after p .recorded)
 
   -- A MESSAGE that entry j begins
 

@@ -18,14 +18,14 @@ use Rattle.model.proofs.Steps.{step-first-no, event-is-step}
 use Rattle.invariant.proofs.Refusals.{step-refusals}
 use Rattle.consistency.specs.Entries.{observe, panelLook, Call, singleEvent, observing, Entry, answered, listed, entriesOf, left, transcript}
 use Rattle.consistency.specs.Ledger.{Sent, applied, remaining, weights}
-use Rattle.consistency.specs.Demand3.{Head, Heads, controllers, opening, given, entries, moment, Runs, ReadOut, readRecord, Consistent}
+use Rattle.consistency.specs.Demand3.{Head, Heads, controllers, opening, given, entries, moment, IsRunning, ReadOut, readRecord, Consistent}
 use Rattle.consistency.specs.Courses.{tableAt}
 use Rattle.consistency.proofs.Recorded.{distinct-sent}
 use Rattle.consistency.proofs.LedgerRegisters.{stamps-differ}
 use Rattle.consistency.proofs.Sums.{of-payload, weights-weigh, same-members-same-weights, distinct-remaining}
 use Rattle.consistency.proofs.MomentFacts.{Comparable, comparable, InOrder, OneValue, snapshots, values, in-order, look-shows, read-gives, read-rests, moment-ending, ending-shows, ending-gives}
 use Rattle.consistency.proofs.HandoverFacts.{line-sums}
-use Rattle.consistency.proofs.CallLists.{version-at, gives-at, event-at, look-at, moment-at, moment-end, moment-behind, any-two, sent}
+use Rattle.consistency.proofs.CallLists.{version-at, gives-at, event-at, look-at, moment-at, moment-end, moment-past, any-two, sent}
 use Rattle.consistency.proofs.NeverStale.{applied-then, syncs, never-stale, included, answered-so, bears}
 
 -- one call more
@@ -54,7 +54,7 @@ demand-3 h heads calls = record {
   lines = λ i r o q x ms s z after p is.
       let m = moment-at h heads calls i in
       line-sums (m .related .formed) r o q (x ∷ ms) s z (gives-at h heads calls i (listed s z) after p) (rw (version-at h heads calls i) is)
-      (moment-behind h heads calls i (listed s z) after p .recorded) (cons-ne-nil x ms);
+      (moment-past h heads calls i (listed s z) after p .recorded) (cons-ne-nil x ms);
   in-order = λ i. in-order (moment-at h heads calls i);
   stamps = λ i. stamps-differ (moment-at h heads calls i .recorded);
   snapshots = any-two h heads calls InOrder (λ t u l k. snapshots) (λ l k f c d. ⊎-swap (f d c));
@@ -101,7 +101,7 @@ pub any-weight : (h : Head) → Heads h → (calls : List Call) (v : Payload →
 any-weight h heads calls v i c k = weights-weigh (moment-at h heads calls i .recorded) (of-payload v) c k
 
 pub any-weight-ending : (h : Head) → Heads h → (calls : List Call) (v : Payload → ℕ) (i r : ℕ)
-    → ReadOut (controllers h) (moment h calls i) → Runs (controllers h) (moment h calls i) r
+    → ReadOut (controllers h) (moment h calls i) → IsRunning (controllers h) (moment h calls i) r
     → weights (λ (x : Sent). v (x .payload)) (moment h calls i .sent) (applied (moment h calls i) r) ≡ weights (λ (x : Sent). v (x .payload)) (moment h calls i .sent) (remaining (moment h calls i))
 any-weight-ending h heads calls v i r e on =
     let m = moment-at h heads calls i in

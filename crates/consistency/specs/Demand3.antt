@@ -79,7 +79,7 @@ abbrev pub NoLater : (ℕ → Register) → (ℕ → Register) → Type 0
 NoLater f g = (r : ℕ) → exceeds (f r .stamp) (g r .stamp) ≡ false
 
 -- r is one of n controllers, and has not stopped
-pub record Runs (n : ℕ) (l : Ledger) (r : ℕ) : Type 0 where
+pub record IsRunning (n : ℕ) (l : Ledger) (r : ℕ) : Type 0 where
   pub named : Among n r
   pub running : l .runs r ≡ true
 
@@ -87,7 +87,7 @@ pub record Runs (n : ℕ) (l : Ledger) (r : ℕ) : Type 0 where
 pub record ReadOut (n : ℕ) (l : Ledger) : Type 0 where
   pub majority : n < 2 * count n (λ i. l .runs (suc i))
   -- "A log is read to its end when the reader's place equals its length."
-  pub to-end : (r o : ℕ) → Runs n l r → Among n o → l .place r o ≡ length (l .log o)
+  pub to-end : (r o : ℕ) → IsRunning n l r → Among n o → l .place r o ≡ length (l .log o)
 
 -- a look at r after these calls, and what it is answered: it is not refused, and shows this panel
 pub record LookShows (h : Head) (calls : List Call) (r : ℕ) (panel : Panel) : Type 0 where
@@ -241,17 +241,17 @@ pub record Consistent (h : Head) (calls : List Call) : Type 0 where
   -- exactly the messages sent, less those cut off with a stopped sender's log"
   pub ending : (i r : ℕ)
       → let l = moment h calls i in
-      ReadOut (controllers h) l → Runs (controllers h) l r → Exactly (applied l r) (remaining l)
+      ReadOut (controllers h) l → IsRunning (controllers h) l r → Exactly (applied l r) (remaining l)
   -- "and a look at it shows the sum of their amounts", each sum over its own part, and each class comes out as the whole does: the
   -- list up to a moment, extended by that look
   pub ending-look : (i r : ℕ)
       → let now = take i calls in
       let l = ledger (did (version h) (entries h now)) in
-      ReadOut (controllers h) l → Runs (controllers h) l r
+      ReadOut (controllers h) l → IsRunning (controllers h) l r
       → LookShows h now r (showing (l .sent) (remaining l))
   -- and so does a local read of it, which is not refused where it is lent enough scratch: nothing of its own is pending
   pub ending-read : (i r : ℕ) (w : List ℕ)
       → let now = take i calls in
       let l = ledger (did (version h) (entries h now)) in
-      ReadOut (controllers h) l → Runs (controllers h) l r → scratchSize ≤ length w
+      ReadOut (controllers h) l → IsRunning (controllers h) l r → scratchSize ≤ length w
       → ReadGives h now r w (showing (l .sent) (remaining l) .sums)

@@ -5,7 +5,7 @@ use mathlib.Core.List.{List, [], _∷_, map}
 use lib.ListN.{getD, take, drop}
 use lib.Dec.{eqb}
 use Rattle.model.specs.Tables.{noSums}
-use Rattle.model.specs.Records.{behind}
+use Rattle.model.specs.Records.{afterRecord}
 use Rattle.model.specs.Runs.{RunOutcome}
 use Rattle.model.specs.declared.Name.{Name}
 use Rattle.consistency.specs.Entries.{name, Line, Entry, listed}
@@ -52,7 +52,7 @@ lineFor e (l ∷ ls) =
 -- k records of s, the first of them event e
 unfoldable pub recordEntries : ℕ → ℕ → List ℕ → List (List ℕ) → List Entry
 recordEntries zero e s ls = []
-recordEntries (suc k) e s ls = listed s (lineFor e ls) ∷ recordEntries k (e + 1) (behind s) ls
+recordEntries (suc k) e s ls = listed s (lineFor e ls) ∷ recordEntries k (e + 1) (afterRecord s) ls
 
 -- "the records it accepted stand first as calls, its listing lines give their sets", and their sums
 unfoldable pub fileEntries : List ℕ → RunOutcome → List Entry

@@ -17,7 +17,7 @@ pub applied-with-room : (n : ℕ) (P : List Pending) (s m after : List ℕ) (ans
 unfolding applyAnswer applyScratch
 applied-with-room n P s m after answer l r e = record {
   set = rw (le-leb scratchSize (length s) l) (r .set);
-  scratch = rw (le-leb scratchSize (length s) l) (e ∙ cleared-same s m l (r .size) (r .behind));
+  scratch = rw (le-leb scratchSize (length s) l) (e ∙ cleared-same s m l (r .size) (r .beyond));
 }
 
 pub applied-without-room : (n : ℕ) (P : List Pending) (s : List ℕ) → length s < scratchSize → Applied n P s (replicate capacity false) s

@@ -25,14 +25,14 @@ module _ (n : ℕ) (P : List Pending) (L : List ℕ) where
   -- ONE ROW
 
   pub row-start : (i : ℕ) (s : List ℕ) → RowFilled n P L i 0 s s
-  row-start i s = record { size = refl; ahead = λ x h. refl; behind = λ x h. refl; flags = λ t h a. contradiction a (among-none L t) }
+  row-start i s = record { size = refl; ahead = λ x h. refl; beyond = λ x h. refl; flags = λ t h a. contradiction a (among-none L t) }
 
   pub row-stored : (i k : ℕ) (s m : List ℕ) (x : ℕ) → i < capacity → getD L k 0 < capacity → scratchSize ≤ length s
       → RowFilled n P L i k s m → yes? x ≡ precedes n P i (getD L k 0) → RowFilled n P L i (k + 1) s (set m (i * capacity + getD L k 0) x)
   row-stored i k s m x hi hk l r e = record {
     size = length-set m (i * capacity + getD L k 0) x ∙ r .size;
     ahead = λ y h. getD-set-other m (i * capacity + getD L k 0) y x 0 (omega arith) ∙ r .ahead y h;
-    behind = λ y h. getD-set-other m (i * capacity + getD L k 0) y x 0 (omega arith) ∙ r .behind y h;
+    beyond = λ y h. getD-set-other m (i * capacity + getD L k 0) y x 0 (omega arith) ∙ r .beyond y h;
     flags = λ t h a.
         among-more L (λ j. j < capacity → flag (set m (i * capacity + getD L k 0) x) i j ≡ precedes n P i j) k
         (λ j d b hj. ap yes? (getD-set-other m (i * capacity + getD L k 0) (i * capacity + j) x 0 (omega (arith, d))) ∙ r .flags j hj b)
@@ -42,16 +42,16 @@ module _ (n : ℕ) (P : List Pending) (L : List ℕ) where
   -- THE ROWS
 
   other-row : (i k : ℕ) (s m : List ℕ) → RowFilled n P L i k s m → (j t : ℕ) → j ≢ i → t < capacity → getD m (j * capacity + t) 0 ≡ getD s (j * capacity + t) 0
-  other-row i k s m r j t d h = elim (decLt j i) [ yes l ↦ r .ahead (j * capacity + t) (omega arith) | no l ↦ r .behind (j * capacity + t) (omega (arith, d)) ]
+  other-row i k s m r j t d h = elim (decLt j i) [ yes l ↦ r .ahead (j * capacity + t) (omega arith) | no l ↦ r .beyond (j * capacity + t) (omega (arith, d)) ]
 
   pub rows-start : (S : Slots) (s : List ℕ) → RowsFilled n P L S 0 s s
-  rows-start S s = record { size = refl; behind = λ x h. refl; flags = λ i t hi ht a. contradiction a (among-none L i) }
+  rows-start S s = record { size = refl; beyond = λ x h. refl; flags = λ i t hi ht a. contradiction a (among-none L i) }
 
   pub rows-stored : (S : Slots) (k size : ℕ) (s m m′ : List ℕ) → Listed P capacity size L → getD L k 0 < capacity → RowsFilled n P L S k s m
       → RowFilled n P L (getD L k 0) size m m′ → RowsFilled n P L S (k + 1) s m′
   rows-stored S k size s m m′ l h r f = record {
     size = f .size ∙ r .size;
-    behind = λ x b. f .behind x (omega arith) ∙ r .behind x b;
+    beyond = λ x b. f .beyond x (omega arith) ∙ r .beyond x b;
     flags = λ i t hi ht a p q.
         among-more L (λ j. j < capacity → has S j ≡ true → flag m′ j t ≡ precedes n P j t) k
         (λ j d b hj pj. ap yes? (other-row (getD L k 0) size m m′ f j t d ht) ∙ r .flags j t hj ht b pj q)
@@ -61,7 +61,7 @@ module _ (n : ℕ) (P : List Pending) (L : List ℕ) where
   pub rows-skipped : (S : Slots) (k : ℕ) (s m : List ℕ) → RowsFilled n P L S k s m → has S (getD L k 0) ≡ false → RowsFilled n P L S (k + 1) s m
   rows-skipped S k s m r e = record {
     size = r .size;
-    behind = r .behind;
+    beyond = r .beyond;
     flags = λ i t hi ht a p q.
         among-more L (λ j. j < capacity → has S j ≡ true → flag m j t ≡ precedes n P j t) k
         (λ j d b hj pj. r .flags j t hj ht b pj q) (λ _ pj. contradiction pj e) i a hi p;

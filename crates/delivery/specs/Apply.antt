@@ -56,13 +56,13 @@ flag m s t = yes? (getD m (s * capacity + t) 0)
 pub record RowFilled (n : ℕ) (P : List Pending) (L : List ℕ) (i k : ℕ) (s m : List ℕ) : Type 0 where
   pub size : length m ≡ length s
   pub ahead : (x : ℕ) → x < i * capacity → getD m x 0 ≡ getD s x 0
-  pub behind : (x : ℕ) → i * capacity + capacity ≤ x → getD m x 0 ≡ getD s x 0
+  pub beyond : (x : ℕ) → i * capacity + capacity ≤ x → getD m x 0 ≡ getD s x 0
   pub flags : (t : ℕ) → t < capacity → among k L t ≡ true → flag m i t ≡ precedes n P i t
 
 -- the rows of the members among the first k listed slots are filled, and no byte after the matrix has changed
 pub record RowsFilled (n : ℕ) (P : List Pending) (L : List ℕ) (S : Slots) (k : ℕ) (s m : List ℕ) : Type 0 where
   pub size : length m ≡ length s
-  pub behind : (x : ℕ) → scratchSize ≤ x → getD m x 0 ≡ getD s x 0
+  pub beyond : (x : ℕ) → scratchSize ≤ x → getD m x 0 ≡ getD s x 0
   pub flags : (i t : ℕ) → i < capacity → t < capacity → among k L i ≡ true → has S i ≡ true → inBuffer P t ≡ true
       → flag m i t ≡ precedes n P i t
 
@@ -77,4 +77,4 @@ pub record Removable (size : ℕ) (L : List ℕ) (C : Slots) (m : List ℕ) : Ty
 pub record Settled (n : ℕ) (P : List Pending) (s : List ℕ) (answer : Slots) (m : List ℕ) : Type 0 where
   pub set : answer ≡ applicable n P
   pub size : length m ≡ length s
-  pub behind : (x : ℕ) → scratchSize ≤ x → getD m x 0 ≡ getD s x 0
+  pub beyond : (x : ℕ) → scratchSize ≤ x → getD m x 0 ≡ getD s x 0

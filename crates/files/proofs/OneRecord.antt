@@ -61,9 +61,9 @@ unfolding lineFits
 fit a c e = no-no 15 (leb a c) [] e .0
 
 -- a list written after the first n bytes of another
-overlay-behind : (n : ℕ) (x l : List ℕ) → n ≤ length l → take n l ++ overlay x (drop n l) ≡ overlay (take n l ++ x) l
+overlay-after : (n : ℕ) (x l : List ℕ) → n ≤ length l → take n l ++ overlay x (drop n l) ≡ overlay (take n l ++ x) l
 unfolding overlay
-overlay-behind n x l h =
+overlay-after n x l h =
     let m = length-take-le n l h in
     rw (length-append (take n l) x, m, ← drop-drop (length x) n l) (sym (append-assoc (take n l) x (drop (length x) (drop n l))))
 
@@ -263,8 +263,8 @@ module _ (c : Cursor) (t : Table) (s l w : List ℕ) (b : Before c t s l) where
         pub written-within : c .written + q .written ≤ length l
         written-within = omega (arith, put-written, leb-true (length x) (length (drop (c .written) l)) fits, length-drop (c .written) l, b .within)
 
-        none-behind : (xs : List ℕ) → xs ++ postOf (c .written) space l ≡ xs
-        none-behind xs =
+        none-after : (xs : List ℕ) → xs ++ postOf (c .written) space l ≡ xs
+        none-after xs =
             ap (λ (r : List ℕ). xs ++ r) (drop-of-length-le (drop (c .written) l) {i = space} (omega (arith, length-drop (c .written) l))) ∙ append-nil xs
 
         pub turn-listed : (u : ℕ) → u ≡ size s + 1 → (a : Advance) → a ≡ gone c (q .written) u (d .controller)
@@ -279,8 +279,8 @@ module _ (c : Cursor) (t : Table) (s l w : List ℕ) (b : Before c t s l) where
               used = rw on eu;
               leaves = λ _. leaves;
               listed = rw on
-                  (ap (λ (r : List ℕ). take (c .written) l ++ r) (none-behind m ∙ wrote .tail ∙ cond-true _ _ fits)
-                  ∙ overlay-behind (c .written) x l (b .within));
+                  (ap (λ (r : List ℕ). take (c .written) l ++ r) (none-after m ∙ wrote .tail ∙ cond-true _ _ fits)
+                  ∙ overlay-after (c .written) x l (b .within));
               clear = scratch-said passed v (f .clear);
             })
 

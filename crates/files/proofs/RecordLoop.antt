@@ -14,7 +14,7 @@ use Rattle.lists.proofs.Tests.{cond-case, cond-true, cond-false}
 use Rattle.lists.proofs.Build.{length-over, over-over, length-overlay}
 use Rattle.model.specs.Tables.{scratchSize, start, fresh}
 use Rattle.model.specs.Events.{resulting, namesBelow, namesOf}
-use Rattle.model.specs.Records.{byte, size, behind, decode}
+use Rattle.model.specs.Records.{byte, size, afterRecord, decode}
 use Rattle.model.specs.Sized.{Sized}
 use Rattle.model.specs.WellFormed.{wellFormed}
 use Rattle.model.specs.Questions.{firstNo, lineFits, fileQuestions}
@@ -77,7 +77,7 @@ quiet-names t (Read c) r z = refl
 
 step-quiet : (t : Table) (s : List ℕ) (room : ℕ) → t .count ≡ 0 → step t s room .answer .names ≡ []
 unfolding accepted refused
-step-quiet t s room z = step-case t s room (λ (o : Outcome). o .answer .names ≡ []) (λ _. quiet-names t (decode (t .version) s) (behind s) z) (λ _. refl)
+step-quiet t s room z = step-case t s room (λ (o : Outcome). o .answer .names ≡ []) (λ _. quiet-names t (decode (t .version) s) (afterRecord s) z) (λ _. refl)
 
 quiet-fits : (p : Progress) (s : List ℕ) (room space : ℕ) → p .table .count ≡ 0 → step (p .table) s room .answer .refusal ≡ 0 → verdict p s room space ≡ 0
 unfolding verdict lineAt lineOf firstNo lineFits

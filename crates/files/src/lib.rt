@@ -195,7 +195,7 @@ fn run_records(head: Header, bytes: &[u8], listing: &mut [u8], scratch: &mut [u8
     ensures { λ r. ⌜ Ran (now (bytes .entry)) (now (listing .entry)) (now (scratch .entry)) r (now (listing .exit)) (now (scratch .exit)) ⌝ }
 {
     let mut table = Table::opened(refusal::ACCEPTED, head.version, head.n);
-    let mut left = records::behind(bytes, 2);
+    let mut left = records::rest(bytes, 2);
     let mut cursor = begun();
     while 0 < left.len() {
         let ahead = look_ahead(table.version, left);
@@ -206,7 +206,7 @@ fn run_records(head: Header, bytes: &[u8], listing: &mut [u8], scratch: &mut [u8
         let y = table.controllers[j];
         let done = turn(cursor, table, x, y, found, left, listing, scratch);
         cursor = done.cursor;
-        let next = records::behind(left, done.used);
+        let next = records::rest(left, done.used);
         left = next;
         let verdict = cursor.refusal;
         if verdict != 0 {

@@ -17,7 +17,7 @@ use Rattle.lists.specs.Every.{Every}
 use Rattle.model.specs.Tables.{at, message, applied, messagesOf}
 use Rattle.model.specs.Delivery.{Slots, has}
 use Rattle.model.specs.Events.{subject, next, appliedBy, controllerOf, resulting, weigh, shown, panelOf, earlier, insert, namesBelow, namesOf, nameOf}
-use Rattle.model.specs.Records.{byte, size, behind, kind, sizeOf, decode}
+use Rattle.model.specs.Records.{byte, size, afterRecord, kind, sizeOf, decode}
 use Rattle.model.specs.Sized.{Sized}
 use Rattle.model.specs.Questions.{firstNo, fileQuestions, kindQuestions, recordQuestions, eventQuestions, commandQuestions, lineFits}
 use Rattle.model.specs.Calls.{answering, accepted, step}
@@ -190,8 +190,8 @@ module _ (p : Progress) (s : List ℕ) (room space f : ℕ) (h : Listed (suc f) 
         lines = omega (
           arith,
           h .lines,
-          length-append (p .lines) (lineOf (p .events + 1) (controllerOf d) (panelOf (resulting t d) (controllerOf d) .sums) (answering t d (behind s) .names)),
-          line-delivers t d (behind s) (h .sized) (h .formed) q (p .events + 1) (omega (arith, h .few)),
+          length-append (p .lines) (lineOf (p .events + 1) (controllerOf d) (panelOf (resulting t d) (controllerOf d) .sums) (answering t d (afterRecord s) .names)),
+          line-delivers t d (afterRecord s) (h .sized) (h .formed) q (p .events + 1) (omega (arith, h .few)),
         );
       })
 
@@ -224,8 +224,8 @@ unfolding records
 records-fit zero p s room space l h = listed-fits 0 p h
 records-fit (suc f) p [] room space l h = listed-fits (suc f) p h
 records-fit (suc f) p (b ∷ s) room space l h =
-    advance-case p (b ∷ s) room space (λ q. Fits (cond (eqb (q .refusal) 0) (records f q (behind (b ∷ s)) room space) q))
-    (λ v. records-fit f (gone p (b ∷ s) room space) (behind (b ∷ s)) room space l (accepted-listed p (b ∷ s) room space f h (verdict-passed p (b ∷ s) room space v .0)))
+    advance-case p (b ∷ s) room space (λ q. Fits (cond (eqb (q .refusal) 0) (records f q (afterRecord (b ∷ s)) room space) q))
+    (λ v. records-fit f (gone p (b ∷ s) room space) (afterRecord (b ∷ s)) room space l (accepted-listed p (b ∷ s) room space f h (verdict-passed p (b ∷ s) room space v .0)))
     (λ d. rw (ne-eqb (verdict p (b ∷ s) room space) 0 d) (record { not-16 = verdict-not-16 p (b ∷ s) room space f h l; short = listed-fits (suc f) p h .short }))
 
 pub listing-fits : (s : List ℕ) (room space : ℕ) → firstNo (fileQuestions s) ≡ 0 → 11200 ≤ space
@@ -260,25 +260,25 @@ accepted-size v s e =
       size-least v (kind s) (ltb-true 0 (kind s) (and-left _ _ k)) (leb-true (kind s) 6 (and-right (ltb 0 (kind s)) _ k)),
     )
 
-length-behind : (s : List ℕ) → length (behind s) ≡ length s - (size s + 1)
-unfolding behind
-length-behind s = length-drop (size s + 1) s
+length-after : (s : List ℕ) → length (afterRecord s) ≡ length s - (size s + 1)
+unfolding afterRecord
+length-after s = length-drop (size s + 1) s
 
 records-count : (f : ℕ) (p : Progress) (s : List ℕ) (room space : ℕ) → 3 * records f p s room space .events ≤ 3 * p .events + length s
 unfolding records
 records-count zero p s room space = omega arith
 records-count (suc f) p [] room space = omega arith
 records-count (suc f) p (b ∷ s) room space =
-    advance-case p (b ∷ s) room space (λ q. 3 * (cond (eqb (q .refusal) 0) (records f q (behind (b ∷ s)) room space) q) .events ≤ 3 * p .events + length (b ∷ s))
+    advance-case p (b ∷ s) room space (λ q. 3 * (cond (eqb (q .refusal) 0) (records f q (afterRecord (b ∷ s)) room space) q) .events ≤ 3 * p .events + length (b ∷ s))
     (λ v.
     let e = verdict-passed p (b ∷ s) room space v .0 in
     let a = accepted-asked (p .table) (b ∷ s) room e in
     omega (
       arith,
-      records-count f (gone p (b ∷ s) room space) (behind (b ∷ s)) room space,
+      records-count f (gone p (b ∷ s) room space) (afterRecord (b ∷ s)) room space,
       accepted-size (p .table .version) (b ∷ s) (step-asked (p .table) (b ∷ s) room a .0),
       accepted-within (p .table) (b ∷ s) room e,
-      length-behind (b ∷ s),
+      length-after (b ∷ s),
     ))
     (λ d. rw (ne-eqb (verdict p (b ∷ s) room space) 0 d) (omega arith))
 

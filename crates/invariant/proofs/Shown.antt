@@ -13,7 +13,7 @@ use Rattle.lists.specs.Every.{Every}
 use Rattle.lists.proofs.Clipped.{any-none}
 use Rattle.model.specs.Tables.{classCount, noSums, noPanel, at, withController, messageIn, messagesOf}
 use Rattle.model.specs.Events.{subject, next, withSent, appliedBy, weigh, plus, sums, classSums, shown, panelOf, finishes}
-use Rattle.model.specs.Records.{behind, decode}
+use Rattle.model.specs.Records.{afterRecord, decode}
 use Rattle.model.specs.WellFormed.{wellFormed}
 use Rattle.model.specs.Questions.{firstNo, lentTable, lookQuestions, stepQuestions}
 use Rattle.model.specs.Calls.{Outcome, answering, accepted, refused, event, look}
@@ -79,4 +79,4 @@ pub answer-bounded : (t : Table) (s : List ℕ) (room : ℕ) → Bounded (event 
 unfolding event accepted refused lentTable
 answer-bounded t s room =
     settled-case (λ (o : Outcome). Bounded (o .answer .sums)) t s (firstNo (lentTable t ∷ stepQuestions t s room))
-    (λ e. answering-bounded t (facts t (no-no 3 (wellFormed t) _ e .0)) (decode (t .version) s) (behind s)) (λ _. none-bounded)
+    (λ e. answering-bounded t (facts t (no-no 3 (wellFormed t) _ e .0)) (decode (t .version) s) (afterRecord s)) (λ _. none-bounded)

@@ -13,5 +13,5 @@ pub fn event<'t, 'a, 's, 'o>(
     let s = events::event(*t, bytes, scratch);
     *t = s.table;
     *answer = s.answer;
-    records::behind(bytes, s.used)
+    records::rest(bytes, s.used)
 }

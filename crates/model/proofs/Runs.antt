@@ -10,7 +10,7 @@ use lib.Seq.{drop-length}
 use lib.Dec.{eqb}
 use borrow.Author.Tests.{eqb-true, eqb-false, ne-eqb}
 use Rattle.lists.proofs.Tests.{cond-case, decided}
-use Rattle.model.specs.Records.{size, behind}
+use Rattle.model.specs.Records.{size, afterRecord}
 use Rattle.model.specs.Calls.{step}
 use Rattle.model.specs.Runs.{Progress, lineAt, verdict, advance, records}
 use Rattle.model.proofs.Allowed.{line-asked}
@@ -51,7 +51,7 @@ module _ (p : Progress) (s : List ℕ) (room space : ℕ) where
 
 -- a run goes on after an accepted record, and a refusal ends it
 pub records-on : (f : ℕ) (p : Progress) (b : ℕ) (s : List ℕ) (room space : ℕ) → verdict p (b ∷ s) room space ≡ 0
-    → records (suc f) p (b ∷ s) room space ≡ records f (gone p (b ∷ s) room space) (behind (b ∷ s)) room space
+    → records (suc f) p (b ∷ s) room space ≡ records f (gone p (b ∷ s) room space) (afterRecord (b ∷ s)) room space
 unfolding records
 records-on f p b s room space e = rw (advance-gone p (b ∷ s) room space e)
 
@@ -62,8 +62,8 @@ records-end f p b s room space n =
     rw (advance-ended p (b ∷ s) room space n, ne-eqb (verdict p (b ∷ s) room space) 0 n)
 
 -- an accepted record leaves fewer bytes
-pub behind-shorter : (p : Progress) (s : List ℕ) (room space : ℕ) → verdict p s room space ≡ 0 → length (behind s) < length s
-behind-shorter p s room space e =
+pub after-shorter : (p : Progress) (s : List ℕ) (room space : ℕ) → verdict p s room space ≡ 0 → length (afterRecord s) < length s
+after-shorter p s room space e =
     let z = verdict-passed p s room space e .0 in
     rw (accepted-rest (p .table) s room z) at (accepted-shorter (p .table) s room z)
 
@@ -83,21 +83,21 @@ fuel-suffices (suc f) zero p (b ∷ s) room space h k = absurd (omega arith)
 fuel-suffices (suc f) (suc g) p [] room space h k = refl
 fuel-suffices (suc f) (suc g) p (b ∷ s) room space h k =
     go (decided (eqb (verdict p (b ∷ s) room space) 0))
-    (λ l. fuel-suffices f g (gone p (b ∷ s) room space) (behind (b ∷ s)) room space (omega arith) (omega arith))
+    (λ l. fuel-suffices f g (gone p (b ∷ s) room space) (afterRecord (b ∷ s)) room space (omega arith) (omega arith))
   where
     go : (eqb (verdict p (b ∷ s) room space) 0 ≡ true) ⊎ (eqb (verdict p (b ∷ s) room space) 0 ≡ false)
-        → (length (behind (b ∷ s)) < length (b ∷ s) → records f (gone p (b ∷ s) room space) (behind (b ∷ s)) room space ≡ records g (gone p (b ∷ s) room space) (behind (b ∷ s)) room space)
+        → (length (afterRecord (b ∷ s)) < length (b ∷ s) → records f (gone p (b ∷ s) room space) (afterRecord (b ∷ s)) room space ≡ records g (gone p (b ∷ s) room space) (afterRecord (b ∷ s)) room space)
         → records (suc f) p (b ∷ s) room space ≡ records (suc g) p (b ∷ s) room space
     go (inl q) onward =
         let e = eqb-true (verdict p (b ∷ s) room space) 0 q in
-        records-on f p b s room space e ∙ (onward (behind-shorter p (b ∷ s) room space e) ∙ sym (records-on g p b s room space e))
+        records-on f p b s room space e ∙ (onward (after-shorter p (b ∷ s) room space e) ∙ sym (records-on g p b s room space e))
     go (inr q) onward =
         let n = eqb-false (verdict p (b ∷ s) room space) 0 q in
         records-end f p b s room space n ∙ sym (records-end g p b s room space n)
 
-left-behind : (s : List ℕ) → drop (size s + 1) s ≡ behind s
-unfolding behind
-left-behind s = refl
+left-after : (s : List ℕ) → drop (size s + 1) s ≡ afterRecord s
+unfolding afterRecord
+left-after s = refl
 
 -- What is left after a record: the bytes after it, or none where it is refused. From there the run goes on as it would have gone.
 pub records-turn : (p : Progress) (s : List ℕ) (room space : ℕ) → 0 < length s
@@ -106,13 +106,13 @@ pub records-turn : (p : Progress) (s : List ℕ) (room space : ℕ) → 0 < leng
 records-turn p [] room space h l e = absurd (omega arith)
 records-turn p (b ∷ s) room space h l e = go (decided (eqb (verdict p (b ∷ s) room space) 0))
   where
-    went : verdict p (b ∷ s) room space ≡ 0 → l ≡ behind (b ∷ s)
+    went : verdict p (b ∷ s) room space ≡ 0 → l ≡ afterRecord (b ∷ s)
         → records (suc (length s)) p (b ∷ s) room space ≡ records (length l) (advance p (b ∷ s) room space) l room space
     went z q =
-        let less = behind-shorter p (b ∷ s) room space z in
+        let less = after-shorter p (b ∷ s) room space z in
         rw (q, advance-gone p (b ∷ s) room space z)
         (records-on (length s) p b s room space z
-        ∙ fuel-suffices (length s) (length (behind (b ∷ s))) (gone p (b ∷ s) room space) (behind (b ∷ s)) room space (omega arith) (omega arith))
+        ∙ fuel-suffices (length s) (length (afterRecord (b ∷ s))) (gone p (b ∷ s) room space) (afterRecord (b ∷ s)) room space (omega arith) (omega arith))
 
     stayed : verdict p (b ∷ s) room space ≢ 0 → l ≡ []
         → records (suc (length s)) p (b ∷ s) room space ≡ records (length l) (advance p (b ∷ s) room space) l room space
@@ -122,5 +122,5 @@ records-turn p (b ∷ s) room space h l e = go (decided (eqb (verdict p (b ∷ s
 
     go : (eqb (verdict p (b ∷ s) room space) 0 ≡ true) ⊎ (eqb (verdict p (b ∷ s) room space) 0 ≡ false)
         → records (suc (length s)) p (b ∷ s) room space ≡ records (length l) (advance p (b ∷ s) room space) l room space
-    go (inl q) = went (eqb-true _ 0 q) (e ∙ rw (advance-verdict p (b ∷ s) room space, q) (left-behind (b ∷ s)))
+    go (inl q) = went (eqb-true _ 0 q) (e ∙ rw (advance-verdict p (b ∷ s) room space, q) (left-after (b ∷ s)))
     go (inr q) = stayed (eqb-false _ 0 q) (e ∙ rw (advance-verdict p (b ∷ s) room space, q) (drop-length (b ∷ s)))

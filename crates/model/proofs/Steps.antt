@@ -10,7 +10,7 @@ use lib.Dec.{eqb, leb, ltb}
 use borrow.Author.Tests.{ltb-true, leb-true, eqb-true, eqb-false, eq-eqb}
 use Rattle.lists.proofs.Tests.{cond-case, cond-true}
 use Rattle.model.specs.Events.{resulting}
-use Rattle.model.specs.Records.{size, behind, decode}
+use Rattle.model.specs.Records.{size, afterRecord, decode}
 use Rattle.model.specs.WellFormed.{wellFormed}
 use Rattle.model.specs.Questions.{firstNo, fileQuestions, lentTable, recordQuestions, scratchRoom, stepQuestions}
 use Rattle.model.specs.Calls.{Outcome, answering, accepted, refused, settled, step, event}
@@ -66,9 +66,9 @@ module _ (t : Table) (s : List ℕ) (room : ℕ) where
     unfolding accepted
     accepted-table = ap (λ (o : Outcome). o .table) (step-is-accepted accepted-asked)
 
-    pub accepted-rest : step t s room .answer .rest ≡ behind s
+    pub accepted-rest : step t s room .answer .rest ≡ afterRecord s
     unfolding accepted
-    accepted-rest = ap (λ (o : Outcome). o .answer .rest) (step-is-accepted accepted-asked) ∙ answering-rest t (decode (t .version) s) (behind s)
+    accepted-rest = ap (λ (o : Outcome). o .answer .rest) (step-is-accepted accepted-asked) ∙ answering-rest t (decode (t .version) s) (afterRecord s)
 
     pub accepted-within : size s < length s
     unfolding recordQuestions
@@ -76,7 +76,7 @@ module _ (t : Table) (s : List ℕ) (room : ℕ) where
 
     -- what is left is shorter than what was handed in
     pub accepted-shorter : length (step t s room .answer .rest) < length s
-    unfolding behind
+    unfolding afterRecord
     accepted-shorter = rw accepted-rest (omega (arith, accepted-within, length-drop (size s + 1) s))
 
     pub accepted-room : 4096 ≤ room

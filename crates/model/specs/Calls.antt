@@ -8,7 +8,7 @@ use Rattle.lists.specs.Build.{over, overlay}
 use Rattle.model.specs.Tables.{Messages, capacity, scratchSize, noName, noSums, noPanel, unheld, fresh, zeroTable, messageIn, at, messagesOf, inBuffer, entry}
 use Rattle.model.specs.Delivery.{goesBefore}
 use Rattle.model.specs.Events.{subject, next, appliedBy, resulting, panelOf, namesOf, finishes}
-use Rattle.model.specs.Records.{behind, decode}
+use Rattle.model.specs.Records.{afterRecord, decode}
 use Rattle.model.specs.Questions.{firstNo, freshQuestions, lentTable, lookQuestions, stepQuestions}
 use Rattle.model.specs.declared.Message.{Message}
 use Rattle.model.specs.declared.Name.{Name}
@@ -49,7 +49,7 @@ answering t (Act e) r =
 answering t (Read c) r = record { refusal = 0; names = []; finished = false; sums = panelOf t c .sums; rest = r }
 
 unfoldable pub accepted : Table → List ℕ → Outcome
-accepted t s = let a = decode (t .version) s in record { answer = answering t a (behind s); table = resulting t a }
+accepted t s = let a = decode (t .version) s in record { answer = answering t a (afterRecord s); table = resulting t a }
 
 unfoldable pub refused : Table → List ℕ → ℕ → Outcome
 refused t s k = record { answer = record { refusal = k; names = []; finished = false; sums = noSums; rest = s }; table = t }

@@ -18,8 +18,8 @@ byte s i = getD s i 0
 abbrev pub size : List ℕ → ℕ
 size s = byte s 0
 
-unfoldable pub behind : List ℕ → List ℕ
-behind s = drop (size s + 1) s
+unfoldable pub afterRecord : List ℕ → List ℕ
+afterRecord s = drop (size s + 1) s
 
 abbrev pub kind : List ℕ → ℕ
 kind s = byte s 1

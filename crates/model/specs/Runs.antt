@@ -7,7 +7,7 @@ use lib.Dec.{eqb}
 use Rattle.lists.specs.Build.{overlay}
 use Rattle.model.specs.Tables.{fresh, zeroTable}
 use Rattle.model.specs.Events.{controllerOf, panelOf}
-use Rattle.model.specs.Records.{byte, behind, decode}
+use Rattle.model.specs.Records.{byte, afterRecord, decode}
 use Rattle.model.specs.Questions.{ask, firstNo, fileQuestions, lineFits}
 use Rattle.model.specs.Calls.{step, cleared}
 use Rattle.model.specs.declared.Name.{Name}
@@ -83,7 +83,7 @@ records zero p s room space = p
 records (suc f) p [] room space = p
 records (suc f) p (b ∷ s) room space =
     let q = advance p (b ∷ s) room space in
-    let on = records f q (behind (b ∷ s)) room space in
+    let on = records f q (afterRecord (b ∷ s)) room space in
     cond (eqb (q .refusal) 0) on q
 
 unfoldable pub begun : ℕ → ℕ → Progress

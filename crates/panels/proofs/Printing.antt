@@ -16,7 +16,7 @@ use Rattle.lists.proofs.Build.{length-overlay}
 use Rattle.lists.proofs.Tests.{cond-true, cond-false, by-contradiction}
 use Rattle.model.specs.Tables.{scratchSize, zeroTable, start, fresh}
 use Rattle.model.specs.Events.{resulting}
-use Rattle.model.specs.Records.{byte, behind, decode}
+use Rattle.model.specs.Records.{byte, afterRecord, decode}
 use Rattle.model.specs.Questions.{firstNo, fileQuestions}
 use Rattle.model.specs.Calls.{Outcome, accepted, refused, step}
 use Rattle.model.specs.Runs.{header, footer, Progress, RunOutcome, verdict, records, begun, progress, ran, fileRun}
@@ -105,8 +105,8 @@ unfolding records
 records-n zero p s room space = refl
 records-n (suc f) p [] room space = refl
 records-n (suc f) p (b ∷ s) room space =
-    advance-case p (b ∷ s) room space (λ q. cond (eqb (q .refusal) 0) (records f q (behind (b ∷ s)) room space) q .table .n ≡ p .table .n)
-    (λ _. records-n f (gone p (b ∷ s) room space) (behind (b ∷ s)) room space ∙ step-n (p .table) (b ∷ s) room)
+    advance-case p (b ∷ s) room space (λ q. cond (eqb (q .refusal) 0) (records f q (afterRecord (b ∷ s)) room space) q .table .n ≡ p .table .n)
+    (λ _. records-n f (gone p (b ∷ s) room space) (afterRecord (b ∷ s)) room space ∙ step-n (p .table) (b ∷ s) room)
     (λ d. rw (ne-eqb (verdict p (b ∷ s) room space) 0 d))
 
 progress-n : (s : List ℕ) (room space : ℕ) → progress s room space .table .n ≡ byte s 1

@@ -47,7 +47,7 @@ fn cut_record(bytes: &[u8]) -> Cut
 }
 
 // What is left after that many bytes; nothing where there are fewer.
-pub fn behind(bytes: &[u8], used: usize) -> &[u8]
+pub fn rest(bytes: &[u8], used: usize) -> &[u8]
     ensures { λ r. ⌜ now r ≡ drop used (now (bytes .entry)) ⌝ }
 {
     let have = bytes.len();

@@ -22,7 +22,7 @@ start c = c .before .before
 returns : tie.Need-returns
 returns c =
     let k = c .before .before in
-    record { set = candidates-applicable _ _ _ _ (listed k .held-slots .ensures) _ (k .candidates .ensures) (c .if1 .taken); size = refl; behind = λ x h. refl }
+    record { set = candidates-applicable _ _ _ _ (listed k .held-slots .ensures) _ (k .candidates .ensures) (c .if1 .taken); size = refl; beyond = λ x h. refl }
 
 settle-requires : tie.Need-settle-requires
 settle-requires c κs =
@@ -35,7 +35,7 @@ returns-2 c =
     let f = filled (c .before) in
     let k = chosen f in
     let r = f .fill .ensures in
-    record { set = matrix-applicable _ _ _ _ (listed k .held-slots .ensures) _ (k .candidates .ensures) _ _ _ r (c .settle .ensures); size = r .size; behind = r .behind }
+    record { set = matrix-applicable _ _ _ _ (listed k .held-slots .ensures) _ (k .candidates .ensures) _ _ _ r (c .settle .ensures); size = r .size; beyond = r .beyond }
 
 pub applicable-spec : {M : Type 1} → statement M
 applicable-spec =

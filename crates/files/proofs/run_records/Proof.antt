@@ -47,7 +47,7 @@ commanded c = c .before .before
 abbrev went : tie.After-command Inv-loop μ-loop → tie.Else1 Inv-loop μ-loop
 went c = c .before .before
 
-abbrev done : tie.After-behind2 Inv-loop μ-loop → tie.After-turn Inv-loop μ-loop
+abbrev done : tie.After-rest2 Inv-loop μ-loop → tie.After-turn Inv-loop μ-loop
 done c = c .before .before .before .before .before .before
 
 abbrev turned : tie.Else1 Inv-loop μ-loop → tie.After-turn Inv-loop μ-loop
@@ -114,14 +114,14 @@ room : (c : tie.After-e Inv-loop μ-loop) → Sendable (loop (turned (went (comm
 room c = sendable _ _ _ (sends c .0)
 
 -- fewer bytes are left
-fewer : (c : tie.After-behind2 Inv-loop μ-loop) → length (now (c .behind2 .result)) < length (loop (done c) .loop .left .now)
-fewer c = let d = done c in run-further _ _ _ _ _ _ _ _ (loop d .loop .inv) (some d .loop-test .taken) _ _ _ (d .turn .ensures) _ (c .behind2 .ensures)
+fewer : (c : tie.After-rest2 Inv-loop μ-loop) → length (now (c .rest2 .result)) < length (loop (done c) .loop .left .now)
+fewer c = let d = done c in run-further _ _ _ _ _ _ _ _ (loop d .loop .inv) (some d .loop-test .taken) _ _ _ (d .turn .ensures) _ (c .rest2 .ensures)
 
 opened-requires : tie.Need-opened-requires Inv-loop μ-loop
 opened-requires c κs = search needs
 
-behind-requires : tie.Need-behind-requires Inv-loop μ-loop
-behind-requires c κs = search needs
+rest-requires : tie.Need-rest-requires Inv-loop μ-loop
+rest-requires c κs = search needs
 
 begun-requires : tie.Need-begun-requires Inv-loop μ-loop
 begun-requires c κs = search needs
@@ -131,7 +131,7 @@ loop-holds c =
     let b = c .before in
     let o = b .before in
     let s = o .before .before .before .before in
-    run-begins _ _ _ (s .pre .0) _ (s .pre .1) _ (o .opened .ensures) _ (b .behind .ensures) _ (c .begun .ensures)
+    run-begins _ _ _ (s .pre .0) _ (s .pre .1) _ (o .opened .ensures) _ (b .rest .ensures) _ (c .begun .ensures)
 
 look-ahead-requires : tie.Need-look-ahead-requires Inv-loop μ-loop
 look-ahead-requires c κs = search needs
@@ -159,8 +159,8 @@ turn-requires c κs =
       },
     )
 
-behind-requires-2 : tie.Need-behind-requires-2 Inv-loop μ-loop
-behind-requires-2 c κs = search needs
+rest-requires-2 : tie.Need-rest-requires-2 Inv-loop μ-loop
+rest-requires-2 c κs = search needs
 
 loop-less : tie.Need-loop-less Inv-loop μ-loop
 loop-less c = fewer (c .before)
@@ -168,7 +168,7 @@ loop-less c = fewer (c .before)
 loop-again : tie.Need-loop-again Inv-loop μ-loop
 loop-again c =
     let d = done (c .before) in
-    run-goes-on _ _ _ _ _ _ _ _ (loop d .loop .inv) (some d .loop-test .taken) _ _ _ (d .turn .ensures) _ (c .before .behind2 .ensures) _ (λ z. absurd (c .if1 .taken z)) (λ _. refl)
+    run-goes-on _ _ _ _ _ _ _ _ (loop d .loop .inv) (some d .loop-test .taken) _ _ _ (d .turn .ensures) _ (c .before .rest2 .ensures) _ (λ z. absurd (c .if1 .taken z)) (λ _. refl)
 
 enum-known-command : tie.Need-enum-known-command Inv-loop μ-loop
 enum-known-command c = search needs
@@ -183,7 +183,7 @@ loop-again-2 : tie.Need-loop-again-2 Inv-loop μ-loop
 loop-again-2 c =
     let g = c .before .before in
     let d = turned g in
-    run-goes-on _ _ _ _ _ _ _ _ (loop d .loop .inv) (some d .loop-test .taken) _ _ _ (d .turn .ensures) _ (g .before .behind2 .ensures) _
+    run-goes-on _ _ _ _ _ _ _ _ (loop d .loop .inv) (some d .loop-test .taken) _ _ _ (d .turn .ensures) _ (g .before .rest2 .ensures) _
     (λ _. read-stays _ _ _ (sym (command-is (ahead d)) ∙ c .enum-told .given .1))
     (λ n. absurd (n (g .if1 .left)))
 
@@ -204,7 +204,7 @@ loop-again-3 c =
     let k = commanded (c .before) in
     let g = went k in
     let d = turned g in
-    run-goes-on _ _ _ _ _ _ _ _ (loop d .loop .inv) (some d .loop-test .taken) _ _ _ (d .turn .ensures) _ (g .before .behind2 .ensures) _
+    run-goes-on _ _ _ _ _ _ _ _ (loop d .loop .inv) (some d .loop-test .taken) _ _ _ (d .turn .ensures) _ (g .before .rest2 .ensures) _
     (λ _. event-stored _ _ _ (event-is k) _ (seat k) _ (leaves k) (c .match2 .keys2))
     (λ n. absurd (n (g .if1 .left)))
 
@@ -230,7 +230,7 @@ loop-again-4 c =
     let g = went k in
     let d = turned g in
     let x = sends e in
-    run-goes-on _ _ _ _ _ _ _ _ (loop d .loop .inv) (some d .loop-test .taken) _ _ _ (d .turn .ensures) _ (g .before .behind2 .ensures) _
+    run-goes-on _ _ _ _ _ _ _ _ (loop d .loop .inv) (some d .loop-test .taken) _ _ _ (d .turn .ensures) _ (g .before .rest2 .ensures) _
     (λ _. send-stored _ _ _ (event-is k) _ (seat k) _ (leaves k) _ _ (e .e .given .1) _ (c .sent-message .ensures .sent _ refl (x .0) (x .1)))
     (λ n. absurd (n (g .if1 .left)))
 
@@ -253,7 +253,7 @@ run-records-spec =
     Inv-loop
     μ-loop
     opened-requires
-    behind-requires
+    rest-requires
     begun-requires
     loop-holds
     look-ahead-requires
@@ -262,7 +262,7 @@ run-records-spec =
     mul-y
     element-copy-out-y
     turn-requires
-    behind-requires-2
+    rest-requires-2
     loop-less
     loop-again
     enum-known-command

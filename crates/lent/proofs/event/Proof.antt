@@ -1,4 +1,4 @@
--- `event` meets its contract: a walk of its MIR, by hand. The table is copied out of its borrow and handed to the by-value `event` with the bytes and the scratch area, which is given up for good; the table and the answer that come back are stored, and `behind` makes the part that is handed back.
+-- `event` meets its contract: a walk of its MIR, by hand. The table is copied out of its borrow and handed to the by-value `event` with the bytes and the scratch area, which is given up for good; the table and the answer that come back are stored, and `rest` makes the part that is handed back.
 -- All that the proof knows of the two callees is that each meets its contract.
 -- Assumes nothing.
 use Rattle.walks.proofs.Walk.{_≡_, refl, ℕ, [], _∷_, List, length, dropped, URA, named, w64, Val, vint, SProp, ent, id⊢, Lft, Share, Fml, ftrue, flft, Memory, Routine, Heap, Calls, Loops, WpFn, Atoms, Fun, givenOf, tables, Given, Item, ‵, raw, _⊛_, ⋆, _$_, _∵_, !, qed, by, move, drop, use1, split, join, fsplit, fsplit3, fjoin, fjoin3, feqI, suffices, frame, done, look, look-raw, init, store-raw, stop, hop, fld, from, load, addr, of-opd, and-then, no-more, assigns, land, returns, enter, alloc1, alloc0, params1, pass1, pass0, free0, agg, whole, sub, look-in, FmC, owns, Is, shows, uint-makes, u8, usize, RefT, MutRef, ptr-vals, mut-tells, slice-vals, MutSlice, ShrSlice, finally, mut-slice-tells, shr-slice-tells, mut-slice-lawful, shr-slice-lawful, shr-slice-copy, owned, peeks, heard, nothing, onEntry, tripleOf, Contract, Triple, calls-at, cited, says, Stays, stay-ref, stay-dropped, gave-slice, walkOf, goes-ref, goes-dropped, goes-gave-slice, ends-at, yes, Slot, plain, shrSliceOf, ptrOf, sliceOf, lent, opened, closed, as-long, answered, told, freed, asks, proves}
@@ -18,10 +18,10 @@ use Rattle.events.proofs.event as step
 use Rattle.events.proofs.event.Symbol as step-def
 use Rattle.events.proofs.event.Symbol.{name as #events·event}
 use Rattle.events.proofs.event.Met as step-thm
-use Rattle.records.proofs.behind as rest
-use Rattle.records.proofs.behind.Symbol as rest-def
-use Rattle.records.proofs.behind.Symbol.{name as #records·behind}
-use Rattle.records.proofs.behind.Met as rest-thm
+use Rattle.records.proofs.rest as rest
+use Rattle.records.proofs.rest.Symbol as rest-def
+use Rattle.records.proofs.rest.Symbol.{name as #records·rest}
+use Rattle.records.proofs.rest.Met as rest-thm
 use Rattle.lent.proofs.event.Key.{name as #lent·event}
 use Rattle.lent.proofs.event as f
 use Rattle.lent.proofs.event.Statement as stated
@@ -95,7 +95,7 @@ module _ {M : Type 1} (𝓤 : URA M) (H : Heap 𝓤) (A : Atoms 𝓤) (W : Given
   abbrev Own : Fml
   Own = ShrSlice (named 1) κa u8 .own s (sliceOf s ∷ [])
 
-  module _ (C : Calls 𝓤 H) (Λ : Loops 𝓤 H) (fm : FmC 𝓤 H (W .laws) C) (known-step : Triple 𝓤 (C #events·event) (Step 𝓤 H A at-mem run)) (known-rest : Triple 𝓤 (C #records·behind) (Rest 𝓤 H A at-mem run)) where
+  module _ (C : Calls 𝓤 H) (Λ : Loops 𝓤 H) (fm : FmC 𝓤 H (W .laws) C) (known-step : Triple 𝓤 (C #events·event) (Step 𝓤 H A at-mem run)) (known-rest : Triple 𝓤 (C #records·rest) (Rest 𝓤 H A at-mem run)) where
     walk : Is (ShrSlice (named 1) κa u8) s (sliceOf s ∷ []) → Is (MutSlice (named 2) κs u8) z (sliceOf z ∷ [])
         → ent 𝓤 (onEntry 𝓤 H A f.signature (κt, (κa, (κs, (κo, tt)))) (qt, (qa, (qs, (qo, tt)))) a vals) (WpFn 𝓤 H C Λ code.function (ptrOf t ∷ sliceOf s ∷ sliceOf z ∷ ptrOf w ∷ []) Post)
     walk ps pz =
@@ -125,7 +125,7 @@ module _ {M : Type 1} (𝓤 : URA M) (H : Heap 𝓤) (A : Atoms 𝓤) (W : Given
         move ! (23 ∷ 24 ∷ 25 ∷ []) $ opened ! tt N.the-type N′.the-laws (w .now) (w .ptr .0) (w .ptr .1) (λ _.
         assigns ! (of-opd ! (load ! (from ! (fld ! refl (stop !))) (look-in ! 15 (sub ! 0 refl (whole !))))) (from ! (hop ! (look ! 17 refl) (stop !))) (store-raw ! 0 refl (LL.lawful N.the-type N′.the-laws 𝓤 H A W .typed (r .answer) _ (fields r is .0) .0)) $
         closed ! tt N.the-type N′.the-laws N′.the-plain (r .answer) (fields r is .0) (w .ptr .0) (w .ptr .1) $
-        -- `behind`: [the answer's three; the table's; the last scratch; the tokens of 'a and 's; _8; …; bytes]
+        -- `rest`: [the answer's three; the table's; the last scratch; the tokens of 'a and 's; _8; …; bytes]
         move ! (7 ∷ []) $ use1 W (‵ (flft κa qa) ⊛ ‵ (flft κs qs) ⊛ ‵ ftrue) (id⊢ 𝓤 _) $ split ! $ move ! (1 ∷ []) $ split ! $ move ! (2 ∷ 1 ∷ []) $ join ! $
         nothing ! $ owned ! usize (Is usize) (uint-makes 𝓤 H A W w64) (r .used) _ (fields r is .1 .0) $ fjoin ! $ move ! (28 ∷ 0 ∷ []) $ fjoin ! $ move ! (1 ∷ 0 ∷ []) $ join ! $ use1 W (raw (Rest 𝓤 H A at-mem run .pre (to-rest (r .used)))) (asks 𝓤 _) $
         calls-at ! fm (Rest 𝓤 H A at-mem run) known-rest (to-rest (r .used)) (and-then ! (load ! (from ! (stop !)) (look ! 21 refl)) (and-then ! (load ! (from ! (fld ! refl (stop !))) (look-in ! 15 (sub ! 1 refl (whole !)))) (no-more !))) (λ v.
@@ -143,4 +143,4 @@ event-spec 𝓤 H 𝓜 𝓖 𝓡 =
     (λ κs. (ptr-vals, (slice-vals, (slice-vals, (ptr-vals, tt))))) (λ κs. (mut-tells (named 0) (κs .0) T.the-row, (shr-slice-tells (named 1) (κs .1 .0) u8, (mut-slice-tells (named 2) (κs .1 .1 .0) u8, (mut-tells (named 3) (κs .1 .1 .1 .0) N.the-row, tt)))))
     (λ fm κs qs bounds a g are. walk 𝓤 H (𝓖 .A) (givenOf 𝓤 H 𝓜 𝓖) (𝓜 .mem) (𝓡 .run) (κs .0) (κs .1 .0) (κs .1 .1 .0) (κs .1 .1 .1 .0) (qs .0) (qs .1 .0) (qs .1 .1 .0) (qs .1 .1 .1 .0) (a .0) (a .1 .0) (a .1 .1 .0) (a .1 .1 .1 .0) (tables 𝓤 H 𝓜 𝓡 code.env .C) (tables 𝓤 H 𝓜 𝓡 code.env .Λ) fm
     (cited 𝓤 H (Step 𝓤 H (𝓖 .A) (𝓜 .mem) (𝓡 .run)) 𝓜 𝓡 code.env #events·event step-def.routine code.calls-events·event (step-thm.met 𝓤 H 𝓜 𝓖 𝓡))
-    (cited 𝓤 H (Rest 𝓤 H (𝓖 .A) (𝓜 .mem) (𝓡 .run)) 𝓜 𝓡 code.env #records·behind rest-def.routine code.calls-records·behind (rest-thm.met 𝓤 H 𝓜 𝓖 𝓡)) (are .1 .0) (are .1 .1 .0))
+    (cited 𝓤 H (Rest 𝓤 H (𝓖 .A) (𝓜 .mem) (𝓡 .run)) 𝓜 𝓡 code.env #records·rest rest-def.routine code.calls-records·rest (rest-thm.met 𝓤 H 𝓜 𝓖 𝓡)) (are .1 .0) (are .1 .1 .0))

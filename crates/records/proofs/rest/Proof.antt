@@ -1,9 +1,9 @@
--- `behind` answers what is left after the bytes used. Assumes nothing.
+-- `rest` answers what is left after the bytes used. Assumes nothing.
 use borrow.Author.Needs.{needs}
 use denote.Ref.{now}
 use Rattle.records.proofs.Cuts.{part-rest, part-past}
-use Rattle.records.proofs.behind.Statement.{statement}
-use Rattle.records.proofs.behind.Tie as tie
+use Rattle.records.proofs.rest.Statement.{statement}
+use Rattle.records.proofs.rest.Tie as tie
 
 returns : tie.Need-returns
 returns c = part-rest (c .before .before .args .used) (now (c .before .before .args .bytes))
@@ -11,8 +11,8 @@ returns c = part-rest (c .before .before .args .used) (now (c .before .before .a
 returns-2 : tie.Need-returns-2
 returns-2 c = part-past (c .before .before .args .used) (now (c .before .before .args .bytes)) (c .before .if1 .left)
 
-pub behind-spec : {M : Type 1} → statement M
-behind-spec =
+pub rest-spec : {M : Type 1} → statement M
+rest-spec =
     tie.close
     (tie.spec
     (λ c. search needs)
