@@ -1,16 +1,19 @@
--- The number of the interface; and what the event call leaves, to a caller that is told how long the part of its bytes is
--- that is unread.
+-- The number of the interface; what the event call leaves, to a caller that is told how long the part of its bytes is that is
+-- unread; and what the dispatcher leaves.
 use mathlib.Core.Path.{_≡_}
 use mathlib.Core.List.{List}
 use Prim.Native.Nat.{ℕ}
 use lib.ListN.{length}
 use Rattle.model.specs.Calls.{event, scratchAfter, answerOf}
+use Rattle.model.specs.Dispatcher.{dispatch, scratchServed, dispatchAnswerOf}
+use Rattle.model.specs.declared.Pair.{Pair}
 use Rattle.model.specs.declared.Table.{Table}
 use Rattle.model.specs.declared.Answer.{Answer}
+use Rattle.model.specs.declared.DispatchAnswer.{DispatchAnswer}
 
 -- It goes up whenever a struct, a constant, a refusal or a call changes that C or Rust see.
 abbrev pub interface : ℕ
-interface = 1
+interface = 2
 
 -- the event of the bytes s on the table t, with the scratch area w
 pub record Counted (t : Table) (s w : List ℕ) (table : Table) (answer : Answer) (left : ℕ) (scratch : List ℕ) : Type 0 where
@@ -18,3 +21,9 @@ pub record Counted (t : Table) (s w : List ℕ) (table : Table) (answer : Answer
   pub answer-is : answer ≡ answerOf (event t s (length w) .answer)
   pub left-is : left ≡ length (event t s (length w) .answer .rest)
   pub scratch-is : scratch ≡ scratchAfter (event t s (length w) .answer .refusal) w
+
+-- the next handover after that of the pair p on the table t, with the scratch area w
+pub record Dispatched (t : Table) (p : Pair) (w : List ℕ) (table : Table) (answer : DispatchAnswer) (scratch : List ℕ) : Type 0 where
+  pub table-is : table ≡ dispatch t p (length w) .table
+  pub answer-is : answer ≡ dispatchAnswerOf (dispatch t p (length w) .answer)
+  pub scratch-is : scratch ≡ scratchServed (dispatch t p (length w) .answer .pair) w

@@ -2,11 +2,12 @@
 // contract is an equation for its result and for all that it may write.
 ghost use mathlib.Core.Path.{_≡_};
 ghost use Rattle.model.specs.Calls.{look, countBefore, freshTable};
+ghost use Rattle.model.specs.Dispatcher.{pair};
 ghost use Rattle.files.specs.FileRun.{Runs};
-ghost use Rattle.engine.specs.Called.{Counted, interface};
+ghost use Rattle.engine.specs.Called.{Counted, Dispatched, interface};
 
 // The state of the interface. It goes up whenever a struct, a constant, a refusal or a call changes that C or Rust see.
-const INTERFACE: usize = 1;
+const INTERFACE: usize = 2;
 
 // The number of the interface, by which a caller sees that its header is this library's.
 #[no_mangle]
@@ -59,6 +60,22 @@ pub extern "C" fn furnacejade_fresh(version: usize, n: usize, answer: &mut model
     ensures { λ _. ⌜ now (answer .exit) ≡ freshTable version n ⌝ }
 {
     *answer = events::fresh_table(version, n);
+}
+
+// The next handover after that of a pair: the receiver and the owner that were served last, n and n at first.
+#[no_mangle]
+pub extern "C" fn furnacejade_dispatch(
+    t: &mut model::Table,
+    receiver: usize,
+    owner: usize,
+    scratch: &mut [u8],
+    answer: &mut model::DispatchAnswer,
+)
+    ensures { λ _. ⌜ Dispatched (now (t .entry)) (pair receiver owner) (now (scratch .entry)) (now (t .exit)) (now (answer .exit)) (now (scratch .exit)) ⌝ }
+{
+    let s = dispatcher::dispatch(*t, receiver, owner, scratch);
+    *t = s.table;
+    *answer = s.answer;
 }
 
 // The run of a whole file.

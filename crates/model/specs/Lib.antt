@@ -11,4 +11,5 @@ pub mod Facts
 pub mod WellFormed
 pub mod Questions
 pub mod Calls
+pub mod Dispatcher
 pub mod Runs

@@ -123,6 +123,20 @@ pub struct Answer {
     pub names: [Name; Table::MESSAGES],
 }
 
+// A handover by its numbers: the receiver, and the owner of the log that it reads.
+#[repr(C)]
+pub struct Pair {
+    pub receiver: usize,
+    pub owner: usize,
+}
+
+// What the dispatcher answers: the pair that it served, 0 and 0 if it served none, and what the event call answers of the handover.
+#[repr(C)]
+pub struct DispatchAnswer {
+    pub pair: Pair,
+    pub answer: Answer,
+}
+
 // What a request for a fresh table answers.
 #[repr(C)]
 pub struct FreshAnswer {
