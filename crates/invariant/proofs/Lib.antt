@@ -16,3 +16,4 @@ pub mod Listing
 pub mod Classes
 pub mod Shown
 pub mod NextRegisters
+pub mod Dispatching

@@ -75,6 +75,10 @@ pub record Dispatched : Type 0 where
   pub pair : Pair
   pub answer : EventAnswer
 
+-- it says "none": number 0, and the pair 0 and 0
+unfoldable pub saysNone : Dispatched → Bool
+saysNone a = eqb (a .answer .refusal) 0 && not (some? (a .pair))
+
 -- what it leaves besides
 pub record DispatchOutcome : Type 0 where
   pub answer : Dispatched
