@@ -1,5 +1,5 @@
 -- A list of calls is legal steps one after another from a fresh table, and each of its moments is one that they reach. Assumes nothing.
-use mathlib.Core.Path.{_≡_, refl, ap, _∙_}
+use mathlib.Core.Path.{_≡_, refl, sym, ap, _∙_}
 use mathlib.Core.List.{List, [], _∷_, _++_, flatMap, foldl, foldl-append, append-nil}
 use Prim.Native.Nat.{ℕ, suc, _+_, _-_, _≤_}
 use native.Mathlib.Numerals.{add-one}
@@ -21,7 +21,7 @@ use Rattle.consistency.specs.Demand3.{Head, Heads, version, controllers,
 use Rattle.consistency.specs.Courses.{Course, told, Gives, freshOf, tableAt}
 use Rattle.consistency.proofs.Bridge.{top}
 use Rattle.consistency.proofs.Recorded.{names-sent}
-use Rattle.consistency.proofs.Moments.{course-append, course-first, course-rest, stepped, Takes, entries-version, did-append, entries-taken, Moment, first-moment, moment-after, Later, moment-later}
+use Rattle.consistency.proofs.Moments.{course-append, course-first, course-rest, course-end, stepped, Takes, entries-version, did-append, entries-taken, Moment, first-moment, moment-after, Later, moment-later}
 use Rattle.consistency.proofs.CallCourses.{transcript-course}
 use Rattle.consistency.proofs.Heads.{Opened, opened}
 
@@ -59,6 +59,10 @@ module _ (h : Head) (heads : Heads h) (calls : List Call) where
 
   from : (i : ℕ) → Course told Gives (tableAt h calls i) (drop i es) end
   from i = course-rest told Gives (freshOf h) (take i es) (drop i es) end (rw (take-append-drop i es) whole)
+
+  pub version-given : given h .version ≡ v
+  version-given =
+      ap (λ (t : Table). t .version) (sym (course-end told Gives (freshOf h) (opening h) (given h) (b .course))) ∙ (entries-version (freshOf h) (opening h) ∙ fresh-version h)
 
   pub version-at : (i : ℕ) → tableAt h calls i .version ≡ v
   version-at i = entries-version (freshOf h) (take i es) ∙ fresh-version h
@@ -103,13 +107,20 @@ module _ (h : Head) (heads : Heads h) (calls : List Call) where
       ∙ ap ledger (did-append v (take i es) (e ∷ []) ∙ ap (λ (xs : List Step). did v (take i es) ++ xs) (append-nil (steps v e)))
       ∙ foldl-append moved start (did v (take i es)) (steps v e)
 
-  -- of two moments, the second k entries on; and so of any two in order
-  later-by : (i k : ℕ) → Later n (freshState top) (tableAt h calls i) (foldl told (tableAt h calls i) (take k (drop i es))) (moment h calls i) (moment h calls (i + k))
-  later-by i k =
+  -- of two moments, the second k entries on: the entries between them, and what they make of the ledger; and so of any two in order
+  pub between-course : (i k : ℕ) → Course told Gives (tableAt h calls i) (take k (drop i es)) (foldl told (tableAt h calls i) (take k (drop i es)))
+  between-course i k = course-first told Gives (tableAt h calls i) (take k (drop i es)) (drop k (drop i es)) end (rw (take-append-drop k (drop i es)) (from i))
+
+  pub between-steps : (i k : ℕ) → Course stepped Takes (tableAt h calls i) (did v (take k (drop i es))) (foldl told (tableAt h calls i) (take k (drop i es)))
+  between-steps i k = entries-taken (tableAt h calls i) (version-at i) (take k (drop i es)) _ (between-course i k)
+
+  pub moment-after-steps : (i k : ℕ) → moment h calls (i + k) ≡ foldl moved (moment h calls i) (did v (take k (drop i es)))
+  moment-after-steps i k =
       let xs = take k (drop i es) in
-      let c = course-first told Gives (tableAt h calls i) xs (drop k (drop i es)) end (rw (take-append-drop k (drop i es)) (from i)) in
-      rw (take-add i k es, did-append v (take i es) xs, foldl-append moved start (did v (take i es)) (did v xs))
-      (moment-later (moment-at i) (did v xs) (entries-taken _ (version-at i) xs _ c))
+      ap (λ (ys : List Entry). ledger (did v ys)) (take-add i k es) ∙ (ap ledger (did-append v (take i es) xs) ∙ foldl-append moved start (did v (take i es)) (did v xs))
+
+  later-by : (i k : ℕ) → Later n (freshState top) (tableAt h calls i) (foldl told (tableAt h calls i) (take k (drop i es))) (moment h calls i) (moment h calls (i + k))
+  later-by i k = rw (moment-after-steps i k) (moment-later (moment-at i) (did v (take k (drop i es))) (between-steps i k))
 
   pub later-at : (i j : ℕ) → i ≤ j → Later n (freshState top) (tableAt h calls i) (foldl told (tableAt h calls i) (take (j - i) (drop i es))) (moment h calls i) (moment h calls j)
   later-at i j le = let q : i + (j - i) ≡ j = omega (arith, le) in rw q at (later-by i (j - i))

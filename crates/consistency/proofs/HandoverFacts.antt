@@ -15,6 +15,7 @@ use Rattle.model.specs.Delivery.{Slots, has as member}
 use Rattle.model.specs.Events.{subject, withSent, next, appliedBy, controllerOf, resulting, panelOf, finishes}
 use Rattle.model.specs.Records.{afterRecord, decode}
 use Rattle.model.specs.Calls.{EventAnswer, answering, accepted}
+use Rattle.model.specs.Dispatcher.{handover}
 use Rattle.model.specs.declared.Name.{Name}
 use Rattle.model.specs.declared.Panel.{Panel}
 use Rattle.model.specs.declared.Table.{Table}
@@ -25,7 +26,7 @@ use Rattle.model.specs.declared.Command.the-variants.{Act, Read}
 use Rattle.model.specs.Facts.{WellFormed}
 use Rattle.model.proofs.Allowed.{handover-allowed}
 use Rattle.model.proofs.Handovers.{setAt}
-use Rattle.consistency.specs.Entries.{has, handover, Line, Entry, answered, observed, served, handed, listed, Said, carried, stepsOf, steps}
+use Rattle.consistency.specs.Entries.{has, Line, Entry, answered, observed, served, handed, listed, Said, carried, stepsOf, steps}
 use Rattle.consistency.specs.Ledger.{Sent, Ledger, applied, showing, finishing}
 use Rattle.consistency.specs.Demand3.{Finishes}
 use Rattle.consistency.specs.Courses.{Course, told, Gives}
@@ -129,8 +130,8 @@ module _ {n : ℕ} {t : Table} (formed : WellFormed t) (r o : ℕ) (q : Said) (m
       handover-answers formed r o q ms (h .0) (h .1) (afterRecord s) a (call-accepted t s w a g (c .0) .1 ∙ ap (λ x. answering t x (afterRecord s)) (c .1))
   entry-finishes (observed x a) g is k = absurd (cons-ne-nil _ [] (sym is))
   entry-finishes (served s a) g is k = absurd (cons-ne-nil _ [] (sym is))
-  entry-finishes (handed p a) g is k =
-      let h = handover-taken (handed p a) g is k in
+  entry-finishes (handed x p a) g is k =
+      let h = handover-taken (handed x p a) g is k in
       let e : handover p ≡ Handover r o = cc in
       handover-answers formed r o q ms (h .0) (h .1) [] a (rw e at (g .1))
   entry-finishes (listed s x) g is k = λ f. line-sums s x g is k (λ none. contradiction f (rw none (finishing-none (l .sent) r)))

@@ -29,5 +29,8 @@ pub mod HandoverFacts
 pub mod FileRuns
 pub mod Heads
 pub mod CallLists
+pub mod Places
+pub mod Fairness
+pub mod DispatcherFacts
 pub mod NeverStale
 pub mod Theorem

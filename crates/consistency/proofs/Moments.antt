@@ -11,6 +11,8 @@ use Rattle.model.specs.Records.{afterRecord, decode}
 use Rattle.model.specs.WellFormed.{wellFormed}
 use Rattle.model.specs.Questions.{FreshAllowed, firstNo, eventQuestions, commandQuestions, lentTable, stepQuestions}
 use Rattle.model.specs.Calls.{EventAnswer, Outcome, answering, accepted, refused, event}
+use Rattle.model.specs.Dispatcher.{handover}
+use Rattle.model.specs.declared.Pair.{Pair}
 use Rattle.model.specs.declared.Table.{Table}
 use Rattle.model.specs.declared.Event.{Event}
 use Rattle.model.specs.declared.Event.the-variants.{Send, Handover, Stop}
@@ -20,7 +22,7 @@ use Rattle.model.proofs.Allowed.{no-no, step-asked}
 use Rattle.model.proofs.Steps.{answering-accepted, settled-case}
 use Rattle.broadcast.specs.State.{State, fresh as freshState}
 use Rattle.broadcast.specs.Events.{Run, start as stays, then}
-use Rattle.consistency.specs.Entries.{Pair, handover, Entry, answered, observed, served, handed, listed, said, nothingSaid, Step, carried, stepsOf, steps, did}
+use Rattle.consistency.specs.Entries.{Entry, answered, observed, served, handed, listed, said, nothingSaid, Step, carried, stepsOf, steps, did}
 use Rattle.consistency.specs.Ledger.{Ledger, start, moved}
 use Rattle.consistency.specs.Courses.{Course, told, Gives}
 use Rattle.consistency.proofs.Bridge.{top, system, Related}
@@ -47,6 +49,11 @@ module _ {S A : Type 0} (on : S → A → S) (P : S → A → Type 0) where
   unfolding Course
   course-rest s [] ys u p = p
   course-rest s (x ∷ xs) ys u p = course-rest (on s x) xs ys u (p .1)
+
+  pub course-end : (s : S) (xs : List A) (u : S) → Course on P s xs u → foldl on s xs ≡ u
+  unfolding Course
+  course-end s [] u p = p
+  course-end s (x ∷ xs) u p = course-end (on s x) xs u (p .1)
 
 -- STEPS
 
@@ -98,7 +105,7 @@ unfolding Gives told steps Course stepped Takes
 entry-taken t (answered s w a) q = rw q (event-taken t s w)
 entry-taken t (observed o a) q = refl
 entry-taken t (served s a) q = refl
-entry-taken t (handed p a) q = (handover-legal t p a (q .0) (q .1), refl)
+entry-taken t (handed s p a) q = (handover-legal t p a (q .0) (q .1), refl)
 entry-taken t (listed s x) q = rw (q .1, saying-set) (accepted-taken t s (q .0))
 
 -- THE VERSION, which no entry changes
@@ -117,12 +124,12 @@ accepted-version t s = go (decode (t .version) s)
     go (Act e) = next-version t e
     go (Read c) = refl
 
-told-version : (t : Table) (e : Entry) → told t e .version ≡ t .version
+pub told-version : (t : Table) (e : Entry) → told t e .version ≡ t .version
 unfolding told event refused
 told-version t (answered s w a) = settled-case (λ (o : Outcome). o .table .version ≡ t .version) t s _ (λ _. accepted-version t s) (λ _. refl)
 told-version t (observed o a) = refl
 told-version t (served s a) = refl
-told-version t (handed p a) = next-version t (handover p)
+told-version t (handed s p a) = next-version t (handover p)
 told-version t (listed s x) = accepted-version t s
 
 pub entries-version : (t : Table) (es : List Entry) → foldl told t es .version ≡ t .version
@@ -131,10 +138,13 @@ entries-version t (e ∷ es) = entries-version (told t e) es ∙ told-version t 
 
 -- LISTS
 
-pub did-append : (v : ℕ) (xs ys : List Entry) → did v (xs ++ ys) ≡ did v xs ++ did v ys
+pub flatMap-append : {A B : Type 0} (f : A → List B) (xs ys : List A) → flatMap f (xs ++ ys) ≡ flatMap f xs ++ flatMap f ys
 unfolding flatMap
-did-append v [] ys = refl
-did-append v (e ∷ xs) ys = rw (did-append v xs ys, append-assoc)
+flatMap-append f [] ys = refl
+flatMap-append f (x ∷ xs) ys = rw (flatMap-append f xs ys, append-assoc)
+
+pub did-append : (v : ℕ) (xs ys : List Entry) → did v (xs ++ ys) ≡ did v xs ++ did v ys
+did-append v = flatMap-append (steps v)
 
 -- read as the version of their tables says, entries are legal steps
 pub entries-taken : {v : ℕ} (t : Table) → t .version ≡ v → (es : List Entry) (u : Table) → Course told Gives t es u → Course stepped Takes t (did v es) u
@@ -156,7 +166,7 @@ pub record Moment (n : ℕ) (s : State) (t : Table) (l : Ledger) : Type 0 where
 pub first-moment : {v n : ℕ} → FreshAllowed v n → Moment n (freshState top) (fresh v n) start
 first-moment a = record { state = freshState top; run = stays; related = fresh-related a; recorded = start-recorded a }
 
-step-moment : {n : ℕ} {s₀ : State} {t : Table} {l : Ledger} → Moment n s₀ t l → (x : Step) → Takes t x → Moment n s₀ (stepped t x) (moved l x)
+pub step-moment : {n : ℕ} {s₀ : State} {t : Table} {l : Ledger} → Moment n s₀ t l → (x : Step) → Takes t x → Moment n s₀ (stepped t x) (moved l x)
 unfolding Takes stepped
 step-moment m (carried s e ms) a =
     let g = m .related in

@@ -3,9 +3,10 @@ use mathlib.Core.Path.{_≡_, sym, ap, _∙_}
 use mathlib.Core.Logic.{_≢_, inl, inr, ⊎-swap}
 use mathlib.Core.Bool.{true}
 use mathlib.Core.List.{List, [], _∷_, _++_, foldl, append-nil, append-assoc, cons-ne-nil}
-use Prim.Native.Nat.{ℕ, suc}
+use Prim.Native.Nat.{ℕ, suc, _*_, _<_}
 use native.Mathlib.Omega.{arith}
 use lib.ListN.{length, take, drop}
+use Rattle.lists.specs.Below.{count}
 use Rattle.model.specs.Tables.{at, Among, messagesOf}
 use Rattle.model.specs.Events.{weigh}
 use Rattle.model.specs.WellFormed.{wellFormed}
@@ -16,9 +17,9 @@ use Rattle.model.specs.declared.Table.{Table}
 use Rattle.model.proofs.Tested.{tested}
 use Rattle.model.proofs.Steps.{step-first-no, event-is-step}
 use Rattle.invariant.proofs.Refusals.{step-refusals}
-use Rattle.consistency.specs.Entries.{observe, panelLook, Call, singleEvent, observing, Entry, answered, listed, entriesOf, left, transcript}
-use Rattle.consistency.specs.Ledger.{Sent, applied, remaining, weights}
-use Rattle.consistency.specs.Demand3.{Head, Heads, controllers, opening, given, entries, moment, IsRunning, ReadOut, readRecord, Consistent}
+use Rattle.consistency.specs.Entries.{observe, panelLook, Call, singleEvent, observing, Entry, answered, listed, entriesOf, left, transcript, did}
+use Rattle.consistency.specs.Ledger.{Sent, applied, ledger, remaining, weights, showing}
+use Rattle.consistency.specs.Demand3.{Head, Heads, version, controllers, opening, given, entries, moment, IsRunning, ReadOut, LookShows, readRecord, Consistent}
 use Rattle.consistency.specs.Courses.{tableAt}
 use Rattle.consistency.proofs.Recorded.{distinct-sent}
 use Rattle.consistency.proofs.LedgerRegisters.{stamps-differ}
@@ -26,6 +27,7 @@ use Rattle.consistency.proofs.Sums.{of-payload, weights-weigh, same-mem
 use Rattle.consistency.proofs.MomentFacts.{Comparable, comparable, InOrder, OneValue, snapshots, values, in-order, look-shows, read-gives, read-rests, moment-ending, ending-shows, ending-gives}
 use Rattle.consistency.proofs.HandoverFacts.{line-sums}
 use Rattle.consistency.proofs.CallLists.{version-at, gives-at, event-at, look-at, moment-at, moment-end, moment-past, any-two, sent}
+use Rattle.consistency.proofs.DispatcherFacts.{fair, bounded, accepts, one-none, none-reads}
 use Rattle.consistency.proofs.NeverStale.{applied-then, syncs, never-stale, included, answered-so, bears}
 
 -- one call more
@@ -37,6 +39,15 @@ extended t (c ∷ cs) x = ap (λ es. entriesOf t c ++ es) (extended (left t c) c
 list-extended : (h : Head) (calls : List Call) (x : Call) → entries h (calls ++ (x ∷ [])) ≡ entries h calls ++ entriesOf (foldl left (given h) calls) x
 unfolding entries
 list-extended h calls x = ap (λ es. opening h ++ es) (extended (given h) calls x) ∙ sym (append-assoc (opening h) (transcript (given h) calls) _)
+
+-- a look at the ending
+ending-look : (h : Head) → Heads h → (now : List Call) (r : ℕ)
+    → let l = ledger (did (version h) (entries h now)) in
+    ReadOut (controllers h) l → IsRunning (controllers h) l r → LookShows h now r (showing (l .sent) (remaining l))
+unfolding entriesOf observe
+ending-look h heads now r e on =
+    let s = ending-shows (moment-end h heads now) e r on in
+    record { answer = look (foldl left (given h) now) r; last = list-extended h now (observing (panelLook r)); accepted = s .0; shown = s .1 }
 
 -- DEMAND 3
 
@@ -64,10 +75,7 @@ demand-3 h heads calls = record {
   rests = λ i j k x y f l b g. never-stale h heads calls j y b (suc i) (suc k) (x .sender) (y .name .sender) l (applied-then h heads calls g);
   found = λ a i j k later r x s e w f l b g q. bears h heads calls a x e later (s .name .sender) r w (included h heads calls j s b later f l g q);
   ending = λ i r e on. moment-ending (moment-at h heads calls i) e r on;
-  ending-look = λ i r e on.
-      let now = take i calls in
-      let s = ending-shows (moment-end h heads now) e r on in
-      record { answer = look (foldl left (given h) now) r; last = list-extended h now (observing (panelLook r)); accepted = s .0; shown = s .1 };
+  ending-look = λ i. ending-look h heads (take i calls);
   ending-read = λ i r w e on k.
       let now = take i calls in
       let s = ending-gives (moment-end h heads now) e r on w k in
@@ -76,6 +84,20 @@ demand-3 h heads calls = record {
         last = list-extended h now (singleEvent (readRecord r) w);
         accepted = s .0;
         gives = s .1;
+      };
+  fair = fair h heads calls;
+  bounded = bounded h heads calls;
+  accepts = accepts h heads calls;
+  one-none = one-none h heads calls;
+  none-ends = λ i s.
+      let now = take i calls in
+      let l = ledger (did (version h) (entries h now)) in
+      let read = none-reads h heads now s in
+      let out : controllers h < 2 * count (controllers h) (λ j. l .runs (suc j)) → ReadOut (controllers h) l = λ most. record { majority = most; to-end = read } in
+      record {
+        read = read;
+        applies = λ most r on. moment-ending (moment-end h heads now) (out most) r on;
+        shows = λ most r on. ending-look h heads now r (out most) on;
       };
 }
 

@@ -9,11 +9,13 @@ use Rattle.model.specs.Events.{next, controllerOf, panelOf}
 use Rattle.model.specs.Records.{decode}
 use Rattle.model.specs.Questions.{firstNo, eventQuestions, commandQuestions}
 use Rattle.model.specs.Calls.{Outcome, answering, accepted, event}
+use Rattle.model.specs.Dispatcher.{handover, dispatch}
 use Rattle.model.specs.declared.Name.{Name}
 use Rattle.model.specs.declared.Sums.{Sums}
+use Rattle.model.specs.declared.Pair.{Pair}
 use Rattle.model.specs.declared.Table.{Table}
 use Rattle.model.specs.declared.Command.the-variants.{Act}
-use Rattle.consistency.specs.Entries.{observe, Pair, handover, serve, Call, Line, Entry, answered, observed, served, handed, listed}
+use Rattle.consistency.specs.Entries.{observe, Service, dispatching, serve, Call, Line, Entry, answered, observed, served, handed, listed}
 use Rattle.consistency.specs.Lines.{noLine}
 use Rattle.consistency.specs.Demand3.{Head, version, controllers, entries}
 
@@ -28,7 +30,7 @@ unfoldable pub told : Table → Entry → Table
 told t (answered s w a) = event t s (length w) .table
 told t (observed o a) = t
 told t (served s a) = t
-told t (handed p a) = next t (handover p)
+told t (handed s p a) = next t (handover p)
 told t (listed s x) = accepted t s .table
 
 -- what the line of a set and of the sums after it says; a set without messages has none
@@ -40,19 +42,23 @@ lineSaying z (m ∷ ms) = record { set = m ∷ ms; sums = z }
 abbrev pub lineAfter : ℕ → Outcome → Line
 lineAfter c o = lineSaying (panelOf (o .table) c .sums) (o .answer .names)
 
--- what the definitions of the calls answer; of a handover that a served call made, that no question refuses it; of a file, a record that no
--- question refuses, and what its line says
+-- a call makes this handover at t: the dispatcher makes that of the pair that it answers there
+unfoldable pub Chooses : Table → Service → Pair → Type 0
+Chooses t (dispatching p w) q = q ≡ dispatch t p (length w) .answer .pair
+
+-- what the definitions of the calls answer; of a handover that a served call made, that no question refuses it and that the call makes
+-- it there; of a file, a record that no question refuses, and what its line says
 unfoldable pub Gives : Table → Entry → Type 0
 Gives t (answered s w a) = a ≡ event t s (length w) .answer
 Gives t (observed o a) = a ≡ observe t o
 Gives t (served s a) = a ≡ serve t s .answer
-Gives t (handed p a) = (firstNo (eventQuestions t (handover p)) ≡ 0) × (a ≡ answering t (Act (handover p)) [])
+Gives t (handed s p a) = (firstNo (eventQuestions t (handover p)) ≡ 0) × (a ≡ answering t (Act (handover p)) []) × Chooses t s p
 Gives t (listed s x) = (firstNo (commandQuestions t (decode (t .version) s)) ≡ 0) × (x ≡ lineAfter (controllerOf (decode (t .version) s)) (accepted t s))
 
--- each of these handovers is allowed at the table where it is made
-unfoldable pub Allowed : Table → List Pair → Type 0
-Allowed t [] = Unit {0}
-Allowed t (p ∷ ps) = (firstNo (eventQuestions t (handover p)) ≡ 0) × Allowed (next t (handover p)) ps
+-- each of these handovers is allowed at the table where the call makes it, and the last leaves u
+unfoldable pub Allowed : Service → Table → List Pair → Table → Type 0
+Allowed s t [] u = t ≡ u
+Allowed s t (p ∷ ps) u = (firstNo (eventQuestions t (handover p)) ≡ 0) × Chooses t s p × Allowed s (next t (handover p)) ps u
 
 -- the fresh table that a list starts from, and the table at a moment of it
 abbrev pub freshOf : Head → Table

@@ -1,6 +1,5 @@
--- Demand 3 (RULES.md, sections 20 and 21): one claim about a whole list of calls, read from
--- the calls' arguments and answers. That it holds of every list is proofs/Theorem.antt. Entries.antt, Ledger.antt
--- and Lines.antt are read before it.
+-- Demand 3 (RULES.md, sections 20 and 21): one claim about a whole list of calls, read from the calls' arguments and answers. That it
+-- holds of every list is proofs/Theorem.antt. Entries.antt, Ledger.antt, Lines.antt and Dispatches.antt are read before it.
 use Prim.Native.Nat.{ℕ, suc, _-_, _*_, _≤_, _<_}
 use mathlib.Core.Path.{_≡_}
 use mathlib.Core.Logic.{_⊎_}
@@ -13,6 +12,7 @@ use Rattle.model.specs.Records.{byte, kind}
 use Rattle.model.specs.Registers.{exceeds}
 use Rattle.model.specs.Questions.{firstNo, fileQuestions}
 use Rattle.model.specs.Calls.{EventAnswer, freshTable}
+use Rattle.model.specs.Dispatcher.{Dispatched, saysNone}
 use Rattle.model.specs.Runs.{fileRun}
 use Rattle.model.specs.declared.Name.{Name}
 use Rattle.model.specs.declared.Sums.{Sums}
@@ -22,9 +22,11 @@ use Rattle.model.specs.declared.Table.{Table}
 use Rattle.model.specs.declared.Event.{Event}
 use Rattle.model.specs.declared.Event.the-variants.{Handover}
 use Rattle.model.specs.declared.LookAnswer.{LookAnswer}
-use Rattle.consistency.specs.Entries.{name, has, Distinct, ownOf, panelLook, Call, singleEvent, observing, Line, Entry, answered, observed, served, handed, listed, transcript, Said, Step, carried, steps, did}
+use Rattle.model.specs.declared.Pair.{Pair}
+use Rattle.consistency.specs.Entries.{name, has, Distinct, ownOf, panelLook, dispatching, Call, singleEvent, observing, Line, Entry, answered, observed, served, handed, listed, transcript, Said, Step, carried, steps, did}
 use Rattle.consistency.specs.Ledger.{Sent, Ledger, applied, writes, written, registerAt, ledger, sentNames, remaining, weights, showing, finishing}
 use Rattle.consistency.specs.Lines.{fileEntries}
+use Rattle.consistency.specs.Dispatches.{NoStop, handoverCount, dispatches, FollowOn, dispatchAnswers, oneSaysNone}
 
 -- THE HEAD AND THE LIST
 
@@ -116,8 +118,37 @@ unfoldable pub Finishes : Entry → Bool → Sums → Type 0
 Finishes (answered s w a) f z = (a .finished ≡ f) × (a .sums ≡ cond f z noSums)
 Finishes (observed o a) f z = ⊥
 Finishes (served s a) f z = ⊥
-Finishes (handed p a) f z = (a .finished ≡ f) × (a .sums ≡ cond f z noSums)
+Finishes (handed s p a) f z = (a .finished ≡ f) × (a .sums ≡ cond f z noSums)
 Finishes (listed s x) f z = f ≡ true → x .sums ≡ z
+
+-- THE DISPATCHER
+
+-- the entries between two moments
+abbrev pub between : Head → List Call → ℕ → ℕ → List Entry
+between h calls i j = take (j - i) (drop i (entries h calls))
+
+-- an entry of the log of o is next for r, which runs
+pub record Waiting (n : ℕ) (l : Ledger) (r o : ℕ) : Type 0 where
+  pub receiver : IsRunning n l r
+  pub owner : Among n o
+  pub unread : l .place r o < length (l .log o)
+
+-- the last call of the list is the dispatcher's, and says "none"
+pub record LastSaysNone (h : Head) (calls : List Call) : Type 0 where
+  pub before : List Entry
+  pub named : Pair
+  pub scratch : List ℕ
+  pub answer : Dispatched
+  pub last : entries h calls ≡ before ++ (served (dispatching named scratch) answer ∷ [])
+  pub none : saysNone answer ≡ true
+
+-- the end of a run: each running controller has read every log to its end and, where more than half of all controllers run, each of
+-- these has applied exactly the messages sent, less those cut off, and a look at it shows that
+pub record AtTheEnd (h : Head) (calls : List Call) (l : Ledger) : Type 0 where
+  pub read : (r o : ℕ) → IsRunning (controllers h) l r → Among (controllers h) o → l .place r o ≡ length (l .log o)
+  pub applies : controllers h < 2 * count (controllers h) (λ i. l .runs (suc i)) → (r : ℕ) → IsRunning (controllers h) l r → Exactly (applied l r) (remaining l)
+  pub shows : controllers h < 2 * count (controllers h) (λ i. l .runs (suc i)) → (r : ℕ) → IsRunning (controllers h) l r
+      → LookShows h calls r (showing (l .sent) (remaining l))
 
 -- BEGUN AND FINISHED are positions in the list: entry i, counted from 0, stands between moments i and i + 1
 
@@ -255,3 +286,26 @@ pub record Consistent (h : Head) (calls : List Call) : Type 0 where
       let l = ledger (did (version h) (entries h now)) in
       ReadOut (controllers h) l → IsRunning (controllers h) l r → scratchSize ≤ length w
       → ReadGives h now r w (showing (l .sent) (remaining l) .sums)
+  -- "As long as nobody stops and each call names the pair last served, a waiting entry that is next for a running receiver is read within
+  -- n x n of the dispatcher's handovers": between two moments the dispatcher makes n x n handovers or more, each of which but the first,
+  -- which names p, names the pair that the one before it served. Whatever else stands between, and whatever those calls of the dispatcher
+  -- name that are refused or say "none", the entry that waited at the first moment has been read at the second
+  pub fair : (i j r o : ℕ) (p : Pair)
+      → let n = controllers h in
+      let xs = between h calls i j in
+      NoStop (did (version h) xs) → FollowOn p (dispatches xs) → n * n ≤ length (dispatches xs)
+      → Waiting n (moment h calls i) r o → moment h calls i .place r o < moment h calls j .place r o
+  -- "With no new reports, syncs or writes and no stop, it reaches "none" in at most 3,136 handovers": between any two moments no more than
+  -- these are accepted, the dispatcher's and others together, and also where there is a new report, sync, write or stop
+  pub bounded : (i j : ℕ) → handoverCount (did (version h) (between h calls i j)) ≤ 3136
+  -- a call of the dispatcher that names controllers 1 to n, with enough scratch, is accepted
+  pub accepts : (i : ℕ) (p : Pair) (w : List ℕ) (a : Dispatched) (after : List Entry) → drop i (entries h calls) ≡ served (dispatching p w) a ∷ after
+      → Among (controllers h) (p .receiver) → Among (controllers h) (p .owner) → scratchSize ≤ length w → a .answer .refusal ≡ 0
+  -- and so of any 3,137 such calls one says "none"
+  pub one-none : (i j : ℕ)
+      → let answers = dispatchAnswers (controllers h) (between h calls i j) in
+      3136 < length answers → oneSaysNone answers ≡ true
+  -- "The ending promised between panels then applies wherever a majority runs": when a call of the dispatcher says "none"
+  pub none-ends : (i : ℕ)
+      → let now = take i calls in
+      LastSaysNone h now → AtTheEnd h now (ledger (did (version h) (entries h now)))

@@ -3,7 +3,7 @@
 use Prim.Native.Nat.{ℕ}
 use mathlib.Core.Path.{_≡_}
 use mathlib.Core.Bool.{Bool, false, _&&_, _||_, cond}
-use mathlib.Core.List.{List, [], _∷_, _++_, flatMap, foldl}
+use mathlib.Core.List.{List, [], _∷_, _++_, flatMap}
 use lib.ListN.{length}
 use lib.IntN.{ℤ, pos, _-ℤ_}
 use lib.Dec.{eqb, ltb}
@@ -11,15 +11,16 @@ use Rattle.model.specs.Tables.{reportKind, writeKind, messageNumber}
 use Rattle.model.specs.Events.{next}
 use Rattle.model.specs.Records.{byte, kind, word, long, decode}
 use Rattle.model.specs.Calls.{EventAnswer, answering, event, look, countBefore}
+use Rattle.model.specs.Dispatcher.{some?, handover, Dispatched, dispatch}
 use Rattle.model.specs.declared.Name.{Name}
 use Rattle.model.specs.declared.Sums.{Sums}
 use Rattle.model.specs.declared.Table.{Table}
 use Rattle.model.specs.declared.Event.{Event}
-use Rattle.model.specs.declared.Event.the-variants.{Handover}
 use Rattle.model.specs.declared.Command.{Command}
 use Rattle.model.specs.declared.Command.the-variants.{Act, Read}
 use Rattle.model.specs.declared.LookAnswer.{LookAnswer}
 use Rattle.model.specs.declared.CountAnswer.{CountAnswer}
+use Rattle.model.specs.declared.Pair.{Pair}
 
 -- NAMES
 
@@ -64,33 +65,30 @@ unfoldable pub observe : Table → (o : Observation) → Observed o
 observe t (panelLook c) = look t c
 observe t (goesBeforeCount c a b) = countBefore t c a b
 
--- A call that is served makes handovers, none, one or several, and changes the table in no other way. No call is of this kind: one that is
--- has a case here, in `Served` and in `serve`, and in the law that it makes only handovers that are allowed (proofs/CallCourses.antt,
--- `serve-allowed`).
+-- A call that is served makes handovers, none, one or several: the dispatcher. What it is asked: the pair that it served last, and the
+-- scratch area that it is lent
 pub data Service : Type 0 where
+  dispatching : (named : Pair) (scratch : List ℕ) → Service
 
--- the form of its answer; `elim [ ]` chooses among no cases
+-- the form of its answer
 abbrev pub Served : Service → Type 0
-Served = elim [ ]
+Served (dispatching p w) = Dispatched
 
--- the receiver of a handover, and the owner of the log that it reads
-pub record Pair : Type 0 where
-  pub receiver : ℕ
-  pub owner : ℕ
-
-abbrev pub handover : Pair → Event
-handover p = Handover (p .receiver) (p .owner)
-
--- what it answers, and the handovers that it makes, in order
+-- what it answers, the handovers that it makes, in order, and the table that it leaves. That these handovers lead to that table, each
+-- allowed where it is made, is a law for each case (proofs/CallCourses.antt).
 pub record ServiceOutcome (s : Service) : Type 0 where
   pub answer : Served s
   pub handovers : List Pair
+  pub table : Table
 
 unfoldable pub serve : Table → (s : Service) → ServiceOutcome s
-serve t = elim [ ]
+serve t (dispatching p w) =
+    let o = dispatch t p (length w) in
+    let q = o .answer .pair in
+    record { answer = o .answer; handovers = cond (some? q) (q ∷ []) []; table = o .table }
 
--- "In the list stand the single-event call, with any bytes and any scratch, and the panel look at any number"; and the count of "goes
--- before", at any number and of any two names
+-- "In the list stand the single-event call, with any bytes and any scratch, and the panel look at any number"; the count of "goes
+-- before", at any number and of any two names; and the dispatcher, with any pair and any scratch
 pub data Call : Type 0 where
   singleEvent : (bytes scratch : List ℕ) → Call
   observing : Observation → Call
@@ -104,33 +102,30 @@ pub record Line : Type 0 where
   pub sums : Sums
 
 -- "Its words are read from the calls' arguments and answers, never from the stored table." A call's arguments with its answer; a handover
--- that a served call made, with what it answered; or a record that a file run accepted, with its listing line.
+-- that a served call made, with the call and with what it answered; or a record that a file run accepted, with its listing line.
 pub data Entry : Type 0 where
   answered : (bytes scratch : List ℕ) → EventAnswer → Entry
   observed : (o : Observation) → Observed o → Entry
   served : (s : Service) → Served s → Entry
-  handed : Pair → EventAnswer → Entry
+  handed : Service → Pair → EventAnswer → Entry
   listed : (bytes : List ℕ) → Line → Entry
 
--- handovers one after another, each at the table that the one before left: what stands for them, and the last table
-unfoldable pub handedOver : Table → List Pair → List Entry
-handedOver t [] = []
-handedOver t (p ∷ ps) = handed p (answering t (Act (handover p)) []) ∷ handedOver (next t (handover p)) ps
-
-unfoldable pub afterwards : Table → List Pair → Table
-afterwards t ps = foldl (λ u p. next u (handover p)) t ps
+-- the handovers of a call, one after another, each at the table that the one before left
+unfoldable pub handedOver : Service → Table → List Pair → List Entry
+handedOver s t [] = []
+handedOver s t (p ∷ ps) = handed s p (answering t (Act (handover p)) []) ∷ handedOver s (next t (handover p)) ps
 
 -- what a call puts in the list: its own entry, and after that of a served call one for each handover that it made
 unfoldable pub entriesOf : Table → Call → List Entry
 entriesOf t (singleEvent s w) = answered s w (event t s (length w) .answer) ∷ []
 entriesOf t (observing o) = observed o (observe t o) ∷ []
-entriesOf t (serving s) = served s (serve t s .answer) ∷ handedOver t (serve t s .handovers)
+entriesOf t (serving s) = served s (serve t s .answer) ∷ handedOver s t (serve t s .handovers)
 
 -- the table that a call leaves
 unfoldable pub left : Table → Call → Table
 left t (singleEvent s w) = event t s (length w) .table
 left t (observing o) = t
-left t (serving s) = afterwards t (serve t s .handovers)
+left t (serving s) = serve t s .table
 
 -- Each call gets the table that the last one left.
 unfoldable pub transcript : Table → List Call → List Entry
@@ -187,7 +182,7 @@ unfoldable pub steps : ℕ → Entry → List Step
 steps v (answered s w a) = cond (eqb (a .refusal) 0) (stepsOf (said v s) (decode v s) (a .names)) []
 steps v (observed o a) = []
 steps v (served s a) = []
-steps v (handed p a) = carried nothingSaid (handover p) (a .names) ∷ []
+steps v (handed s p a) = carried nothingSaid (handover p) (a .names) ∷ []
 steps v (listed s x) = stepsOf (said v s) (decode v s) (x .set)
 
 -- what entries did

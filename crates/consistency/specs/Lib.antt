@@ -1,5 +1,6 @@
 pub mod Entries
 pub mod Ledger
 pub mod Lines
+pub mod Dispatches
 pub mod Demand3
 pub mod Courses

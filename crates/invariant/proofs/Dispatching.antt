@@ -95,14 +95,14 @@ ahead n (suc d) p q i j e = ahead n d (following n p) q (following-range n p i) 
     (λ m l. omega (arith, e, i .owner .high, m, native.Mathlib.Nat.add-mul (p .receiver) 1 n, native.Mathlib.Nat.one-mul n))
     (λ m l. absurd (omega (arith, e, m, j .owner .high, times (q .receiver) (p .receiver) n (omega (arith, l, j .receiver .high))))))
 
--- q is d places after p, from 1 to n x n
-pub record Distance (n : ℕ) (p q : Pair) : Type 0 where
+-- q is from 1 to m places after p
+pub record Distance (n m : ℕ) (p q : Pair) : Type 0 where
   pub places : ℕ
   pub some : 0 < places
-  pub few : places ≤ n * n
+  pub few : places ≤ m
   pub reaches : after n places p ≡ q
 
-pub distance : (n : ℕ) (p q : Pair) → InRange n p → InRange n q → Distance n p q
+pub distance : (n : ℕ) (p q : Pair) → InRange n p → InRange n q → Distance n (n * n) p q
 unfolding after
 distance n p q i j = elim (decLt (code n p) (code n q)) [
   | yes l ↦ record {

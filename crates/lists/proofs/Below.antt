@@ -1,5 +1,5 @@
 -- Laws of `all`, `count`, `distinct`, `sum` and `greatest` over the numbers below a bound. Assumes nothing.
-use mathlib.Core.Path.{_≡_, refl, sym, ap, ap₂, _∙_}
+use mathlib.Core.Path.{_≡_, refl, sym, ap, ap₂, subst, _∙_}
 use mathlib.Core.Bool.{Bool, true, false, not, _||_, false≢true}
 use mathlib.Core.Logic.{_≢_}
 use Prim.Native.Nat.{ℕ, zero, suc, _+_, _*_, max, _≤_, _<_}
@@ -152,6 +152,15 @@ sum-bound (suc n) f b h = omega (arith, sum-bound n f b (λ k l. h k (omega arit
   where
     suc-times : (n b : ℕ) → suc n * b ≡ n * b + b
     suc-times n b = native.Mathlib.Nat.suc-mul n b
+
+-- one term is one more, the others are the same
+pub sum-raised : (n : ℕ) (f g : ℕ → ℕ) (i : ℕ) → i < n → g i ≡ f i + 1 → ((k : ℕ) → k ≢ i → g k ≡ f k) → sum n g ≡ sum n f + 1
+unfolding sum
+sum-raised zero f g i l e h = absurd (not-suc-le-zero l)
+sum-raised (suc n) f g i l e h = elim (ℕ-discrete n i) [
+  | yes q ↦ omega (arith, sum-ext n g f (λ k b. h k (λ r. omega (arith, q, r, b))), subst (λ x. g x ≡ f x + 1) (sym q) e)
+  | no q ↦ omega (arith, sum-raised n f g i (omega (arith, l, q)) e h, h n q)
+]
 
 -- a last term of 0 adds nothing
 pub sum-last : (n : ℕ) (f : ℕ → ℕ) → f n ≡ 0 → sum (n + 1) f ≡ sum n f

@@ -1,0 +1,76 @@
+-- What is read of handovers and of the dispatcher from a part of a list (RULES.md, sections 20 and 25).
+use Prim.Native.Nat.{ℕ}
+use mathlib.Core.Path.{_≡_}
+use mathlib.Core.Bool.{Bool, true, false, _&&_, _||_, cond}
+use mathlib.Core.List.{List, [], _∷_, flatMap}
+use lib.ListN.{length}
+use lib.Dec.{leb}
+use Rattle.lists.specs.Below.{tally}
+use Rattle.model.specs.Tables.{scratchSize}
+use Rattle.model.specs.Fair.{named}
+use Rattle.model.specs.Dispatcher.{Dispatched, saysNone}
+use Rattle.model.specs.declared.Pair.{Pair}
+use Rattle.model.specs.declared.Event.{Event}
+use Rattle.model.specs.declared.Event.the-variants.{Send, Handover, Stop}
+use Rattle.consistency.specs.Entries.{dispatching, Entry, answered, observed, served, handed, listed, Step, carried}
+
+-- STEPS
+
+unfoldable pub isStop : Event → Bool
+isStop (Send c p) = false
+isStop (Handover r o) = false
+isStop (Stop c k) = true
+
+unfoldable pub isHandover : Event → Bool
+isHandover (Send c p) = false
+isHandover (Handover r o) = true
+isHandover (Stop c k) = false
+
+-- nobody stops
+unfoldable pub NoStop : List Step → Type 0
+NoStop [] = Unit {0}
+NoStop (carried r e ms ∷ xs) = (isStop e ≡ false) × NoStop xs
+
+-- how many handovers are accepted, of whatever making
+unfoldable pub handoverCount : List Step → ℕ
+handoverCount [] = 0
+handoverCount (carried r e ms ∷ xs) = tally (isHandover e) (handoverCount xs)
+
+-- THE DISPATCHER'S HANDOVERS
+
+-- the pair that a call named, and the pair that it served
+pub record Dispatch : Type 0 where
+  pub named : Pair
+  pub served : Pair
+
+unfoldable pub dispatchIn : Entry → List Dispatch
+dispatchIn (answered s w a) = []
+dispatchIn (observed o a) = []
+dispatchIn (served s a) = []
+dispatchIn (handed (dispatching p w) q a) = record { named = p; served = q } ∷ []
+dispatchIn (listed s x) = []
+
+abbrev pub dispatches : List Entry → List Dispatch
+dispatches es = flatMap dispatchIn es
+
+-- each names the pair that the one before it served, and the first of them p
+unfoldable pub FollowOn : Pair → List Dispatch → Type 0
+FollowOn p [] = Unit {0}
+FollowOn p (x ∷ xs) = (x .named ≡ p) × FollowOn (x .served) xs
+
+-- THE DISPATCHER'S ANSWERS to calls that name two of n controllers and lend enough scratch
+
+unfoldable pub answerIn : ℕ → Entry → List Dispatched
+answerIn n (answered s w a) = []
+answerIn n (observed o a) = []
+answerIn n (served (dispatching p w) a) = cond (named n (p .receiver) && (named n (p .owner) && leb scratchSize (length w))) (a ∷ []) []
+answerIn n (handed s p a) = []
+answerIn n (listed s x) = []
+
+abbrev pub dispatchAnswers : ℕ → List Entry → List Dispatched
+dispatchAnswers n es = flatMap (answerIn n) es
+
+-- whether one of them says "none"
+unfoldable pub oneSaysNone : List Dispatched → Bool
+oneSaysNone [] = false
+oneSaysNone (a ∷ rest) = saysNone a || oneSaysNone rest
