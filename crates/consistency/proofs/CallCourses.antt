@@ -5,10 +5,10 @@ use mathlib.Core.Bool.{cond}
 use mathlib.Core.List.{List, [], _∷_, foldl}
 use lib.ListN.{length}
 use Rattle.model.specs.Events.{next}
-use Rattle.model.specs.Dispatcher.{some?, handover, DispatchOutcome, served, unserved, dispatch}
+use Rattle.turns.specs.Dispatcher.{some?, handover, DispatchOutcome, served, unserved, dispatch}
 use Rattle.model.specs.declared.Pair.{Pair}
 use Rattle.model.specs.declared.Table.{Table}
-use Rattle.invariant.proofs.Dispatching.{dispatch-case}
+use Rattle.turns.proofs.Dispatching.{dispatch-case}
 use Rattle.consistency.specs.Entries.{Service, dispatching, serve, Call, singleEvent, observing, serving, handedOver, entriesOf, left, transcript}
 use Rattle.consistency.specs.Courses.{Course, told, Chooses, Gives, Allowed}
 use Rattle.consistency.proofs.Moments.{course-append}

@@ -19,11 +19,11 @@ use Rattle.model.specs.Records.{afterRecord}
 use Rattle.model.specs.Fair.{named}
 use Rattle.model.specs.Questions.{firstNo, unread}
 use Rattle.model.specs.Calls.{refused}
-use Rattle.model.specs.Dispatcher.{pair, some?, waits, nextPair, dispatchQuestions, Dispatched, saysNone, DispatchOutcome, served, unserved, dispatch}
+use Rattle.turns.specs.Dispatcher.{pair, some?, waits, nextPair, dispatchQuestions, Dispatched, saysNone, DispatchOutcome, served, unserved, dispatch}
 use Rattle.model.specs.declared.Pair.{Pair}
 use Rattle.model.specs.declared.Table.{Table}
 use Rattle.model.proofs.Tested.{tested, named-at}
-use Rattle.invariant.proofs.Dispatching.{InRange, distance, none-waits, Passed, passed-dispatch, dispatch-case, dispatch-refusal, none-said}
+use Rattle.turns.proofs.Dispatching.{InRange, distance, none-waits, Passed, passed-dispatch, dispatch-case, dispatch-refusal, none-said}
 use Rattle.broadcast.specs.State.{State, fresh as freshState}
 use Rattle.consistency.specs.Entries.{dispatching, serve, Call, singleEvent, observing, serving, Entry, handedOver, entriesOf, left, transcript, Step, carried, steps, did}
 use Rattle.consistency.specs.Entries.{served as asked}

@@ -12,12 +12,12 @@ use Rattle.lists.proofs.Tests.{both}
 use Rattle.model.specs.Tables.{at, place}
 use Rattle.model.specs.Questions.{unread}
 use Rattle.model.specs.Calls.{EventAnswer}
-use Rattle.model.specs.Dispatcher.{pair, some?, handover, waits, nextPair, DispatchOutcome, served, dispatch}
+use Rattle.turns.specs.Dispatcher.{pair, some?, handover, waits, nextPair, DispatchOutcome, served, dispatch}
 use Rattle.model.specs.declared.Name.{Name}
 use Rattle.model.specs.declared.Pair.{Pair}
 use Rattle.model.specs.declared.Table.{Table}
 use Rattle.model.proofs.Allowed.{handover-allowed}
-use Rattle.invariant.proofs.Dispatching.{InRange, after, Distance, Nearer, nearer, dispatch-some}
+use Rattle.turns.proofs.Dispatching.{InRange, after, Distance, Nearer, nearer, dispatch-some}
 use Rattle.broadcast.specs.State.{State}
 use Rattle.consistency.specs.Entries.{dispatching, Entry, answered, observed, handed, listed, nothingSaid, Step, carried, steps, did}
 use Rattle.consistency.specs.Entries.{served as asked}

@@ -15,7 +15,7 @@ use Rattle.model.specs.Delivery.{Slots, has as member}
 use Rattle.model.specs.Events.{subject, withSent, next, appliedBy, controllerOf, resulting, panelOf, finishes}
 use Rattle.model.specs.Records.{afterRecord, decode}
 use Rattle.model.specs.Calls.{EventAnswer, answering, accepted}
-use Rattle.model.specs.Dispatcher.{handover}
+use Rattle.turns.specs.Dispatcher.{handover}
 use Rattle.model.specs.declared.Name.{Name}
 use Rattle.model.specs.declared.Panel.{Panel}
 use Rattle.model.specs.declared.Table.{Table}

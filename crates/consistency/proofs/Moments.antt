@@ -11,7 +11,7 @@ use Rattle.model.specs.Records.{afterRecord, decode}
 use Rattle.model.specs.WellFormed.{wellFormed}
 use Rattle.model.specs.Questions.{FreshAllowed, firstNo, eventQuestions, commandQuestions, lentTable, stepQuestions}
 use Rattle.model.specs.Calls.{EventAnswer, Outcome, answering, accepted, refused, event}
-use Rattle.model.specs.Dispatcher.{handover}
+use Rattle.turns.specs.Dispatcher.{handover}
 use Rattle.model.specs.declared.Pair.{Pair}
 use Rattle.model.specs.declared.Table.{Table}
 use Rattle.model.specs.declared.Event.{Event}

@@ -9,7 +9,7 @@ use Rattle.model.specs.Events.{next, controllerOf, panelOf}
 use Rattle.model.specs.Records.{decode}
 use Rattle.model.specs.Questions.{firstNo, eventQuestions, commandQuestions}
 use Rattle.model.specs.Calls.{Outcome, answering, accepted, event}
-use Rattle.model.specs.Dispatcher.{handover, dispatch}
+use Rattle.turns.specs.Dispatcher.{handover, dispatch}
 use Rattle.model.specs.declared.Name.{Name}
 use Rattle.model.specs.declared.Sums.{Sums}
 use Rattle.model.specs.declared.Pair.{Pair}

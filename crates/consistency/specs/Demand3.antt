@@ -12,7 +12,7 @@ use Rattle.model.specs.Records.{byte, kind}
 use Rattle.model.specs.Registers.{exceeds}
 use Rattle.model.specs.Questions.{firstNo, fileQuestions}
 use Rattle.model.specs.Calls.{EventAnswer, freshTable}
-use Rattle.model.specs.Dispatcher.{Dispatched, saysNone}
+use Rattle.turns.specs.Dispatcher.{Dispatched, saysNone}
 use Rattle.model.specs.Runs.{fileRun}
 use Rattle.model.specs.declared.Name.{Name}
 use Rattle.model.specs.declared.Sums.{Sums}

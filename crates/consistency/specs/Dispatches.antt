@@ -1,4 +1,4 @@
--- What is read of handovers and of the dispatcher from a part of a list (RULES.md, sections 20 and 25).
+-- What is read of handovers and of the dispatcher from a part of a list (RULES.md, sections 20 and 30).
 use Prim.Native.Nat.{ℕ}
 use mathlib.Core.Path.{_≡_}
 use mathlib.Core.Bool.{Bool, true, false, _&&_, _||_, cond}
@@ -8,7 +8,7 @@ use lib.Dec.{leb}
 use Rattle.lists.specs.Below.{tally}
 use Rattle.model.specs.Tables.{scratchSize}
 use Rattle.model.specs.Fair.{named}
-use Rattle.model.specs.Dispatcher.{Dispatched, saysNone}
+use Rattle.turns.specs.Dispatcher.{Dispatched, saysNone}
 use Rattle.model.specs.declared.Pair.{Pair}
 use Rattle.model.specs.declared.Event.{Event}
 use Rattle.model.specs.declared.Event.the-variants.{Send, Handover, Stop}

@@ -11,7 +11,7 @@ use Rattle.model.specs.Tables.{reportKind, writeKind, messageNumber}
 use Rattle.model.specs.Events.{next}
 use Rattle.model.specs.Records.{byte, kind, word, long, decode}
 use Rattle.model.specs.Calls.{EventAnswer, answering, event, look, countBefore}
-use Rattle.model.specs.Dispatcher.{some?, handover, Dispatched, dispatch}
+use Rattle.turns.specs.Dispatcher.{some?, handover, Dispatched, dispatch}
 use Rattle.model.specs.declared.Name.{Name}
 use Rattle.model.specs.declared.Sums.{Sums}
 use Rattle.model.specs.declared.Table.{Table}

@@ -6,7 +6,7 @@ use mathlib.Core.List.{List}
 use lib.ListN.{length}
 use lib.Dec.{eqb}
 use Rattle.model.specs.Questions.{firstNo}
-use Rattle.model.specs.Dispatcher.{DispatchOutcome, noPair, nextPair, dispatchQuestions, dispatch, scratchServed, dispatchAnswerOf}
+use Rattle.turns.specs.Dispatcher.{DispatchOutcome, noPair, nextPair, dispatchQuestions, dispatch, scratchServed, dispatchAnswerOf}
 use Rattle.model.specs.declared.Pair.{Pair}
 use Rattle.model.specs.declared.Table.{Table}
 use Rattle.effects.specs.Effects.{noSet}

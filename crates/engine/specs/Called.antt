@@ -5,7 +5,7 @@ use mathlib.Core.List.{List}
 use Prim.Native.Nat.{ℕ}
 use lib.ListN.{length}
 use Rattle.model.specs.Calls.{event, scratchAfter, answerOf}
-use Rattle.model.specs.Dispatcher.{dispatch, scratchServed, dispatchAnswerOf}
+use Rattle.turns.specs.Dispatcher.{dispatch, scratchServed, dispatchAnswerOf}
 use Rattle.model.specs.declared.Pair.{Pair}
 use Rattle.model.specs.declared.Table.{Table}
 use Rattle.model.specs.declared.Answer.{Answer}

@@ -2,7 +2,7 @@
 // contract is an equation for its result and for all that it may write.
 ghost use mathlib.Core.Path.{_≡_};
 ghost use Rattle.model.specs.Calls.{look, countBefore, freshTable};
-ghost use Rattle.model.specs.Dispatcher.{pair};
+ghost use Rattle.turns.specs.Dispatcher.{pair};
 ghost use Rattle.files.specs.FileRun.{Runs};
 ghost use Rattle.engine.specs.Called.{Counted, Dispatched, interface};
 

@@ -16,4 +16,3 @@ pub mod Listing
 pub mod Classes
 pub mod Shown
 pub mod NextRegisters
-pub mod Dispatching

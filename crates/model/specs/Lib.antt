@@ -11,5 +11,4 @@ pub mod Facts
 pub mod WellFormed
 pub mod Questions
 pub mod Calls
-pub mod Dispatcher
 pub mod Runs

@@ -1,21 +1,21 @@
--- The dispatcher (RULES.md, section 25): which handover is next, and what the call answers and leaves. It goes round all pairs of a
+-- The dispatcher (RULES.md, section 30): which handover is next, and what the call answers and leaves. It goes round all pairs of a
 -- receiver and a log owner, so that none waits for ever.
 use Prim.Native.Nat.{ℕ, zero, suc, _+_, _*_}
 use mathlib.Core.Bool.{Bool, not, _&&_, _||_, cond}
 use mathlib.Core.List.{List, [], _∷_, _++_}
 use lib.Dec.{eqb, leb, ltb}
 use Rattle.model.specs.Tables.{scratchSize, yes?, controllerIn}
 use Rattle.model.specs.Events.{next}
 use Rattle.model.specs.Fair.{named}
 use Rattle.model.specs.Questions.{Question, ask, firstNo, lentTable, unread}
 use Rattle.model.specs.Calls.{EventAnswer, answering, refused, cleared, answerOf}
 use Rattle.model.specs.declared.Pair.{Pair}
 use Rattle.model.specs.declared.Controller.{Controller}
 use Rattle.model.specs.declared.Table.{Table}
 use Rattle.model.specs.declared.Event.{Event}
 use Rattle.model.specs.declared.Event.the-variants.{Handover}
 use Rattle.model.specs.declared.Command.the-variants.{Act}
 use Rattle.model.specs.declared.DispatchAnswer.{DispatchAnswer}
 
 -- PAIRS
 

@@ -16,7 +16,7 @@ use Rattle.model.specs.Fair.{named}
 use Rattle.model.specs.WellFormed.{wellFormed}
 use Rattle.model.specs.Questions.{firstNo, lentTable, unread, handoverQuestions, eventQuestions}
 use Rattle.model.specs.Calls.{answering, refused}
-use Rattle.model.specs.Dispatcher.{pair, noPair, some?, handover, following, waits, firstWaiting, nextPair, pairQuestions, dispatchQuestions, saysNone, DispatchOutcome, served, unserved, dispatch}
+use Rattle.turns.specs.Dispatcher.{pair, noPair, some?, handover, following, waits, firstWaiting, nextPair, pairQuestions, dispatchQuestions, saysNone, DispatchOutcome, served, unserved, dispatch}
 use Rattle.model.specs.declared.Pair.{Pair}
 use Rattle.model.specs.declared.Controller.{Controller}
 use Rattle.model.specs.declared.Table.{Table}

@@ -1,0 +1,1 @@
+// Theorems only: the dispatcher's definitions, its fixed cases, and its laws.
