@@ -205,7 +205,27 @@ fn a_machine_goes_round_from_the_pair_that_it_is_told() {
     assert!(machine.controllers().all(|c| machine.look(c).unwrap().sums == whole));
     assert_eq!(machine.dispatch(Pair::BLANK), Err(Refusal::Controller));
     assert_eq!(machine.dispatch(Pair::new(4, 1)), Err(Refusal::Controller));
-    assert_eq!(Machine::from_table(copy), Ok(machine));
+    assert_eq!(Machine::from_table(copy).as_ref(), Ok(&machine));
+}
+
+#[test]
+fn to_the_end_every_pair_is_served_in_its_turn() {
+    // With two reports of each, it shows in the logs whether 1 read those of 2 one after the other or in turn with 3's.
+    let records = [report(1), report(2), report(3)].repeat(2);
+    let (mut one_by_one, mut at_once) = (played(3, &records), Machine::from_table(played(3, &records)).unwrap());
+    let (mut last, mut handovers) = (one_by_one.end_of_round(), 0);
+    while let Some(handed) = dispatch(&mut one_by_one, last, &mut [0; SCRATCH]).unwrap() {
+        last = handed.pair;
+        handovers += 1;
+    }
+    assert_eq!((at_once.dispatch_to_end(), at_once.table()), (handovers, &one_by_one));
+    assert_eq!(handovers, 54);
+    let log: Vec<Name> = one_by_one.controllers[0].log[..6]
+        .iter()
+        .map(|slot| one_by_one.messages[usize::from(*slot)])
+        .map(|message| Name { sender: message.sender, number: message.number })
+        .collect();
+    assert_eq!(log, [(1, 1), (1, 2), (2, 1), (3, 1), (2, 2), (3, 2)].map(|(sender, number)| Name::new(sender, number)));
 }
 
 #[test]
