@@ -318,8 +318,9 @@ pub fn event<'a>(table: &mut Table, bytes: &'a [u8], scratch: &mut [u8]) -> Resu
 ///
 /// # Errors
 ///
-/// [`Refusal::Table`], if the table is not well formed; [`Refusal::Controller`], unless both numbers of the pair named
-/// are from 1 to n, also where no handover is left; and [`Refusal::Scratch`], if one is left.
+/// [`Refusal::Table`], if the table is not well formed. [`Refusal::Controller`], unless both numbers of the pair named
+/// are from 1 to n, also where no handover is left. [`Refusal::Scratch`], if a handover is left and scratch is too short
+/// for it.
 pub fn dispatch(table: &mut Table, after: Pair, scratch: &mut [u8]) -> Result<Option<DispatchAnswer>, Refusal> {
     let mut answer = DispatchAnswer::BLANK;
     calls::dispatch(table, after, scratch, &mut answer);
