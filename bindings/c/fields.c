@@ -1,7 +1,7 @@
 /* Writes every field of a table from C, one at a time, and sees through the calls that the engine reads it there, and that it
  * reads nothing else; sees that equal calls make equal tables byte for byte, whatever stood in their memory before; writes
- * every record, and files into places that are too small; and lends random bytes as a table, which the engine answers like any
- * other. */
+ * every record, and files into places that are too small; sees that the dispatcher makes the handover that is next, as the event
+ * would; and lends random bytes as a table, which the engine answers like any other. */
 #include <limits.h>
 #include <stdio.h>
 #include <stdlib.h>
@@ -626,6 +626,123 @@ static void registers(void) {
     }
 }
 
+/* One call of the dispatcher, lent this scratch, with an answer that was dirty before. */
+static furnacejade_dispatch_answer dispatch(furnacejade_table *table, size_t receiver, size_t owner, uint8_t *area, size_t length) {
+    furnacejade_dispatch_answer next;
+    memset(&next, 0xA5, sizeof next);
+    furnacejade_dispatch(table, receiver, owner, area, length, &next);
+    return next;
+}
+
+/* The answer has this pair, and after it every field of that answer. */
+static void expect_served(furnacejade_dispatch_answer got, size_t receiver, size_t owner, const furnacejade_answer *wanted, const char *field, size_t i, size_t j) {
+    expect((uint8_t)(got.pair.receiver == receiver), 1, field, i, j);
+    expect((uint8_t)(got.pair.owner == owner), 1, field, i, j);
+    expect(got.answer.refusal, wanted->refusal, field, i, j);
+    expect(got.answer.finished, wanted->finished, field, i, j);
+    expect_sums(got.answer.sums, wanted->sums, field, i, j);
+    expect((uint8_t)(got.answer.size == wanted->size), 1, field, i, j);
+    expect((uint8_t)(memcmp(got.answer.names, wanted->names, sizeof wanted->names) == 0), 1, field, i, j);
+}
+
+/* The dispatcher makes no handover, answers this number and zeros, and changes neither table nor scratch, of which it is lent this
+ * many bytes. */
+static void expect_unserved(furnacejade_table *table, size_t receiver, size_t owner, size_t length, uint8_t refusal, const char *field, size_t i) {
+    static furnacejade_answer zero;
+    furnacejade_table before = *table;
+    memset(scratch, 0xA5, sizeof scratch);
+    zero.refusal = refusal;
+    expect_served(dispatch(table, receiver, owner, scratch, length), 0, 0, &zero, field, i, length);
+    expect((uint8_t)(memcmp(table, &before, sizeof before) == 0), 1, field, i, length);
+    for (size_t k = 0; k < sizeof scratch; k++) expect(scratch[k], 0xA5, field, i, k);
+}
+
+/* The dispatcher hands over to this receiver from this owner: answer, table and scratch are those of the same event. */
+static void expect_handover(const furnacejade_table *table, size_t after_receiver, size_t after_owner, size_t receiver, size_t owner, const char *field) {
+    static uint8_t areas[2][FURNACEJADE_SCRATCH + 1];
+    furnacejade_table dispatched = *table, played = *table;
+    furnacejade_answer answer;
+    memset(areas, 0xA5, sizeof areas);
+    memset(&answer, 0xA5, sizeof answer);
+    furnacejade_play(&played, furnacejade_record_handover(receiver, owner), areas[0], sizeof areas[0], &answer);
+    expect(answer.refusal, 0, field, receiver, owner);
+    furnacejade_dispatch_answer next = dispatch(&dispatched, after_receiver, after_owner, areas[1], sizeof areas[1]);
+    expect_served(next, receiver, owner, &answer, field, receiver, owner);
+    expect((uint8_t)(memcmp(&dispatched, &played, sizeof played) == 0), 1, field, receiver, owner);
+    expect((uint8_t)(memcmp(areas[0], areas[1], sizeof areas[0]) == 0), 1, field, receiver, owner);
+}
+
+/* Of seven controllers one stops, with the entry of its log kept or not: it is passed over as a receiver, and as an owner only if
+ * its log is empty. */
+static void dispatches_past(size_t stopped, size_t kept) {
+    enum { N = FURNACEJADE_CONTROLLERS };
+    furnacejade_answer answer;
+    furnacejade_table t = good;
+    expect(play(&t, furnacejade_record_stop(stopped, kept), &answer), 0, "stop for the dispatcher", stopped, kept);
+    for (size_t named = 0; named < N * N; named++) {
+        size_t next = (named + 1) % (N * N);
+        while (next / N + 1 == stopped || (next % N + 1 == stopped && kept == 0)) next = (next + 1) % (N * N);
+        expect_handover(&t, named / N + 1, named % N + 1, next / N + 1, next % N + 1, "dispatch past a stopped controller");
+    }
+}
+
+/* The dispatcher reads who runs, how long each log is and how far it is read, where each stands, in a table of seven controllers
+ * that have sent a report each. Both numbers of the pair named are read, and both of the pair served are written. */
+static void dispatches(void) {
+    enum { N = FURNACEJADE_CONTROLLERS };
+    static const size_t strangers[] = {0, N + 1, 255, 256, 257, SIZE_MAX};
+    start(1);
+    furnacejade_table read = good;
+    for (size_t r = 0; r < N; r++)
+        for (size_t o = 0; o < N; o++) read.controllers[r].read[o] = 1;
+    for (size_t k = 0; k < N * N; k++) {
+        size_t r = k / N + 1, o = k % N + 1, after = (k + N * N - 1) % (N * N);
+        expect_handover(&good, after / N + 1, after % N + 1, r, o, "the next pair");
+        /* where one entry waits it is found from every pair, and from none once its receiver has stopped */
+        furnacejade_table one = read;
+        one.controllers[r - 1].read[o - 1] = 0;
+        for (size_t named = 0; named < N * N; named++) expect_handover(&one, named / N + 1, named % N + 1, r, o, "the only pair");
+        expect_unserved(&one, r, o, FURNACEJADE_SCRATCH - 1, FURNACEJADE_REFUSED_SCRATCH, "dispatch with little scratch", k);
+        expect_unserved(&one, r, o, 0, FURNACEJADE_REFUSED_SCRATCH, "dispatch without scratch", k);
+        one.controllers[r - 1].running = 0;
+        expect_unserved(&one, r, o, 0, FURNACEJADE_ACCEPTED, "dispatch to a stopped receiver", k);
+        expect_unserved(&read, r, o, 0, FURNACEJADE_ACCEPTED, "none without scratch", k);
+        expect_unserved(&read, r, o, sizeof scratch, FURNACEJADE_ACCEPTED, "none", k);
+    }
+    for (size_t i = 0; i < sizeof strangers / sizeof strangers[0]; i++) {
+        expect_unserved(&good, strangers[i], 1, sizeof scratch, FURNACEJADE_REFUSED_CONTROLLER, "dispatch after receiver", i);
+        expect_unserved(&good, 1, strangers[i], 0, FURNACEJADE_REFUSED_CONTROLLER, "dispatch after owner", i);
+        expect_unserved(&read, strangers[i], N, 0, FURNACEJADE_REFUSED_CONTROLLER, "none after receiver", i);
+        expect_unserved(&read, N, strangers[i], 0, FURNACEJADE_REFUSED_CONTROLLER, "none after owner", i);
+    }
+    for (size_t c = 1; c <= N; c++)
+        for (size_t kept = 0; kept <= 1; kept++) dispatches_past(c, kept);
+    read.version = 3;
+    expect_unserved(&read, 0, 0, 0, FURNACEJADE_REFUSED_TABLE, "dispatch in a table of version 3", 0);
+    expect_unserved(&read, N, N, sizeof scratch, FURNACEJADE_REFUSED_TABLE, "dispatch in a table of version 3", 1);
+}
+
+/* The sync of the only controller, which a dispatched handover finishes, and then "none". */
+static void dispatched_sync(void) {
+    static furnacejade_fresh_answer fresh;
+    static furnacejade_answer answer;
+    furnacejade_fresh(1, 1, &fresh);
+    play(&fresh.table, furnacejade_record_report(1, 30), &answer);
+    play(&fresh.table, furnacejade_record_report(1, -7), &answer);
+    for (size_t i = 0; i < 2; i++) {
+        expect_handover(&fresh.table, 1, 1, 1, 1, "dispatched report");
+        expect(dispatch(&fresh.table, 1, 1, scratch, sizeof scratch).answer.finished, 0, "dispatched report", i, 0);
+    }
+    expect(play(&fresh.table, furnacejade_record_sync(1), &answer), 0, "sync for the dispatcher", 0, 0);
+    expect_handover(&fresh.table, 1, 1, 1, 1, "dispatched sync");
+    furnacejade_dispatch_answer next = dispatch(&fresh.table, 1, 1, scratch, sizeof scratch);
+    expect(next.answer.finished, 1, "dispatched sync's finished", 0, 0);
+    expect_sums(next.answer.sums, reported, "dispatched sync's sums", 0, 0);
+    expect((uint8_t)next.answer.size, 1, "dispatched sync's size", 0, 0);
+    expect(next.answer.names[0].number.value, 3, "dispatched sync's name", 0, 0);
+    expect_unserved(&fresh.table, 1, 1, 0, FURNACEJADE_ACCEPTED, "none after the sync", 0);
+}
+
 static void random_tables(void) {
     uint64_t state = 1;
     for (int i = 0; i < 20000; i++) {
@@ -641,9 +758,10 @@ static void random_tables(void) {
         expect(event(&t, handover, sizeof handover, &answer), 4, "random table", (size_t)i, 0);
         expect(look(&t, bytes[0]), 4, "random table", (size_t)i, 1);
         expect_count(count(&t, bytes[0], (furnacejade_name){bytes[1], {bytes[2]}}, (furnacejade_name){1, {1}}), 4, 0, "random table", (size_t)i, 2);
+        expect(dispatch(&t, bytes[0], bytes[1], scratch, sizeof scratch).answer.refusal, 4, "random table", (size_t)i, 3);
         tests++;
         if (memcmp(&t, &before, sizeof t) != 0) {
-            printf("a refused event changed a random table\n");
+            printf("a refused call changed a random table\n");
             exit(EXIT_FAILURE);
         }
     }
@@ -671,6 +789,8 @@ int main(void) {
     answers();
     class_sums();
     registers();
+    dispatches();
+    dispatched_sync();
     random_tables();
     printf("%u fields and tables as expected\n", tests);
     return EXIT_SUCCESS;

@@ -28,8 +28,9 @@
  * table may be copied, saved, sent and hashed as sizeof(furnacejade_table) bytes, between x86-64 programs that were built
  * with one FURNACEJADE_INTERFACE. Answers and records are not to be compared by bytes. Answers have padding, which a call may
  * leave as anything, old bytes of the stack among them: furnacejade_answer at bytes 2, 3 and 12 to 15,
- * furnacejade_look_answer at 1 to 3, furnacejade_fresh_answer, furnacejade_run_answer and furnacejade_count_answer at 1 to 7.
- * Compare, save and send answers field by field. */
+ * furnacejade_dispatch_answer, which holds one from byte 16 on, at 18, 19 and 28 to 31, furnacejade_look_answer at 1 to 3,
+ * furnacejade_fresh_answer, furnacejade_run_answer and furnacejade_count_answer at 1 to 7. Compare, save and send answers field
+ * by field. */
 #ifndef FURNACEJADE_H
 #define FURNACEJADE_H
 
@@ -44,12 +45,12 @@ extern "C" {
 #endif
 
 enum {
-    FURNACEJADE_INTERFACE = 1,      /* the state of this header; furnacejade_interface() answers that of the library */
+    FURNACEJADE_INTERFACE = 2,      /* the state of this header; furnacejade_interface() answers that of the library */
     FURNACEJADE_CONTROLLERS = 7,    /* the most controllers that a run can have */
     FURNACEJADE_MESSAGES = 64,      /* the most messages that a run can have */
     FURNACEJADE_CLASSES = 5,        /* the classes of which a panel shows sums, FURNACEJADE_CLASS_NONE among them */
     FURNACEJADE_REGISTERS = 8,      /* the registers that a panel shows */
-    FURNACEJADE_SCRATCH = 4096,     /* the bytes of scratch that an event asks for */
+    FURNACEJADE_SCRATCH = 4096,     /* the bytes of scratch that an event or a dispatched handover asks for */
     FURNACEJADE_LISTING = 16384,    /* more bytes of listing than any run file fills */
     FURNACEJADE_HEAD = 2,           /* the bytes that a run file begins with: its version and the number of controllers */
     FURNACEJADE_LONGEST_RECORD = 8, /* the bytes of the longest record, a write */
@@ -196,7 +197,7 @@ typedef struct {
     furnacejade_register registers[FURNACEJADE_REGISTERS]; /* register r at r - 1 */
 } furnacejade_panel;
 
-/* What furnacejade_event answers. */
+/* What furnacejade_event answers, and furnacejade_dispatch of the handover that it made. */
 typedef struct {
     uint8_t refusal;                              /* the refusal number, 0 if accepted */
     uint8_t finished;                             /* 1 if a sync of the receiver's own is in the set applied, else 0 */
@@ -205,6 +206,19 @@ typedef struct {
     size_t size;                                  /* how many messages the set has */
     furnacejade_name names[FURNACEJADE_MESSAGES]; /* their names, by sender and then number; zeros after them */
 } furnacejade_answer;
+
+/* A handover by its numbers. */
+typedef struct {
+    size_t receiver; /* the controller that reads */
+    size_t owner;    /* the owner of the log that it reads */
+} furnacejade_pair;
+
+/* What furnacejade_dispatch answers. Where it says "none" every field is 0, and where it is refused every field but
+ * answer.refusal. */
+typedef struct {
+    furnacejade_pair pair;     /* the handover that was made, which the next call names; 0 and 0 if none was */
+    furnacejade_answer answer; /* what furnacejade_event answers of that handover */
+} furnacejade_dispatch_answer;
 
 /* What furnacejade_fresh answers. */
 typedef struct {
@@ -290,6 +304,12 @@ FURNACEJADE_AT(furnacejade_answer, finished, 1);
 FURNACEJADE_AT(furnacejade_answer, sums, 4);
 FURNACEJADE_AT(furnacejade_answer, size, 16);
 FURNACEJADE_AT(furnacejade_answer, names, 24);
+FURNACEJADE_BYTES(furnacejade_pair, 16);
+FURNACEJADE_AT(furnacejade_pair, receiver, 0);
+FURNACEJADE_AT(furnacejade_pair, owner, 8);
+FURNACEJADE_BYTES(furnacejade_dispatch_answer, 168);
+FURNACEJADE_AT(furnacejade_dispatch_answer, pair, 0);
+FURNACEJADE_AT(furnacejade_dispatch_answer, answer, 16);
 FURNACEJADE_BYTES(furnacejade_fresh_answer, 6040);
 FURNACEJADE_AT(furnacejade_fresh_answer, refusal, 0);
 FURNACEJADE_AT(furnacejade_fresh_answer, table, 8);
@@ -510,7 +530,8 @@ static inline unsigned furnacejade_state(const furnacejade_table *t, size_t c, f
 }
 
 /* How many entries of an owner's log a receiver has not read. Question 13 asks whether there is one. A receiver that has
- * stopped keeps its unread entries for good: a loop that hands over asks furnacejade_runs too. */
+ * stopped keeps its unread entries for good: a loop that hands over asks furnacejade_runs too, or lets furnacejade_dispatch
+ * choose. */
 static inline size_t furnacejade_unread(const furnacejade_table *t, size_t receiver, size_t owner) {
     const furnacejade_controller *reader = furnacejade_controller_of(t, receiver), *log = furnacejade_controller_of(t, owner);
     if (!reader || !log || log->length < reader->read[owner - 1]) return 0;
@@ -575,6 +596,26 @@ static inline unsigned furnacejade_play(furnacejade_table *t, furnacejade_record
     furnacejade_event(t, record.bytes, length, scratch, scratch_length, answer);
     return answer->refusal;
 }
+
+/* The dispatcher: the next handover, where every pair of a receiver and a log owner gets its turn. The pair named, receiver
+ * and owner, is the one that the dispatcher served last, and n and n at first. The dispatcher goes round all n x n pairs, by
+ * receiver and then owner, from the pair after the one named, which comes last. It passes over stopped receivers and over
+ * pairs without an unread entry. (A log owner may have stopped.) The first handover that is left is carried out, and the
+ * answer has its pair and what furnacejade_event answers of it. If no handover is left it says "none": refusal 0 and the pair
+ * 0 and 0. Questions 4 and 8 are put, 8 to both numbers of the pair named; then it may say "none"; then 15 is put. A handover
+ * leaves table and scratch as the same event does. "None" and a refusal leave them as they were. Takes STACK of stack.
+ *
+ * Where each call names the pair that the call before it served, and nobody stops, an entry that is next for a running receiver
+ * is read within n x n handovers of the dispatcher, whatever other calls are made in between. A run has at most 3,136 accepted
+ * handovers in all, so this loop comes to an end. If that is "none", every running controller has read every log to its end.
+ *
+ *     furnacejade_dispatch_answer next;
+ *     next.pair.receiver = next.pair.owner = table->n;
+ *     do furnacejade_dispatch(table, next.pair.receiver, next.pair.owner, scratch, sizeof scratch, &next);
+ *     while (next.pair.receiver > 0);
+ *     if (next.answer.refusal != FURNACEJADE_ACCEPTED) return EXIT_FAILURE;
+ */
+void furnacejade_dispatch(furnacejade_table *t, size_t receiver, size_t owner, uint8_t *scratch, size_t scratch_length, furnacejade_dispatch_answer *answer);
 
 /* A panel look at controller c, 1 to n, running or stopped. Questions 4 and 8 are put. Nothing but the answer is written.
  * Takes 16 KB of stack.

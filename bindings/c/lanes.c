@@ -1,5 +1,5 @@
 /* Five lanes of one machine: trays, two of one lane under way at once, eggs taken back, local reads, a sync, a set point, a lane
- * that stops, and what is left when no majority runs. Everything that waits is handed over, and refusals are printed in words. */
+ * that stops, and what is left when no majority runs. The dispatcher hands over what waits, and refusals are printed in words. */
 #include <stdio.h>
 #include <stdlib.h>
 
@@ -17,9 +17,7 @@ static unsigned play(furnacejade_record record) {
     return furnacejade_play(table, record, scratch, sizeof scratch, &answer);
 }
 
-static void print_refusal(void) {
-    printf("refused, %d: %s\n", answer.refusal, furnacejade_question(answer.refusal));
-}
+static void print_refusal(uint8_t refusal) { printf("refused, %d: %s\n", refusal, furnacejade_question(refusal)); }
 
 static furnacejade_sums shown(size_t lane) {
     furnacejade_look_answer look;
@@ -33,7 +31,7 @@ static void print_sums(furnacejade_sums sums, const char *end) { printf("%u %u%s
 /* Sends a report, sync or write of a lane, and prints the name of the message. */
 static void send(uint8_t lane, furnacejade_record record) {
     if (play(record) != FURNACEJADE_ACCEPTED) {
-        print_refusal();
+        print_refusal(answer.refusal);
         return;
     }
     furnacejade_name sent = furnacejade_latest(table, lane);
@@ -66,48 +64,46 @@ static void print_belt_speed(size_t lane) {
 static void local_read(uint8_t lane) {
     printf("lane %d reads its own sums: ", lane);
     if (play(furnacejade_record_local_read(lane)) == FURNACEJADE_ACCEPTED) print_sums(answer.sums, "\n");
-    else print_refusal();
+    else print_refusal(answer.refusal);
 }
 
 static void stop(uint8_t lane, size_t kept) {
     printf("lane %d stops, %zu of %zu entries kept: ", lane, kept, furnacejade_most_kept(table, lane));
     if (play(furnacejade_record_stop(lane, kept)) == FURNACEJADE_ACCEPTED) printf("done\n");
-    else print_refusal();
+    else print_refusal(answer.refusal);
 }
 
-static void print_set(uint8_t receiver) {
-    if (answer.size == 0) return;
-    printf("  panel %d applies", receiver);
-    for (size_t i = 0; i < answer.size; i++) printf(" %d.%d", answer.names[i].sender, answer.names[i].number.value);
+static void print_set(size_t receiver, const furnacejade_answer *set) {
+    if (set->size == 0) return;
+    printf("  panel %zu applies", receiver);
+    for (size_t i = 0; i < set->size; i++) printf(" %d.%d", set->names[i].sender, set->names[i].number.value);
     printf(" and shows ");
     print_sums(shown(receiver), "\n");
-    if (!answer.finished) return;
-    printf("  lane %d's sync is answered: ", receiver);
-    print_sums(answer.sums, "\n");
+    if (!set->finished) return;
+    printf("  lane %zu's sync is answered: ", receiver);
+    print_sums(set->sums, "\n");
 }
 
-/* Hands over all that a receiver has not read of one log. */
-static unsigned drain(uint8_t receiver, uint8_t owner) {
-    unsigned handovers = 0;
-    while (furnacejade_runs(table, receiver) && furnacejade_unread(table, receiver, owner) > 0) {
-        if (play(furnacejade_record_handover(receiver, owner)) != FURNACEJADE_ACCEPTED) {
-            print_refusal();
-            exit(EXIT_FAILURE);
-        }
-        handovers++;
-        print_set(receiver);
+/* The next handover, after that of the pair served last. Whether there was one. */
+static int hand_over(void) {
+    static furnacejade_pair served = {LANES, LANES};
+    static uint8_t scratch[FURNACEJADE_SCRATCH];
+    static furnacejade_dispatch_answer next;
+    furnacejade_dispatch(table, served.receiver, served.owner, scratch, sizeof scratch, &next);
+    if (next.answer.refusal != FURNACEJADE_ACCEPTED) {
+        print_refusal(next.answer.refusal);
+        exit(EXIT_FAILURE);
     }
-    return handovers;
+    if (next.pair.receiver == 0) return 0;
+    served = next.pair;
+    print_set(served.receiver, &next.answer);
+    return 1;
 }
 
-/* Goes round all pairs until a round finds nothing. */
+/* Hands over until nothing waits. */
 static void hand_over_all(void) {
-    unsigned all = 0, before;
-    do {
-        before = all;
-        for (uint8_t receiver = 1; receiver <= LANES; receiver++)
-            for (uint8_t owner = 1; owner <= LANES; owner++) all += drain(receiver, owner);
-    } while (all != before);
+    unsigned all = 0;
+    while (hand_over()) all++;
     printf("handed over %u entries; panels show ", all);
     for (size_t lane = 1; lane <= LANES; lane++) print_sums(shown(lane), lane < LANES ? ", " : "\n");
 }

@@ -1,6 +1,6 @@
 //! What stands in a picture at a moment: shapes on lanes, with text above and below, and the arrow of a handover.
 
-use crate::svg::{class, height_of, width_of, Canvas, Line, DARK, LIGHT};
+use crate::svg::{class, height_of, width_of, Canvas, Line, DARK, LIGHT, SMALL};
 use furnacejade::Payload;
 
 const COLUMN_GAP: i32 = 14;
@@ -177,20 +177,21 @@ pub struct Column {
     pub title: String,
     pub marks: Vec<Mark>,
     pub arrow: Option<Arrow>,
-    /// Whether the column concerns all lanes.
-    pub across: bool,
+    /// The line across all lanes, if the column concerns them all.
+    pub across: Option<&'static str>,
 }
 
 impl Column {
     pub fn new(head: impl ToString, title: String, marks: Vec<Mark>) -> Column {
-        Column { head: head.to_string(), title, marks, arrow: None, across: false }
+        Column { head: head.to_string(), title, marks, arrow: None, across: None }
     }
 
     pub fn width(&self) -> i32 {
         let marks = self.marks.iter().map(Mark::width).max().unwrap_or(0);
         let name = self.arrow.as_ref().map_or(0, |arrow| arrow.name.width());
         let least = if self.head.is_empty() { 0 } else { LEAST_COLUMN - COLUMN_GAP };
-        marks.max(name).max(least) + COLUMN_GAP
+        let head = self.across.map_or(0, |_| Line::new(SMALL, &self.head).width());
+        marks.max(name).max(least).max(head) + COLUMN_GAP
     }
 
     pub fn stops(&self, lane: u8) -> bool {
@@ -199,8 +200,8 @@ impl Column {
 
     pub fn draw(&self, canvas: &mut Canvas, x: i32, lanes: &[i32]) {
         canvas.open(&self.title);
-        if let (true, Some(first), Some(last)) = (self.across, lanes.first(), lanes.last()) {
-            canvas.path(class::FAILED, &format!("M{x} {}V{}", first - LEAST_REACH, last + LEAST_REACH));
+        if let (Some(class), Some(first), Some(last)) = (self.across, lanes.first(), lanes.last()) {
+            canvas.path(class, &format!("M{x} {}V{}", first - LEAST_REACH, last + LEAST_REACH));
         }
         if let (Some(arrow), Some(mark)) = (&self.arrow, self.marks.first()) {
             arrow.draw(canvas, mark, x, lanes);

@@ -1,8 +1,9 @@
 //! The text of any run file. Bytes that have the form of no record are shown as bytes, with what is wrong with them.
 
+use crate::play::Play;
 use crate::text::record_text;
 use crate::words::{hexadecimal, malformed};
-use furnacejade::{records, Part, Record};
+use furnacejade::{records, Part, Record, Refusal};
 use std::fmt::Write;
 
 /// A line has at most this many handovers to one receiver.
@@ -30,8 +31,28 @@ pub fn disassemble(file: &[u8]) -> String {
     let [version, controllers, ..] = *file else {
         return line(&bytes_line(file), "offset 0: a run file has 2 bytes or more");
     };
-    let mut text = format!("version {version}\ncontrollers {controllers}\n\n");
-    let parts: Vec<Numbered> = (1..).zip(records(file)).collect();
+    format!("version {version}\ncontrollers {controllers}\n\n") + &lines_after(file, version, 0)
+}
+
+/// The lines that make the dispatcher's handovers when they stand at the end of the text, after a comment. The comment says so
+/// where the engine refuses the file for its length then.
+pub fn hand_lines(play: &Play) -> Vec<String> {
+    if play.dispatched().is_empty() {
+        return vec![];
+    }
+    let (longer, refusal) = play.longer_file();
+    let mut lines = vec!["# the same handovers, to be put at the end of the text".to_string()];
+    if let Some(refusal @ Refusal::FileLength) = refusal {
+        lines.push(format!("# with them the file has {} bytes, and is {refusal}", longer.len()));
+    }
+    lines.extend(lines_after(&longer, longer[0], play.recorded).lines().map(str::to_string));
+    lines
+}
+
+/// The lines of all records but the first ones.
+fn lines_after(file: &[u8], version: u8, first: usize) -> String {
+    let mut text = String::new();
+    let parts: Vec<Numbered> = (1..).zip(records(file)).skip(first).collect();
     for run in parts.chunk_by(|one, next| receiver(one).is_some() && receiver(one) == receiver(next)) {
         for group in run.chunks(HANDOVERS) {
             text += &group_text(group, version);

@@ -3,6 +3,7 @@
 //! Every event has a column. As many columns as fit make a band, and the bands stand below each other, as staves do.
 
 use crate::column::{Arrow, Column, Mark, Shape, FORWARDED, LEAST_REACH, LOOP, SENT};
+use crate::disassemble::hand_lines;
 use crate::legend::{legend, marks_text, Sign};
 use crate::play::{self, actor, in_state, Applied, Checked, Effect, Heard, Play, Refused, Step};
 use crate::svg::{
@@ -88,6 +89,9 @@ impl<'a> Picture<'a> {
         let mut checked = play.checked.as_slice();
         self.checks(&mut checked, 0);
         for step in &play.steps {
+            if step.number == play.recorded + 1 {
+                self.dispatcher();
+            }
             self.event(step);
             self.checks(&mut checked, step.number);
         }
@@ -99,6 +103,13 @@ impl<'a> Picture<'a> {
         self.used += column.width();
         self.columns.push(column);
         self.band(true);
+    }
+
+    /// The column after which the dispatcher hands over.
+    fn dispatcher(&mut self) {
+        let mut column = Column::new("dispatcher", "the dispatcher hands over from here on".to_string(), vec![]);
+        column.across = Some(class::STOPPED_LANE);
+        self.add(column);
     }
 
     fn add(&mut self, column: Column) {
@@ -270,7 +281,7 @@ impl<'a> Picture<'a> {
         let mark = Mark::new(concerned.unwrap_or(all.end().div_ceil(2)), Shape::boxed(class::REFUSED, lines));
         let title = format!("record {number} is {}", refused.refusal);
         let mut column = Column::new(number, title, vec![mark]);
-        column.across = concerned.is_none();
+        column.across = concerned.is_none().then_some(class::FAILED);
         self.add(column);
     }
 
@@ -352,6 +363,8 @@ impl<'a> Picture<'a> {
             let text = format!("{} not reached", count(unreached, "expectation was", "expectations were"));
             self.notes.push(Line::new(LEFT, text));
         }
+        let dispatched = words::dispatched(self.play).into_iter().chain(hand_lines(self.play));
+        self.notes.extend(dispatched.map(|line| Line::new(LEFT, line)));
         let (mut canvas, heading) = (Canvas::default(), self.heading(title));
         self.width = self.width.max(width_of(&self.notes).max(width_of(&heading)) + 2 * MARGIN);
         canvas.lines(MARGIN, MARGIN, &heading);

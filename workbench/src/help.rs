@@ -5,9 +5,9 @@ Write a run as text, run it, see it, and see why a panel shows what it shows.
 
     workbench assemble TEXT [-o RUN]              makes a run file of a text
     workbench disassemble RUN [-o TEXT]           gives the text of any run file
-    workbench run FILE                            says what each event did, and shows every panel at the end
+    workbench run FILE [--to-end]                 says what each event did, and shows every panel at the end
     workbench why FILE MESSAGE PANEL [--after N]  says why a panel has applied a message, or has not
-    workbench draw FILE [-o SVG]                  draws the run as a picture
+    workbench draw FILE [-o SVG] [--to-end]       draws the run as a picture
     workbench --version                           the version, and the interface of the library
 
 FILE is a text or a run file. `-` is standard input, and after -o standard output. `workbench COMMAND --help` says more.
@@ -49,7 +49,7 @@ A file that looks like a text is not disassembled, unless --bytes says that it i
 ";
 
 pub const RUN: &str = "\
-workbench run FILE [--text | --bytes]
+workbench run FILE [--to-end] [--text | --bytes]
 
 Plays a text or a run file up to its end or its first refusal, and prints
 
@@ -58,6 +58,11 @@ Plays a text or a run file up to its end or its first refusal, and prints
     the refusal: the question, the reason, the record and its place;
     every panel at the end: sums, classes, registers with their stamps (date, writer), what is pending and how many marks
     it has, what was cut off, and how far each log is read.
+
+With --to-end the dispatcher then hands over, each pair of a receiver and a log owner in its turn, until no handover is left.
+What each handover did is printed as for a record. The lines that make the same handovers stand at the end of the output, to be
+put at the end of the text. Expectations are checked where they stand in the text, which is before these handovers. After a
+refusal the dispatcher makes none.
 
 A failed expectation and the refusal each have a line on standard error too, which begins with the file and the line. The
 exit status is then 1.
@@ -81,8 +86,11 @@ The answer is for the end of the run, or for the moment after the event that --a
 ";
 
 pub const DRAW: &str = "\
-workbench draw FILE [-o SVG] [--text | --bytes]
+workbench draw FILE [-o SVG] [--to-end] [--text | --bytes]
 
 Writes a picture of the run to standard output, or to the file that -o names. A browser shows it. A refusal and expectations
 that failed are marked in the picture, and have a line on standard error.
+
+With --to-end the picture goes on with the handovers of the dispatcher, until none is left. The lines that make the same
+handovers stand below the picture, to be put at the end of the text.
 ";

@@ -29,6 +29,7 @@ struct Asked {
     words: Vec<String>,
     output: Option<String>,
     after: Option<usize>,
+    to_end: bool,
     form: Form,
 }
 
@@ -50,9 +51,15 @@ const COMMANDS: [Command; 5] = [
         options: &["-o", "--bytes"],
         carry_out: disassemble,
     },
-    Command { name: "run", help: help::RUN, words: 1, options: &["--text", "--bytes"], carry_out: run },
+    Command { name: "run", help: help::RUN, words: 1, options: &["--to-end", "--text", "--bytes"], carry_out: run },
     Command { name: "why", help: help::WHY, words: 3, options: &["--after", "--text", "--bytes"], carry_out: why },
-    Command { name: "draw", help: help::DRAW, words: 1, options: &["-o", "--text", "--bytes"], carry_out: draw },
+    Command {
+        name: "draw",
+        help: help::DRAW,
+        words: 1,
+        options: &["-o", "--to-end", "--text", "--bytes"],
+        carry_out: draw,
+    },
 ];
 
 impl Command {
@@ -63,7 +70,7 @@ impl Command {
 
     /// The words and options of a command line; none if it asks for help.
     fn parse(&self, line: &[String]) -> Result<Option<Asked>, Failed> {
-        let mut asked = Asked { words: vec![], output: None, after: None, form: Form::Either };
+        let mut asked = Asked { words: vec![], output: None, after: None, to_end: false, form: Form::Either };
         let mut line = line.iter();
         while let Some(word) = line.next() {
             let mut value =
@@ -77,6 +84,7 @@ impl Command {
                 }
                 "-o" => asked.output = Some(value("the name of a file")?.clone()),
                 "--after" => asked.after = Some(self.event(value("the number of an event")?)?),
+                "--to-end" => asked.to_end = true,
                 "--text" => asked.form = Form::Text,
                 "--bytes" => asked.form = Form::Bytes,
                 _ => asked.words.push(word.clone()),
@@ -135,10 +143,13 @@ fn disassemble(asked: &Asked) -> Result<bool, Failed> {
     put(asked.output.as_deref(), disassemble::disassemble(&file).as_bytes()).map(|()| true)
 }
 
-/// Plays a file, writes what a command makes of that, and says on standard error what failed.
+/// Plays a file, to the end if that is asked for, writes what a command makes of that, and says on standard error what failed.
 fn show(asked: &Asked, make: impl Fn(&Source, &Play) -> String) -> Result<bool, Failed> {
     let source = played(asked)?;
-    let play = play::play(source.bytes(), source.expectations(), usize::MAX);
+    let mut play = play::play(source.bytes(), source.expectations(), usize::MAX);
+    if asked.to_end {
+        play.go_to_end();
+    }
     put(asked.output.as_deref(), make(&source, &play).as_bytes())?;
     complain(&report::complaints(&source, &play));
     Ok(report::succeeded(&play))

@@ -1,7 +1,8 @@
-//! A run file played event by event. What an event did is read from its answer and from the table before and after it.
+//! A run file played event by event, and then by the dispatcher if that is asked for. What an event did is read from its answer
+//! and from the table before and after it.
 
 use crate::text::Expectation;
-use furnacejade::{event, fresh, look, records, run};
+use furnacejade::{dispatch, event, fresh, look, records, run};
 use furnacejade::{
     Answer, Controller, ForwardNumber, Message, Name, Part, Pending, Record, Refusal, State, Sums, Table, LISTING,
     SCRATCH,
@@ -49,7 +50,7 @@ pub struct Applied {
 /// An event that was accepted.
 #[derive(Debug)]
 pub struct Step {
-    /// The number of the event, from 1, and of its record in the file.
+    /// The number of the event, from 1, and of its record in the file. The dispatcher's handovers are counted on.
     pub number: usize,
     pub record: Record,
     /// The controller that acted.
@@ -87,6 +88,10 @@ impl Checked {
 pub struct Play<'a> {
     pub file: &'a [u8],
     pub steps: Vec<Step>,
+    /// How many of the steps are records of the file. The others are handovers of the dispatcher.
+    pub recorded: usize,
+    /// Whether the dispatcher was to hand over after the last record.
+    pub to_end: bool,
     pub refused: Option<Refused<'a>>,
     pub checked: Vec<Checked>,
     /// The expectations that were not reached.
@@ -198,7 +203,16 @@ fn applied_by(answer: &Answer, table: &Table, c: u8) -> Option<Applied> {
 pub fn play<'a>(bytes: &'a [u8], expectations: &'a [Expectation], most: usize) -> Play<'a> {
     let (mut listing, mut scratch) = (vec![0; LISTING], [0; SCRATCH]);
     let (unreached, table) = (expectations, Table::BLANK);
-    let mut play = Play { file: bytes, steps: vec![], refused: None, checked: vec![], unreached, table };
+    let mut play = Play {
+        file: bytes,
+        steps: vec![],
+        recorded: 0,
+        to_end: false,
+        refused: None,
+        checked: vec![],
+        unreached,
+        table,
+    };
     // A run of the whole file asks what is asked of a file. (A request for a fresh table does not ask for the length.)
     let refusal = run(bytes, &mut listing, &mut scratch).refusal.refusal();
     if let Some(refusal @ (Refusal::FileLength | Refusal::Version | Refusal::ControllerCount)) = refusal {
@@ -212,11 +226,8 @@ pub fn play<'a>(bytes: &'a [u8], expectations: &'a [Expectation], most: usize) -
         let before = play.table.clone();
         match event(&mut play.table, bytes, &mut scratch) {
             Ok((answer, _)) => {
-                let record = record.expect("an accepted record has the form of one");
-                let (number, c) = (play.steps.len() + 1, actor(record));
-                let effect = effect_of(record, &before, &play.table, &answer);
-                let applied = applied_by(&answer, &play.table, c);
-                play.steps.push(Step { number, record, controller: c, effect, applied });
+                play.add(record.expect("an accepted record has the form of one"), &before, &answer);
+                play.recorded += 1;
                 play.check(offset + bytes.len());
             }
             Err(refusal) => {
@@ -229,6 +240,40 @@ pub fn play<'a>(bytes: &'a [u8], expectations: &'a [Expectation], most: usize) -
 }
 
 impl Play<'_> {
+    /// Adds an event that was accepted, by the table before it and its answer.
+    fn add(&mut self, record: Record, before: &Table, answer: &Answer) {
+        let (number, c) = (self.steps.len() + 1, actor(record));
+        let effect = effect_of(record, before, &self.table, answer);
+        let applied = applied_by(answer, &self.table, c);
+        self.steps.push(Step { number, record, controller: c, effect, applied });
+    }
+
+    /// Lets the dispatcher hand over until no handover is left. After a refusal, which ends a run, it makes none.
+    pub fn go_to_end(&mut self) {
+        self.to_end = true;
+        let (mut last, mut scratch) = (self.table.end_of_round(), [0; SCRATCH]);
+        while self.refused.is_none() {
+            let before = self.table.clone();
+            let handed = dispatch(&mut self.table, last, &mut scratch).expect("the engine's own table");
+            let Some(handed) = handed else { break };
+            last = handed.pair;
+            self.add(last.into(), &before, &handed.answer);
+        }
+    }
+
+    /// The handovers that the dispatcher made.
+    pub fn dispatched(&self) -> &[Step] {
+        &self.steps[self.recorded..]
+    }
+
+    /// The file with the handovers of the dispatcher after its last record. The engine may refuse it for its length.
+    pub fn longer_file(&self) -> (Vec<u8>, Option<Refusal>) {
+        let mut longer = self.file.to_vec();
+        longer.extend(self.dispatched().iter().flat_map(|step| step.record.bytes()));
+        let refusal = run(&longer, &mut vec![0; LISTING], &mut [0; SCRATCH]).refusal.refusal();
+        (longer, refusal)
+    }
+
     /// Checks the expectations up to an offset that were not reached before.
     fn check(&mut self, offset: usize) {
         while let Some((expectation, others)) = self.unreached.split_first().filter(|(next, _)| next.offset <= offset) {

@@ -1,5 +1,6 @@
 //! A run in words: each event with what it did, the sets, the refusal with its reason, and the panels at the end.
 
+use crate::disassemble::hand_lines;
 use crate::play::{controller, in_state, read, Checked, Play, Refused};
 use crate::source::Source;
 use crate::text::{record_text, Expectation};
@@ -31,19 +32,30 @@ pub fn report(source: &Source, play: &Play) -> String {
         text += &refusal(source, play, refused);
     }
     let _ = writeln!(text, "{}", outcome(source, play));
+    for line in words::dispatched(play) {
+        let _ = writeln!(text, "{line}");
+    }
     if table.n > 0 {
         text += "\n";
         text += &panels(play);
     }
+    let lines = hand_lines(play);
+    if !lines.is_empty() {
+        let _ = writeln!(text, "\n{}", lines.join("\n"));
+    }
     text
 }
 
-/// A line or two for each event, and a line for each expectation, after the events that come before it.
+/// A line or two for each event, and a line for each expectation, after the events that come before it. A line says where the
+/// dispatcher's handovers begin.
 fn events(text: &mut String, source: &Source, play: &Play) {
     let width = play.steps.iter().map(|step| record_text(step.record).len()).max().unwrap_or(0);
     let mut checked = play.checked.iter().peekable();
     for events in 0..=play.steps.len() {
         if let Some(step) = events.checked_sub(1).map(|before| &play.steps[before]) {
+            if events == play.recorded + 1 {
+                let _ = writeln!(text, "{:5}  the dispatcher hands over from here on", "");
+            }
             let _ =
                 writeln!(text, "{:5}  {:width$}  {}", step.number, record_text(step.record), words::effect(play, step));
             if let Some(applied) = &step.applied {
@@ -126,7 +138,7 @@ pub fn refusal(source: &Source, play: &Play, refused: &Refused) -> String {
 
 /// How many events were accepted, and how many expectations held.
 fn outcome(source: &Source, play: &Play) -> String {
-    let mut text = format!("{} accepted", count(play.steps.len(), "event", "events"));
+    let mut text = format!("{} accepted", count(play.recorded, "event", "events"));
     let all = source.expectations().len();
     if all > 0 {
         let held = play.checked.iter().filter(|checked| checked.holds()).count();

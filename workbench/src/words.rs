@@ -105,6 +105,26 @@ pub fn applied(play: &Play, step: &Step, Applied { names, sums: shown, finished 
     }
 }
 
+/// What the dispatcher did after the last record, in lines; none if it was not to do anything.
+pub fn dispatched(play: &Play) -> Vec<String> {
+    let (table, first, last) = (&play.table, play.recorded + 1, play.steps.len());
+    let number = count(play.dispatched().len(), "handover", "handovers");
+    let made = match play.dispatched().len() {
+        _ if !play.to_end => return vec![],
+        _ if play.refused.is_some() => return vec!["the dispatcher makes no handover: a refusal ends the run".into()],
+        0 => "the dispatcher finds no handover to make".into(),
+        1 => format!("the dispatcher makes {number}, event {first}"),
+        _ => format!("the dispatcher makes {number}, events {first} to {last}"),
+    };
+    let mut lines = vec![format!("{made}; every running controller has read every log to its end")];
+    let running = table.controller_numbers().filter(|c| table.runs(*c)).count();
+    if running < play.majority() {
+        let few = format!("controllers that run: {running} of {}, which is no majority", table.n);
+        lines.push(format!("{few}; what is pending may stay so"));
+    }
+    lines
+}
+
 pub fn entries(number: usize) -> String {
     count(number, "entry", "entries")
 }

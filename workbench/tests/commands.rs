@@ -51,12 +51,14 @@ fn samples_run_as_their_reports_say() {
     for sample in ["worked", "stop", "label", "waits"] {
         assert_golden(&["run", &format!("samples/{sample}.txt")], &format!("samples/{sample}.report"));
     }
+    assert_golden(&["run", "--to-end", "samples/late.txt"], "samples/late.report");
 }
 
 #[test]
 fn samples_are_drawn_as_their_pictures_are() {
     assert_golden(&["draw", "samples/worked.txt"], "../docs/worked.svg");
     assert_golden(&["draw", "samples/stop.txt"], "../docs/stop.svg");
+    assert_golden(&["draw", "--to-end", "samples/late.txt"], "../docs/late.svg");
 }
 
 #[test]
@@ -518,9 +520,178 @@ fn every_command_has_help_and_complains_of_what_it_does_not_know() {
     assert!(complaint(&["assemble", "samples/worked.txt", "-o", "no/such.file"], b"").starts_with("no/such.file: "));
 }
 
+/// The events, the panels at the end and the hand lines of a report.
+fn parts(report: &str) -> (Vec<&str>, Vec<&str>, String) {
+    let numbered = |line: &&str| line.get(..5).is_some_and(|number| number.trim().parse::<usize>().is_ok());
+    let panels = report.lines().skip_while(|line| line.trim_start().split("  ").next() != Some("panel 1"));
+    let hand = report.lines().filter(|line| line.starts_with("hand ")).map(|line| format!("{line}\n"));
+    (report.lines().filter(numbered).collect(), panels.take_while(|line| !line.is_empty()).collect(), hand.collect())
+}
+
+/// The titles of the events of a picture, and the texts that it shows of the panels at the end.
+fn drawn(picture: &str) -> (Vec<&str>, Vec<&str>) {
+    let titles = picture.split("<title>").filter_map(|part| part.split("</title>").next());
+    let end = picture.split("what the panels show in the end</title>").nth(1).expect("panels");
+    let shapes = end.split("</g>").next().unwrap_or_default().split("</text>");
+    let texts = shapes.filter_map(|shape| shape.rsplit('>').next());
+    (titles.filter(|title| title.starts_with("event ")).collect(), texts.collect())
+}
+
+/// Texts that are played to their end: the samples, the run files of the bindings, and runs with stops and without a majority.
+fn unfinished() -> Vec<String> {
+    let samples = ["worked", "stop", "label", "waits", "late"].map(|name| text(&file(&format!("samples/{name}.txt"))));
+    let files = ["worked", "underway", "settings", "reading"]
+        .map(|name| printed(&["disassemble", &format!("../bindings/{name}.run")], b"", 0));
+    let others = [
+        "version 1\ncontrollers 1\nreport 1 +5\nreport 1 -5\n",
+        "version 1\ncontrollers 3\nreport 1 +5\nreport 3 +6\nhand 2 <- 1\nstop 1 keep 1\n",
+        "version 1\ncontrollers 3\nreport 1 +5\nhand 2 <- 1\nstop 1 keep 1\nstop 3 keep 0\nreport 2 +1\n",
+        "version 2\ncontrollers 7\nreport 7 +5 class M\nsync 6\nreport 5 -5 class S\nstop 7 keep 0\n",
+    ];
+    samples.into_iter().chain(files).chain(others.map(str::to_string)).collect()
+}
+
+#[test]
+fn lines_that_the_dispatcher_gives_bring_a_text_to_the_same_panels() {
+    for lines in unfinished() {
+        let driven = printed(&["run", "--to-end", "-"], lines.as_bytes(), 0);
+        let (events, panels, hand) = parts(&driven);
+        assert!(!hand.is_empty(), "{driven}");
+        let pasted = format!("{lines}{hand}");
+        let again = printed(&["run", "-"], pasted.as_bytes(), 0);
+        assert_eq!((&events, &panels), (&parts(&again).0, &parts(&again).1), "{pasted}");
+        // The whole end of the output may be pasted, with what stands above the lines.
+        let (_, end) = driven.split_once("\n# the same handovers").expect("lines");
+        let with_comment = printed(&["run", "-"], format!("{lines}# the same handovers{end}").as_bytes(), 0);
+        assert_eq!(with_comment, again);
+        let pictures = [(&["draw", "--to-end", "-"][..], &lines), (&["draw", "-"], &pasted)];
+        let [to_end, plain] = pictures.map(|(words, lines)| printed(words, lines.as_bytes(), 0));
+        assert_eq!((drawn(&to_end).0.len(), drawn(&to_end)), (events.len(), drawn(&plain)), "{pasted}");
+        for line in hand.lines() {
+            assert!(to_end.contains(&format!(">{}<", line.replace('<', "&lt;"))), "{line}");
+        }
+        // Nothing is left then, and it is said.
+        let ended = printed(&["run", "--to-end", "-"], pasted.as_bytes(), 0);
+        assert!(
+            ended.contains("accepted") && ended.contains("\nthe dispatcher finds no handover to make; "),
+            "{ended}"
+        );
+        assert_eq!(parts(&ended), (events, panels, String::new()));
+        let none = printed(&["draw", "--to-end", "-"], pasted.as_bytes(), 0);
+        assert!(none.contains(">the dispatcher finds no handover to make; ") && !none.contains(">hand "), "{none}");
+        assert!(!none.contains(">dispatcher<") && to_end.contains(">dispatcher<"));
+    }
+}
+
+#[test]
+fn what_the_dispatcher_did_is_said() {
+    let said = |lines: &str| {
+        let report = printed(&["run", "--to-end", "-"], format!("version 1\n{lines}").as_bytes(), 0);
+        let picture = printed(&["draw", "--to-end", "-"], format!("version 1\n{lines}").as_bytes(), 0);
+        let said = report.lines().skip_while(|line| !line.contains(" accepted")).take_while(|line| !line.is_empty());
+        let said: Vec<String> = said.map(str::to_string).collect();
+        assert!(said[1..].iter().all(|line| picture.contains(&format!(">{line}<"))), "{picture}");
+        said
+    };
+    let read = "every running controller has read every log to its end";
+    assert_eq!(
+        said("controllers 1\nreport 1 +5\n"),
+        ["1 event accepted".into(), format!("the dispatcher makes 1 handover, event 2; {read}")]
+    );
+    assert_eq!(
+        said("controllers 2\nreport 1 +5\nexpect 1 0 0\n"),
+        [
+            "1 event accepted; of 1 expectation, 1 held".into(),
+            format!("the dispatcher makes 4 handovers, events 2 to 5; {read}")
+        ]
+    );
+    assert_eq!(
+        said("controllers 3\n"),
+        ["0 events accepted".into(), format!("the dispatcher finds no handover to make; {read}")]
+    );
+    let too_few =
+        |running| format!("controllers that run: {running} of 3, which is no majority; what is pending may stay so");
+    assert_eq!(
+        said("controllers 3\nreport 1 +5\nstop 2 keep 0\nstop 3 keep 0\n"),
+        ["3 events accepted".into(), format!("the dispatcher makes 1 handover, event 4; {read}"), too_few(1)]
+    );
+    assert_eq!(
+        said("controllers 3\nreport 1 +5\nstop 1 keep 1\nstop 2 keep 0\nstop 3 keep 0\n"),
+        ["4 events accepted".into(), format!("the dispatcher finds no handover to make; {read}"), too_few(0)]
+    );
+    // Two of three are a majority.
+    assert_eq!(said("controllers 3\nreport 1 +5\nstop 2 keep 0\n").len(), 2);
+    let plain = printed(&["run", "-"], b"version 1\ncontrollers 1\nreport 1 +5\n", 0);
+    assert!(!plain.contains("dispatcher") && !plain.contains("\nhand "), "{plain}");
+}
+
+#[test]
+fn an_expectation_is_checked_before_the_dispatcher_hands_over() {
+    let lines = "version 1\ncontrollers 1\nreport 1 +5\nexpect 1 0 0\nexpect 1 5 0\n";
+    let report = printed(&["run", "--to-end", "-"], lines.as_bytes(), 1);
+    let wanted = [
+        "       expect 1 0 0: so it is",
+        "       standard input:5:1: FAILED: panel 1 shows 0 added, 0 withdrawn; expected: 5 added, 0 withdrawn",
+        "       the dispatcher hands over from here on",
+        "    2  hand 1 <- 1  controller 1 reads 1.1, entry 1 of its own log: known to it, with its own mark; 1 mark, 1 needed",
+    ];
+    assert!(report.contains(&wanted.join("\n")), "{report}");
+    assert!(report.contains("1 event accepted; of 2 expectations, 1 held, 1 failed\n"), "{report}");
+    // Where the lines are pasted before the expectation it holds.
+    let pasted = lines.replace("expect 1 0 0\n", &parts(&report).2);
+    printed(&["run", "--to-end", "-"], pasted.as_bytes(), 0);
+}
+
+#[test]
+fn after_a_refusal_the_dispatcher_makes_no_handover() {
+    let nothing = "the dispatcher makes no handover: a refusal ends the run";
+    let texts = [
+        ("version 1\ncontrollers 3\nreport 1 +5\nread 1\nhand 2 <- 1\n", "1 event accepted"),
+        ("version 1\ncontrollers 8\n", "0 events accepted"),
+        ("version 3\ncontrollers 3\nreport 1 +5\n", "0 events accepted"),
+        ("version 1\ncontrollers 3\nreport 1 +5\nbytes 03\n", "1 event accepted"),
+    ];
+    for (lines, accepted) in texts {
+        let (plain, to_end) =
+            (workbench(&["run", "-"], lines.as_bytes()), workbench(&["run", "--to-end", "-"], lines.as_bytes()));
+        assert_eq!((plain.status.code(), plain.stderr), (to_end.status.code(), to_end.stderr));
+        let wanted = text(&plain.stdout).replace(&format!("{accepted}\n"), &format!("{accepted}\n{nothing}\n"));
+        assert_eq!(text(&to_end.stdout), wanted);
+        let picture = printed(&["draw", "--to-end", "-"], lines.as_bytes(), 1);
+        assert!(picture.contains(&format!(">{nothing}<")) && !picture.contains(">dispatcher<"), "{picture}");
+    }
+}
+
+#[test]
+fn a_file_that_the_lines_make_too_long_is_known_before() {
+    // A sync that waits for its handover, after as many local reads as leave room for the handover, and after one more.
+    for (reads, note) in
+        [(21_842, None), (21_843, Some("# with them the file has 65538 bytes, and is refused by question 1: "))]
+    {
+        let file = [vec![1, 1], [2, 5, 1].repeat(reads), vec![2, 2, 1]].concat();
+        let report = printed(&["run", "--to-end", "-"], &file, 0);
+        let said = report.lines().find(|line| line.starts_with("# with"));
+        assert_eq!(said.is_some_and(|said| said.starts_with(note.unwrap_or("none"))), note.is_some(), "{said:?}");
+        assert!(note.is_some() || said.is_none());
+        let pasted = printed(&["disassemble", "-"], &file, 0) + &parts(&report).2;
+        assert_eq!(workbench(&["run", "-"], pasted.as_bytes()).status.code(), Some(i32::from(note.is_some())));
+    }
+}
+
+#[test]
+fn only_run_and_draw_go_to_the_end() {
+    for command in ["assemble", "disassemble", "why"] {
+        assert!(complaint(&[command, "--to-end"], b"").contains("there is no option --to-end"), "{command}");
+    }
+    assert!(complaint(&["run", "--toend", "-"], b"").contains("there is no option --toend; did you mean `--to-end`? "));
+    for command in ["run", "draw"] {
+        assert!(printed(&[command, "--help"], b"", 0).contains(" [--to-end]"));
+    }
+}
+
 /// The longest run files, with how many events are accepted: local reads; 64 messages, every log read by each of seven
-/// controllers, and local reads; and bytes that are no records.
-fn longest() -> [(Vec<u8>, usize); 3] {
+/// controllers, and local reads; bytes that are no records; and local reads with 64 messages after them that nobody has read.
+fn longest() -> [(Vec<u8>, usize); 4] {
     let reads = [vec![2, 7], [2, 5, 3].repeat(21_844)].concat();
     let mut dense = vec![1, 7];
     (0..64).for_each(|message| dense.extend([4, 1, message % 7 + 1, 0, 1]));
@@ -530,7 +701,9 @@ fn longest() -> [(Vec<u8>, usize); 3] {
     let left = (65_535 - dense.len()) / 3;
     dense.extend([2, 5, 1].repeat(left));
     let zeros = [vec![1, 7], vec![0; 65_533]].concat();
-    [(reads, 21_844), (dense, 64 + 64 * 49 + left), (zeros, 0)]
+    let mut unread = [vec![1, 7], [2, 5, 1].repeat(21_737)].concat();
+    (0..64).for_each(|message| unread.extend([4, 1, message % 7 + 1, 0, 1]));
+    [(reads, 21_844), (dense, 64 + 64 * 49 + left), (zeros, 0), (unread, 21_737 + 64)]
 }
 
 #[test]
@@ -547,7 +720,9 @@ fn the_longest_files_take_well_below_a_second() {
         let report = text(&timed(&["run", "--bytes", "-"], &bytes).expect("a report"));
         assert!(report.contains(&format!("\n{events} events accepted\n")), "{}", &report[report.len() - 500..]);
         assert!(timed(&["draw", "--bytes", "-"], &bytes).is_some());
-        // Only one of them has a message.
+        assert!(timed(&["run", "--to-end", "--bytes", "-"], &bytes).is_some());
+        assert!(timed(&["draw", "--to-end", "--bytes", "-"], &bytes).is_some());
+        // Two of them have a message.
         assert_eq!(timed(&["why", "--bytes", "-", "1.1", "1"], &bytes).is_some(), report.contains(" sends 1.1 "));
     }
 }

@@ -2,7 +2,7 @@
 //! place that the caller lends. What a call answers and leaves is proved in `crates/engine`. This file is the boundary,
 //! which nothing proves: it only passes arguments on.
 
-use crate::{Answer, CountAnswer, FreshAnswer, LookAnswer, Name, RunAnswer, Table};
+use crate::{Answer, CountAnswer, DispatchAnswer, FreshAnswer, LookAnswer, Name, Pair, RunAnswer, Table};
 
 extern "C" {
     fn furnacejade_interface() -> usize;
@@ -14,6 +14,14 @@ extern "C" {
         scratch_length: usize,
         answer: *mut Answer,
     ) -> usize;
+    fn furnacejade_dispatch(
+        t: *mut Table,
+        receiver: usize,
+        owner: usize,
+        scratch: *mut u8,
+        scratch_length: usize,
+        answer: *mut DispatchAnswer,
+    );
     fn furnacejade_look(t: *const Table, c: usize, answer: *mut LookAnswer);
     fn furnacejade_count_before(
         t: *const Table,
@@ -50,6 +58,14 @@ pub fn event(table: &mut Table, bytes: &[u8], scratch: &mut [u8], answer: &mut A
     // SAFETY: all pointers come from references; table, scratch and answer are borrowed to be written, so nothing
     // overlaps.
     unsafe { furnacejade_event(table, bytes.as_ptr(), bytes.len(), area, length, answer) }
+}
+
+/// The dispatcher: the next handover after that of a pair, the one served last, and n and n at first.
+pub fn dispatch(table: &mut Table, after: Pair, scratch: &mut [u8], answer: &mut DispatchAnswer) {
+    let (area, length) = (scratch.as_mut_ptr(), scratch.len());
+    // SAFETY: all pointers come from references; table, scratch and answer are borrowed to be written, so nothing
+    // overlaps.
+    unsafe { furnacejade_dispatch(table, after.receiver, after.owner, area, length, answer) }
 }
 
 /// A panel look at a controller, 1 to n.

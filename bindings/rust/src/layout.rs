@@ -8,7 +8,7 @@ use core::str::FromStr;
 
 /// The interface that this package was written for. It goes up whenever a struct, a constant, a refusal or a call
 /// changes. [`interface`](crate::interface) says which one the library was built with.
-pub const INTERFACE: usize = 1;
+pub const INTERFACE: usize = 2;
 
 /// The greatest number of controllers of a run.
 pub const CONTROLLERS: usize = 7;
@@ -22,7 +22,7 @@ pub const CLASSES: usize = 5;
 /// The number of registers that a panel shows.
 pub const REGISTERS: usize = 8;
 
-/// The bytes of scratch that an event asks for.
+/// The bytes of scratch that an event, or a handover of the dispatcher, asks for.
 pub const SCRATCH: usize = 4096;
 
 /// The bytes of a listing in which the lines of every run file fit.
@@ -192,7 +192,7 @@ pub struct Panel {
     pub registers: [Register; REGISTERS],
 }
 
-/// What an event answers.
+/// What an event answers, and what the dispatcher answers of the handover that it made.
 #[repr(C)]
 #[derive(Clone, Debug, PartialEq, Eq, Hash)]
 pub struct Answer {
@@ -207,6 +207,34 @@ pub struct Answer {
     pub size: usize,
     /// The names of the set, by sender and then number. Blank names follow.
     pub names: [Name; MESSAGES],
+}
+
+/// A handover by its numbers, as the dispatcher names it. Pairs are in the order in which it goes round: by receiver and
+/// then owner.
+///
+/// ```
+/// use furnacejade::{Pair, Record};
+/// let pair = Pair::new(2, 1);
+/// assert!(Pair::new(1, 3) < pair);
+/// assert_eq!(Record::from(pair), Record::Handover { receiver: 2, owner: 1 });
+/// ```
+#[repr(C)]
+#[derive(Clone, Copy, Debug, PartialEq, Eq, PartialOrd, Ord, Hash)]
+pub struct Pair {
+    /// The controller that reads.
+    pub receiver: usize,
+    /// The owner of the log that it reads.
+    pub owner: usize,
+}
+
+/// What the dispatcher answers.
+#[repr(C)]
+#[derive(Clone, Debug, PartialEq, Eq, Hash)]
+pub struct DispatchAnswer {
+    /// The handover that was made, which the next call names; blank if none was.
+    pub pair: Pair,
+    /// What an event answers of that handover. If none was made, all but the refusal is blank.
+    pub answer: Answer,
 }
 
 /// What a request for a fresh table answers.
@@ -483,6 +511,28 @@ impl Answer {
     }
 }
 
+impl Pair {
+    /// Every field zero: the pair of no handover.
+    pub const BLANK: Pair = Pair { receiver: 0, owner: 0 };
+
+    /// The handover to a receiver of the next entry of an owner's log.
+    #[must_use]
+    pub const fn new(receiver: u8, owner: u8) -> Pair {
+        Pair { receiver: receiver as usize, owner: owner as usize }
+    }
+}
+
+impl DispatchAnswer {
+    /// Every field zero: a place for an answer, and what the dispatcher answers where no handover is left.
+    pub const BLANK: DispatchAnswer = DispatchAnswer { pair: Pair::BLANK, answer: Answer::BLANK };
+
+    /// The handover that was made; none if no handover was left, or the call was refused.
+    #[must_use]
+    pub fn served(&self) -> Option<Pair> {
+        (self.pair.receiver > 0).then_some(self.pair)
+    }
+}
+
 impl FreshAnswer {
     /// Every field zero: a place for an answer.
     pub const BLANK: FreshAnswer = FreshAnswer { refusal: RefusalNumber::ACCEPTED, table: Table::BLANK };
@@ -536,6 +586,8 @@ layout!(Stamp, 4 bytes, 0 of padding: date at 0, writer at 2);
 layout!(Register, 8 bytes, 0 of padding: value at 0, stamp at 4);
 layout!(Panel, 112 bytes, 0 of padding: sums at 0, classes at 8, registers at 48);
 layout!(Answer, 152 bytes, 6 of padding: refusal at 0, finished at 1, sums at 4, size at 16, names at 24);
+layout!(Pair, 16 bytes, 0 of padding: receiver at 0, owner at 8);
+layout!(DispatchAnswer, 168 bytes, 0 of padding: pair at 0, answer at 16);
 layout!(FreshAnswer, 6040 bytes, 7 of padding: refusal at 0, table at 8);
 layout!(LookAnswer, 116 bytes, 3 of padding: refusal at 0, panel at 4);
 layout!(CountAnswer, 16 bytes, 7 of padding: refusal at 0, count at 8);

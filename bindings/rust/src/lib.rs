@@ -115,6 +115,37 @@
 //! # }
 //! ```
 //!
+//! # Hand over fairly
+//!
+//! The dispatcher, [`Machine::dispatch`], makes the next handover. It is told the pair that it served last, and goes
+//! round from there, so that every pair of a receiver and a log owner gets its turn:
+//!
+//! ```
+//! use furnacejade::{Machine, Pair, Record, Refusal, Sums};
+//!
+//! # fn main() -> Result<(), Refusal> {
+//! let mut machine = Machine::new(1, 3)?;
+//! machine.play(Record::Report { sender: 1, amount: 30 })?;
+//! let mut last = machine.end_of_round(); // 3 and 3, at first
+//! while let Some(handed) = machine.dispatch(last)? {
+//!     last = handed.pair;
+//!     for name in handed.answer.applied() {
+//!         println!("panel {} applies {name}", last.receiver);
+//!     }
+//! }
+//! // None is left: every controller has read every log to its end.
+//! assert_eq!(last, Pair::new(2, 3));
+//! for controller in machine.controllers() {
+//!     assert_eq!(machine.look(controller)?.sums, Sums { added: 30, withdrawn: 0 });
+//! }
+//!
+//! // Who does not ask what each handover did has one call for all of them.
+//! machine.play(Record::Report { sender: 3, amount: -2 })?;
+//! assert_eq!(machine.dispatch_to_end(), 9);
+//! # Ok(())
+//! # }
+//! ```
+//!
 //! # Follow a message
 //!
 //! A table says the name of the message that a controller has just sent, where it has arrived, and what is left to
@@ -164,7 +195,8 @@
 //!
 //! # Lend your own memory
 //!
-//! [`fresh`], [`event`], [`look`] and [`count_before`] are the same calls over a table and scratch of the caller's:
+//! [`fresh`], [`event`], [`dispatch`], [`look`] and [`count_before`] are the same calls over a table and scratch of the
+//! caller's:
 //!
 //! ```
 //! use furnacejade::{event, fresh, look, Record, Refusal, Sums, SCRATCH};
@@ -223,9 +255,9 @@ mod refusal;
 
 pub use class::{Class, ClassNumber, ParseClassError};
 pub use layout::{
-    Answer, Controller, CountAnswer, ForwardNumber, FreshAnswer, LookAnswer, Message, MessageNumber, Name, Panel,
-    ParseNameError, Payload, Pending, Register, RunAnswer, Stamp, Sums, Table, CLASSES, CONTROLLERS, INTERFACE,
-    LISTING, MESSAGES, REGISTERS, SCRATCH,
+    Answer, Controller, CountAnswer, DispatchAnswer, ForwardNumber, FreshAnswer, LookAnswer, Message, MessageNumber,
+    Name, Pair, Panel, ParseNameError, Payload, Pending, Register, RunAnswer, Stamp, Sums, Table, CLASSES, CONTROLLERS,
+    INTERFACE, LISTING, MESSAGES, REGISTERS, SCRATCH,
 };
 pub use machine::Machine;
 pub use queries::State;
@@ -267,6 +299,33 @@ pub fn event<'a>(table: &mut Table, bytes: &'a [u8], scratch: &mut [u8]) -> Resu
     let left = calls::event(table, bytes, scratch, &mut answer);
     answer.refusal.check()?;
     Ok((answer, &bytes[bytes.len().saturating_sub(left)..]))
+}
+
+/// Makes the next handover, where every pair of a receiver and a log owner gets its turn. Gives its pair and its answer,
+/// or none if no handover is left. `after` is the pair that the dispatcher served last, and n and n at first
+/// ([`Table::end_of_round`]).
+///
+/// The dispatcher goes round all pairs, by receiver and then owner, from the one after `after`, which comes last. It
+/// passes over stopped receivers and over pairs without an unread entry. (A log owner may have stopped.)
+///
+/// - If each call names the pair that the call before it served, and nobody stops, an entry that is next for a running
+///   receiver is read within n x n handovers of the dispatcher, whatever other calls are made in between.
+/// - A run has at most 3,136 accepted handovers in all, so calls in a row come to none.
+/// - Where none is left, every running controller has read every log to its end.
+///
+/// A handover needs [`SCRATCH`] bytes of scratch, and leaves table and scratch as the same event does. Where none is left
+/// scratch may be shorter. Then, and where the call is refused, table and scratch are left as they were.
+///
+/// # Errors
+///
+/// [`Refusal::Table`], if the table is not well formed. [`Refusal::Controller`], unless both numbers of the pair named
+/// are from 1 to n, also where no handover is left. [`Refusal::Scratch`], if a handover is left and scratch is too short
+/// for it.
+pub fn dispatch(table: &mut Table, after: Pair, scratch: &mut [u8]) -> Result<Option<DispatchAnswer>, Refusal> {
+    let mut answer = DispatchAnswer::BLANK;
+    calls::dispatch(table, after, scratch, &mut answer);
+    answer.answer.refusal.check()?;
+    Ok(answer.served().map(|_| answer))
 }
 
 /// What the panel of a controller shows, 1 to n, running or stopped: the sums of all classes together, the sums of each

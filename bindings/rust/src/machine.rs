@@ -1,6 +1,7 @@
 //! A machine that owns its table and its scratch.
 
-use crate::{count_before, event, fresh, look, Answer, Name, Panel, Record, Refusal, Table, SCRATCH};
+use crate::{count_before, dispatch, event, fresh, look};
+use crate::{Answer, DispatchAnswer, Name, Pair, Panel, Record, Refusal, Table, SCRATCH};
 use core::fmt::{Debug, Formatter};
 use core::ops::RangeInclusive;
 
@@ -61,6 +62,33 @@ impl Machine {
         event(&mut self.table, &record.bytes(), &mut self.scratch).map(|(answer, _)| answer)
     }
 
+    /// Makes the next handover after that of the pair named, or gives none if no handover is left: [`dispatch`] in the
+    /// machine's table. The machine does not keep the pair: name the pair that was served last, and
+    /// [`end_of_round`](Machine::end_of_round) at first.
+    ///
+    /// # Errors
+    ///
+    /// [`Refusal::Controller`], unless both numbers of the pair named are from 1 to n.
+    pub fn dispatch(&mut self, after: Pair) -> Result<Option<DispatchAnswer>, Refusal> {
+        dispatch(&mut self.table, after, &mut self.scratch)
+    }
+
+    /// Hands over until no handover is left, every pair in its turn, and gives how many there were. Every running
+    /// controller has then read every log to its end. If more than half of all controllers run, each of those that run
+    /// has applied all that was sent, less what was cut off.
+    ///
+    /// The answers of syncs that are finished on the way are not told. Who waits for one calls
+    /// [`dispatch`](Machine::dispatch).
+    pub fn dispatch_to_end(&mut self) -> usize {
+        let (mut last, mut handovers) = (self.end_of_round(), 0);
+        // The table is well formed, the pair is one of its own and the scratch is long enough: nothing is refused.
+        while let Ok(Some(handed)) = self.dispatch(last) {
+            last = handed.pair;
+            handovers += 1;
+        }
+        handovers
+    }
+
     /// What the panel of a controller shows: [`look`] at the machine's table.
     ///
     /// # Errors
@@ -90,6 +118,12 @@ impl Machine {
     #[must_use]
     pub fn into_table(self) -> Table {
         self.table
+    }
+
+    /// n and n, the pair with which a round of the dispatcher ends. The first call names it.
+    #[must_use]
+    pub fn end_of_round(&self) -> Pair {
+        self.table.end_of_round()
     }
 
     /// The machine's controllers, 1 to n.

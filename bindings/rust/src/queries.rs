@@ -2,7 +2,7 @@
 //! answer for every table, well formed or not: of more than 7 controllers and of more than 64 messages they read those
 //! that have a place, and a controller outside 1 to n has no log, has sent nothing and does not run.
 
-use crate::{Controller, Name, Table, CONTROLLERS};
+use crate::{Controller, Name, Pair, Table, CONTROLLERS};
 use core::ops::RangeInclusive;
 
 /// The state of a message at a controller (docs/RULES.md, sections 3 and 9).
@@ -27,6 +27,14 @@ impl Table {
         #[expect(clippy::cast_possible_truncation, reason = "at most 7")]
         let last = self.n.min(CONTROLLERS) as u8;
         1..=last
+    }
+
+    /// n and n, the pair with which a round of the dispatcher ends. The first call of [`dispatch`](crate::dispatch) names
+    /// it: the pair after it is the first of the next round, 1 and 1.
+    #[must_use]
+    pub fn end_of_round(&self) -> Pair {
+        let last = *self.controller_numbers().end();
+        Pair::new(last, last)
     }
 
     /// The latest message of a sender: of all that it has sent, the one with the greatest number. Right after an
@@ -61,7 +69,7 @@ impl Table {
 
     /// How many entries of the owner's log the receiver has not read. A handover is refused by question 13 if there is
     /// none. A receiver that has stopped keeps its unread entries for good: a loop that hands over asks
-    /// [`runs`](Table::runs) too.
+    /// [`runs`](Table::runs) too, or lets [`dispatch`](crate::dispatch) choose.
     #[must_use]
     pub fn unread(&self, receiver: u8, owner: u8) -> usize {
         let (Some(log), Some(position)) = (self.controller(owner), self.read_position(receiver, owner)) else {

@@ -1,7 +1,7 @@
 //! Records and run files: a record as a type that writes its own bytes, and the records of a file. Nothing is
 //! allocated.
 
-use crate::ClassNumber;
+use crate::{ClassNumber, Pair};
 use core::fmt::{Debug, Formatter};
 use core::iter::FusedIterator;
 use core::ops::Deref;
@@ -129,6 +129,15 @@ impl Record {
             }
             _ => return None,
         })
+    }
+}
+
+/// The handover that the pair names, as a record of a run file. A number above 255 becomes 255, which no question lets
+/// pass.
+impl From<Pair> for Record {
+    fn from(Pair { receiver, owner }: Pair) -> Record {
+        let byte = |number| u8::try_from(number).unwrap_or(u8::MAX);
+        Record::Handover { receiver: byte(receiver), owner: byte(owner) }
     }
 }
 
