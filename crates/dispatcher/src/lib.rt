@@ -90,7 +90,7 @@ fn none(refusal: u8) -> Choice
 }
 
 // Questions 4 and 8; then the next pair and, if there is one, question 15.
-fn choice(t: Table, receiver: usize, owner: usize, room: usize) -> Choice
+fn choose(t: Table, receiver: usize, owner: usize, room: usize) -> Choice
     ensures { λ r. ⌜ r ≡ choiceOf t (pair receiver owner) room ⌝ }
 {
     if !validity::well_formed(t) {
@@ -139,7 +139,7 @@ fn unserved(t: Table, refusal: u8) -> Handed
 pub fn dispatch(t: Table, receiver: usize, owner: usize, scratch: &mut [u8]) -> Handed
     ensures { λ r. ⌜ Dispatches t (pair receiver owner) (now (scratch .entry)) r (now (scratch .exit)) ⌝ }
 {
-    let chosen = choice(t, receiver, owner, scratch.len());
+    let chosen = choose(t, receiver, owner, scratch.len());
     let pair = chosen.pair;
     let r = pair.receiver;
     if r == 0 {
