@@ -17,3 +17,4 @@ pub mod Classes
 pub mod Shown
 pub mod NextRegisters
 pub mod Dispatching
+pub mod DispatchLaws

@@ -1,7 +1,8 @@
 -- What the theorems of this crate are stated with besides the definitions of the rules: the weight and the writes of a set, a register
--- before and after an event, how large sums are, and the numbers of refusals.
+-- before and after an event, how large sums are, the numbers of refusals, and the record of a handover.
 use mathlib.Core.Logic.{_≢_}
 use mathlib.Core.Bool.{cond}
+use mathlib.Core.List.{List, [], _∷_}
 use Prim.Native.Nat.{ℕ, _+_, _≤_}
 use lib.ListN.{getD}
 use lib.Dec.{eqb}
@@ -18,6 +19,7 @@ use Rattle.model.specs.declared.Register.{Register}
 use Rattle.model.specs.declared.Panel.{Panel}
 use Rattle.model.specs.declared.Table.{Table}
 use Rattle.model.specs.declared.Event.{Event}
+use Rattle.model.specs.declared.Pair.{Pair}
 
 -- the sum of a weight over the messages of a set
 unfoldable pub weighSet : (Payload → ℕ) → Messages → Slots → ℕ
@@ -49,3 +51,7 @@ pub record BoundedPanel (p : Panel) : Type 0 where
 -- the numbers that a record can be refused by: 5 to 15 and 17 to 20
 abbrev pub StepNumber : ℕ → Type 0
 StepNumber k = (5 ≤ k) × (k ≤ 20) × (k ≢ 16)
+
+-- the record that asks for the handover of a pair
+abbrev pub handoverRecord : Pair → List ℕ
+handoverRecord q = 3 ∷ 3 ∷ q .receiver ∷ q .owner ∷ []
