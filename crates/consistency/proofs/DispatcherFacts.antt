@@ -23,7 +23,8 @@ use Rattle.turns.specs.Dispatcher.{pair, some?, waits, nextPair, dispatchQuesti
 use Rattle.model.specs.declared.Pair.{Pair}
 use Rattle.model.specs.declared.Table.{Table}
 use Rattle.model.proofs.Tested.{tested, named-at}
-use Rattle.turns.proofs.Dispatching.{InRange, distance, none-waits, Passed, passed-dispatch, dispatch-case, dispatch-refusal, none-said}
+use Rattle.turns.specs.Claims.{InRange}
+use Rattle.turns.proofs.Dispatching.{distance, none-waits, Passed, passed-dispatch, dispatch-case, dispatch-refusal, none-said}
 use Rattle.broadcast.specs.State.{State, fresh as freshState}
 use Rattle.consistency.specs.Entries.{dispatching, serve, Call, singleEvent, observing, serving, Entry, handedOver, entriesOf, left, transcript, Step, carried, steps, did}
 use Rattle.consistency.specs.Entries.{served as asked}

@@ -17,7 +17,8 @@ use Rattle.model.specs.declared.Name.{Name}
 use Rattle.model.specs.declared.Pair.{Pair}
 use Rattle.model.specs.declared.Table.{Table}
 use Rattle.model.proofs.Allowed.{handover-allowed}
-use Rattle.turns.proofs.Dispatching.{InRange, after, Distance, Nearer, nearer, dispatch-some}
+use Rattle.turns.specs.Claims.{InRange}
+use Rattle.turns.proofs.Dispatching.{after, Distance, Nearer, nearer, dispatch-some}
 use Rattle.broadcast.specs.State.{State}
 use Rattle.consistency.specs.Entries.{dispatching, Entry, answered, observed, handed, listed, nothingSaid, Step, carried, steps, did}
 use Rattle.consistency.specs.Entries.{served as asked}

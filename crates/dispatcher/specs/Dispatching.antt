@@ -6,18 +6,19 @@ use mathlib.Core.List.{List}
 use lib.ListN.{length}
 use lib.Dec.{eqb}
 use Rattle.model.specs.Questions.{firstNo}
-use Rattle.turns.specs.Dispatcher.{DispatchOutcome, noPair, nextPair, dispatchQuestions, dispatch, scratchServed, dispatchAnswerOf}
+use Rattle.turns.specs.Dispatcher.{DispatchOutcome, noPair, nextPair, pairQuestions, dispatch, scratchServed, dispatchAnswerOf}
 use Rattle.model.specs.declared.Pair.{Pair}
+use Rattle.model.specs.declared.Controller.{Controller}
 use Rattle.model.specs.declared.Table.{Table}
 use Rattle.effects.specs.Effects.{noSet}
 use Rattle.dispatcher.specs.declared.Choice.{Choice}
 use Rattle.dispatcher.specs.declared.Handed.{Handed}
 
--- the first no of questions 4, 8 and 15, and the pair to be served
-unfoldable pub choiceOf : Table → Pair → ℕ → Choice
-choiceOf t p room =
-    let q = nextPair (t .n) (t .controllers) p in
-    let k = firstNo (dispatchQuestions t p q room) in
+-- the first no of questions 8 and 15, and the pair to be served, of n controllers
+unfoldable pub choiceOf : ℕ → List Controller → Pair → ℕ → Choice
+choiceOf n C p room =
+    let q = nextPair n C p in
+    let k = firstNo (pairQuestions n p q room) in
     record { refusal = k; pair = cond (eqb k 0) q noPair }
 
 -- an outcome, as it is handed on by value

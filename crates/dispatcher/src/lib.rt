@@ -89,18 +89,20 @@ fn none(refusal: u8) -> Choice
     }
 }
 
-// Questions 4 and 8; then the next pair and, if there is one, question 15.
-fn choice(t: Table, receiver: usize, owner: usize, room: usize) -> Choice
-    ensures { λ r. ⌜ r ≡ choiceOf t (pair receiver owner) room ⌝ }
+// Question 8; then the next pair and, if there is one, question 15.
+fn choose(
+    n: usize,
+    controllers: [Controller; Table::CONTROLLERS],
+    receiver: usize,
+    owner: usize,
+    room: usize,
+) -> Choice
+    requires { ⌜ n ≤ seats ⌝ }
+    ensures { λ r. ⌜ r ≡ choiceOf n controllers (pair receiver owner) room ⌝ }
 {
-    if !validity::well_formed(t) {
-        return none(refusal::TABLE);
-    }
-    let n = t.n;
     if !(((0 < receiver) & (receiver <= n)) & ((0 < owner) & (owner <= n))) {
         return none(refusal::CONTROLLER);
     }
-    let controllers = t.controllers;
     let pair = next_pair(n, controllers, receiver, owner);
     let r = pair.receiver;
     if (0 < r) & (room < Table::SCRATCH) {
@@ -139,7 +141,11 @@ fn unserved(t: Table, refusal: u8) -> Handed
 pub fn dispatch(t: Table, receiver: usize, owner: usize, scratch: &mut [u8]) -> Handed
     ensures { λ r. ⌜ Dispatches t (pair receiver owner) (now (scratch .entry)) r (now (scratch .exit)) ⌝ }
 {
-    let chosen = choice(t, receiver, owner, scratch.len());
+    if !validity::well_formed(t) {
+        return unserved(t, refusal::TABLE);
+    }
+    let controllers = t.controllers;
+    let chosen = choose(t.n, controllers, receiver, owner, scratch.len());
     let pair = chosen.pair;
     let r = pair.receiver;
     if r == 0 {

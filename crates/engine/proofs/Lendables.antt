@@ -1,5 +1,8 @@
 -- The structs that the exported calls lend or store, with their laws. Assumes nothing.
+use mathlib.Core.Path.{refl}
+use denote.Struct.Laws as LL
 use Rattle.walks.proofs.Parameters.{Lendable}
+use Rattle.walks.proofs.StoredTable.{Part}
 use Rattle.model.proofs.Table as TableT
 use Rattle.model.proofs.Table.Laws as TableT′
 use Rattle.model.proofs.Name as NameT
@@ -12,6 +15,10 @@ use Rattle.model.proofs.FreshAnswer as FreshAnswerT
 use Rattle.model.proofs.FreshAnswer.Laws as FreshAnswerT′
 use Rattle.model.proofs.RunAnswer as RunAnswerT
 use Rattle.model.proofs.RunAnswer.Laws as RunAnswerT′
+use Rattle.model.proofs.DispatchAnswer as DispatchAnswerT
+use Rattle.model.proofs.DispatchAnswer.Laws as DispatchAnswerT′
+use Rattle.dispatcher.proofs.Handed as HandedT
+use Rattle.dispatcher.proofs.Handed.Laws as HandedT′
 
 abbrev pub table : Lendable
 table = record { decl = TableT.the-type; laws = TableT′.the-laws; copies = TableT′.the-copy; pure = TableT′.the-plain }
@@ -30,3 +37,16 @@ fresh-answer = record { decl = FreshAnswerT.the-type; laws = FreshAnswerT′.the
 
 abbrev pub run-answer : Lendable
 run-answer = record { decl = RunAnswerT.the-type; laws = RunAnswerT′.the-laws; copies = RunAnswerT′.the-copy; pure = RunAnswerT′.the-plain }
+
+abbrev pub dispatch-answer : Lendable
+dispatch-answer = record { decl = DispatchAnswerT.the-type; laws = DispatchAnswerT′.the-laws; copies = DispatchAnswerT′.the-copy; pure = DispatchAnswerT′.the-plain }
+
+abbrev pub handed : Lendable
+handed = record { decl = HandedT.the-type; laws = HandedT′.the-laws; copies = HandedT′.the-copy; pure = HandedT′.the-plain }
+
+-- what is handed on by value, part by part
+abbrev pub handed-answer : Part handed dispatch-answer
+handed-answer = record { index = 0; get = λ x. x .answer; lies = refl; reads = λ x. refl; is = λ x i. LL.owed HandedT.the-type HandedT′.the-laws x _ i .0 }
+
+abbrev pub handed-table : Part handed table
+handed-table = record { index = 1; get = λ x. x .table; lies = refl; reads = λ x. refl; is = λ x i. LL.owed HandedT.the-type HandedT′.the-laws x _ i .1 .0 }

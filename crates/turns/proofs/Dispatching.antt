@@ -17,6 +17,7 @@ use Rattle.model.specs.WellFormed.{wellFormed}
 use Rattle.model.specs.Questions.{firstNo, lentTable, unread, handoverQuestions, eventQuestions}
 use Rattle.model.specs.Calls.{answering, refused}
 use Rattle.turns.specs.Dispatcher.{pair, noPair, some?, handover, following, waits, firstWaiting, nextPair, pairQuestions, dispatchQuestions, saysNone, DispatchOutcome, served, unserved, dispatch}
+use Rattle.turns.specs.Claims.{InRange}
 use Rattle.model.specs.declared.Pair.{Pair}
 use Rattle.model.specs.declared.Controller.{Controller}
 use Rattle.model.specs.declared.Table.{Table}
@@ -24,11 +25,6 @@ use Rattle.model.proofs.Tested.{named-at, named-of}
 use Rattle.model.proofs.Allowed.{no-no, handover-allowed}
 
 -- THE ORDER
-
--- both are among n controllers
-pub record InRange (n : ℕ) (p : Pair) : Type 0 where
-  pub receiver : Among n (p .receiver)
-  pub owner : Among n (p .owner)
 
 following-case : (P : Pair → Type 0) (n : ℕ) (p : Pair) → (p .owner < n → P (pair (p .receiver) (p .owner + 1)))
     → (n ≤ p .owner → p .receiver < n → P (pair (p .receiver + 1) 1)) → (n ≤ p .owner → n ≤ p .receiver → P (pair 1 1)) → P (following n p)
@@ -80,9 +76,9 @@ code-same n p q i j e = elim (decLt (p .receiver) (q .receiver)) [
   | no l ↦ elim (decLt (q .receiver) (p .receiver)) [
     | yes m ↦ absurd (omega (arith, code-below n q p j i m, e))
     | no m ↦
-      let r : p .receiver ≡ q .receiver = omega (arith, l, m) in
-      let o : p .owner ≡ q .owner = omega (arith, e, ap (λ x. x * n) r) in
-      ap₂ pair r o
+        let r : p .receiver ≡ q .receiver = omega (arith, l, m) in
+        let o : p .owner ≡ q .owner = omega (arith, e, ap (λ x. x * n) r) in
+        ap₂ pair r o
   ]
 ]
 
@@ -112,15 +108,15 @@ distance n p q i j = elim (decLt (code n p) (code n q)) [
     reaches = ahead n (code n q - code n p) p q i j (omega (arith, l));
   }
   | no l ↦
-    let d = code n (pair n n) - code n p in
-    let e = code n q - code n (pair 1 1) in
-    record {
-      places = d + suc e;
-      some = omega arith;
-      few = omega (arith, l, most p i, least q j, most q j);
-      reaches = after-add n d (suc e) p ∙ (ap (after n (suc e)) (ahead n d p (pair n n) i last (omega (arith, most p i)))
-      ∙ (ap (after n e) turn ∙ ahead n e (pair 1 1) q first j (omega (arith, least q j))));
-    }
+      let d = code n (pair n n) - code n p in
+      let e = code n q - code n (pair 1 1) in
+      record {
+        places = d + suc e;
+        some = omega arith;
+        few = omega (arith, l, most p i, least q j, most q j);
+        reaches = after-add n d (suc e) p ∙ (ap (after n (suc e)) (ahead n d p (pair n n) i last (omega (arith, most p i)))
+            ∙ (ap (after n e) turn ∙ ahead n e (pair 1 1) q first j (omega (arith, least q j))));
+      }
 ]
   where
     first : InRange n (pair 1 1)
@@ -241,8 +237,12 @@ dispatch-passed t p q room e =
 pub passed-dispatch : (t : Table) (p q : Pair) (room : ℕ) → Passed t p q room → firstNo (dispatchQuestions t p q room) ≡ 0
 unfolding firstNo dispatchQuestions pairQuestions lentTable
 passed-dispatch t p q room a =
-    rw (a .formed, named-of t (p .receiver) (a .named .receiver), named-of t (p .owner) (a .named .owner),
-    implies-of (some? q) (leb scratchSize room) (λ z. le-leb scratchSize room (a .enough z))) refl
+    rw (
+      a .formed,
+      named-of t (p .receiver) (a .named .receiver),
+      named-of t (p .owner) (a .named .owner),
+      implies-of (some? q) (leb scratchSize room) (λ z. le-leb scratchSize room (a .enough z)),
+    ) refl
 
 module _ (t : Table) (p : Pair) (room : ℕ) where
   abbrev q : Pair

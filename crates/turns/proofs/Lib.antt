@@ -1,2 +1,3 @@
-pub mod Dispatching
 pub mod Cases
+pub mod Dispatching
+pub mod DispatchLaws

@@ -2,7 +2,7 @@
 -- receiver and a log owner, so that none waits for ever.
 use Prim.Native.Nat.{ℕ, zero, suc, _+_, _*_}
 use mathlib.Core.Bool.{Bool, not, _&&_, _||_, cond}
-use mathlib.Core.List.{List, [], _∷_, _++_}
+use mathlib.Core.List.{List, [], _∷_}
 use lib.Dec.{eqb, leb, ltb}
 use Rattle.model.specs.Tables.{scratchSize, yes?, controllerIn}
 use Rattle.model.specs.Events.{next}
@@ -62,13 +62,13 @@ nextPair n C p = firstWaiting (n * n) n C p
 
 -- THE CALL
 
--- questions 4 and 8, of the pair named
-unfoldable pub pairQuestions : Table → Pair → List Question
-pairQuestions t p = lentTable t ∷ ask 8 (named (t .n) (p .receiver) && named (t .n) (p .owner)) ∷ []
+-- question 8, of the pair named; then 15, which is put where a handover is to be made: of q, the next pair, and `room` bytes of scratch
+unfoldable pub pairQuestions : ℕ → Pair → Pair → ℕ → List Question
+pairQuestions n p q room = ask 8 (named n (p .receiver) && named n (p .owner)) ∷ ask 15 (not (some? q) || leb scratchSize room) ∷ []
 
--- then 15, which is put where a handover is to be made: of q, the next pair, and `room` bytes of scratch
+-- question 4, and then these
 unfoldable pub dispatchQuestions : Table → Pair → Pair → ℕ → List Question
-dispatchQuestions t p q room = pairQuestions t p ++ (ask 15 (not (some? q) || leb scratchSize room) ∷ [])
+dispatchQuestions t p q room = lentTable t ∷ pairQuestions (t .n) p q room
 
 -- what it answers: "its pair and set", and what else the event call answers of a handover
 pub record Dispatched : Type 0 where

@@ -1,1 +1,2 @@
 pub mod Dispatcher
+pub mod Claims
