@@ -180,13 +180,13 @@ module _ (h : Head) (heads : Heads h) (calls : List Call) where
       elim (decLt j i) [
         | yes l ↦ let z : j - i ≡ 0 = omega (arith, l) in absurd (omega (arith, some, rw z at many))
         | no l ↦
-          let q : i + (j - i) ≡ j = omega (arith, l) in
-          let there : InRange n (pair r o) = record { receiver = w .receiver .named; owner = w .owner } in
-          elim (fair-course n v r o (moment-at h heads calls i) (version-at h heads calls i) (between h calls i j) _ (between-course h heads calls i (j - i)) (n * n) p some (omega arith) ns fo w
-          (λ range. distance n p (pair r o) range there)) [
-            | inl b ↦ rw (← moment-after-steps h heads calls i (j - i), q) at b
-            | inr b ↦ absurd (omega (arith, b, many))
-          ]
+            let q : i + (j - i) ≡ j = omega (arith, l) in
+            let there : InRange n (pair r o) = record { receiver = w .receiver .named; owner = w .owner } in
+            elim (fair-course n v r o (moment-at h heads calls i) (version-at h heads calls i) (between h calls i j) _ (between-course h heads calls i (j - i)) (n * n) p some (omega arith) ns fo w
+            (λ range. distance n p (pair r o) range there)) [
+              | inl b ↦ rw (← moment-after-steps h heads calls i (j - i), q) at b
+              | inr b ↦ absurd (omega (arith, b, many))
+            ]
       ]
 
   pub bounded : (i j : ℕ) → handoverCount (did v (between h calls i j)) ≤ 3136

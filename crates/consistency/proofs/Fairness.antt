@@ -92,12 +92,12 @@ module _ (n v r o : ℕ) where
       elim (steps-wait {n = n} l (st ∷ []) r o (hs .0) wt) [
         | read b ↦ inl (omega (arith, b, places-grow (moved l st) (did v es) r o))
         | waiting k still ↦
-          let some : 0 < c .places = away (c .places) (c .reaches) k in
-          elim (f (d - 1) (omega (arith, some, c .fewer)) (omega (arith, le)) (hs .1) (fo .1) still
-          (λ _. record { places = c .places; some = some; few = omega (arith, c .fewer); reaches = c .reaches })) [
-            | inl b ↦ inl (omega (arith, b, k))
-            | inr b ↦ inr (omega (arith, b))
-          ]
+            let some : 0 < c .places = away (c .places) (c .reaches) k in
+            elim (f (d - 1) (omega (arith, some, c .fewer)) (omega (arith, le)) (hs .1) (fo .1) still
+            (λ _. record { places = c .places; some = some; few = omega (arith, c .fewer); reaches = c .reaches })) [
+              | inl b ↦ inl (omega (arith, b, k))
+              | inr b ↦ inr (omega (arith, b))
+            ]
       ]
     where
       away : (k : ℕ) → after n k q ≡ pair r o → moved l (carried nothingSaid (handover q) (a .names)) .place r o ≡ l .place r o → 0 < k

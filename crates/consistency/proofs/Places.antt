@@ -114,12 +114,12 @@ pub total-bound : {n : ℕ} {t : Table} {l : Ledger} → Recorded n t l → tota
 total-bound {n} {t} {l} p =
     let few : n ≤ seats = rw (← p .size) (p .formed .few) in
     let each : (r o : ℕ) → r < n → o < n → l .place (suc r) (suc o) ≤ capacity
-    = λ r o a b. 
-        let hr : Among n (suc r) = record { low = omega arith; high = a } in
-        let ho : Among n (suc o) = record { low = omega arith; high = b } in
-        let g : Among (t .n) (suc r) = rw (p .size) hr in
-        let k : Among (t .n) (suc o) = rw (p .size) ho in
-        omega (arith, p .places (suc r) (suc o) hr ho, p .formed .controllers (suc r) g .places (suc o) k, p .formed .controllers (suc o) k .log-room) in
+    = λ r o a b.
+    let hr : Among n (suc r) = record { low = omega arith; high = a } in
+    let ho : Among n (suc o) = record { low = omega arith; high = b } in
+    let g : Among (t .n) (suc r) = rw (p .size) hr in
+    let k : Among (t .n) (suc o) = rw (p .size) ho in
+    omega (arith, p .places (suc r) (suc o) hr ho, p .formed .controllers (suc r) g .places (suc o) k, p .formed .controllers (suc o) k .log-room) in
     omega (
       arith,
       sum-bound n (λ i. sum n (λ j. l .place (suc i) (suc j))) (n * capacity) (λ r a. sum-bound n (λ j. l .place (suc r) (suc j)) capacity (λ o b. each r o a b)),

@@ -27,7 +27,7 @@ use Rattle.turns.specs.Claims.{InRange}
 use Rattle.turns.proofs.Dispatching.{Serves, dispatch-case}
 use Rattle.dispatcher.specs.declared.Choice.{Choice}
 use Rattle.dispatcher.specs.declared.Handed.{Handed}
-use Rattle.dispatcher.specs.Dispatching.{choiceOf, handedOf, unchanged, Dispatches}
+use Rattle.dispatcher.specs.Handed.{choiceOf, handedOf, unchanged, Dispatches}
 
 -- no pair is chosen
 abbrev refusing : ℕ → Choice

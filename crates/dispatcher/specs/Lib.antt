@@ -1,1 +1,1 @@
-pub mod Dispatching
+pub mod Handed

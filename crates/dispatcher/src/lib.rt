@@ -3,7 +3,7 @@ ghost use mathlib.Core.Path.{_≡_};
 ghost use Prim.Native.Nat.{_≤_};
 ghost use Rattle.model.specs.Tables.{seats, Among};
 ghost use Rattle.turns.specs.Dispatcher.{pair, following, nextPair};
-ghost use Rattle.dispatcher.specs.Dispatching.{choiceOf, unchanged, Dispatches};
+ghost use Rattle.dispatcher.specs.Handed.{choiceOf, unchanged, Dispatches};
 use model::Controller;
 use model::DispatchAnswer;
 use model::Event;

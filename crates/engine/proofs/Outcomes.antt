@@ -8,7 +8,7 @@ use Rattle.model.specs.declared.Table.{Table}
 use Rattle.model.specs.declared.Answer.{Answer}
 use Rattle.lent.specs.Called.{Called}
 use Rattle.dispatcher.specs.declared.Handed.{Handed}
-use Rattle.dispatcher.specs.Dispatching.{handedOf, Dispatches}
+use Rattle.dispatcher.specs.Handed.{handedOf, Dispatches}
 use Rattle.engine.specs.Called.{Counted, Dispatched}
 
 module _ (t : Table) (s w : List ℕ) where

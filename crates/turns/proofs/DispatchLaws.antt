@@ -91,20 +91,20 @@ module _ (t : Table) (p : Pair) (room : ℕ) (f : wellFormed t ≡ true) (i : In
 
 -- WHERE NO PAIR IS SERVED
 
-module _ (t : Table) (p : Pair) (room : ℕ) where
-  unserved-unchanged : (k : ℕ) → Unchanged t k (unserved t k)
-  unfolding unserved refused scratchServed
-  unserved-unchanged k = record { pair = refl; answer = refl; table = refl; scratch = λ w. refl }
+unserved-unchanged : (t : Table) (k : ℕ) → Unchanged t k (unserved t k)
+unfolding unserved refused scratchServed
+unserved-unchanged t k = record { pair = refl; answer = refl; table = refl; scratch = λ w. refl }
 
+module _ (t : Table) (p : Pair) (room : ℕ) where
   pub dispatch-refused : dispatch t p room .answer .answer .refusal ≢ 0 → Unchanged t (dispatch t p room .answer .answer .refusal) (dispatch t p room)
   unfolding served unserved answering refused
   dispatch-refused =
       dispatch-case t p room (λ (o : DispatchOutcome). o .answer .answer .refusal ≢ 0 → Unchanged t (o .answer .answer .refusal) o)
-      (λ _ n. absurd (n refl)) (λ _ _. unserved-unchanged _)
+      (λ _ n. absurd (n refl)) (λ _ _. unserved-unchanged t _)
 
   pub dispatch-none : saysNone (dispatch t p room .answer) ≡ true → Unchanged t 0 (dispatch t p room)
   unfolding served unserved saysNone refused answering
   dispatch-none =
       dispatch-case t p room (λ (o : DispatchOutcome). saysNone (o .answer) ≡ true → Unchanged t 0 o)
       (λ s e. contradiction (s .some) (not-true _ e))
-      (λ _ e. subst (λ k. Unchanged t 0 (unserved t k)) (sym (eqb-true _ 0 (and-left _ _ e))) (unserved-unchanged 0))
+      (λ _ e. subst (λ k. Unchanged t 0 (unserved t k)) (sym (eqb-true _ 0 (and-left _ _ e))) (unserved-unchanged t 0))

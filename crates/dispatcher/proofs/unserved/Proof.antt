@@ -1,7 +1,7 @@
 -- `unserved` answers no pair and no set, and keeps the table. Assumes nothing.
 use mathlib.Core.Path.{refl}
 use borrow.Author.Needs.{needs}
-use Rattle.dispatcher.specs.Dispatching.{unchanged}
+use Rattle.dispatcher.specs.Handed.{unchanged}
 use Rattle.dispatcher.proofs.unserved.Statement.{statement}
 use Rattle.dispatcher.proofs.unserved.Tie as tie
 

@@ -6,7 +6,7 @@ use Rattle.walks.proofs.StoredTable.{stores}
 use Rattle.engine.proofs.Lendables.{table, dispatch-answer, handed, handed-table, handed-answer}
 use Rattle.engine.proofs.Outcomes.{dispatched}
 use Rattle.turns.specs.Dispatcher.{pair}
-use Rattle.dispatcher.specs.Dispatching.{Dispatches}
+use Rattle.dispatcher.specs.Handed.{Dispatches}
 use Rattle.dispatcher.proofs.dispatch.Symbol as g
 use Rattle.dispatcher.proofs.dispatch.Met as g-thm
 use Rattle.engine.specs.Called.{Dispatched}
