@@ -68,7 +68,7 @@ impl Dispatching {
     }
 
     /// Calls of the dispatcher alone until it says "none", and one more; on the way, some with too little scratch.
-    fn to_none(&mut self, random: &mut Random) {
+    fn drive(&mut self, random: &mut Random) {
         while self.next() {
             if random.one_in(20) {
                 self.odd(random);
@@ -111,7 +111,7 @@ pub fn dispatched(random: &mut Random) -> Case {
         making.chain(random, &policy, calls, among);
     }
     if random.one_in(2) {
-        making.to_none(random);
+        making.drive(random);
         making.looks();
     }
     Case { head: Head::Fresh { version, n }, calls: making.calls }
@@ -134,11 +134,11 @@ pub fn driven(random: &mut Random) -> Case {
         let among = random.pick(&[1, 2, 3, 5]);
         making.stops(random, among);
     }
-    making.to_none(random);
+    making.drive(random);
     making.looks();
     if random.one_in(4) {
         making.stops(random, 2);
-        making.to_none(random);
+        making.drive(random);
     }
     Case { head: Head::Fresh { version, n }, calls: making.calls }
 }
@@ -152,7 +152,7 @@ pub fn after_file(random: &mut Random) -> Case {
     let calls = random.pick(&[3, 20, 60]);
     making.chain(random, &policy, calls, 5);
     if random.one_in(3) {
-        making.to_none(random);
+        making.drive(random);
     }
     Case { head: Head::File { bytes, listing: LISTING, scratch: SCRATCH }, calls: making.calls }
 }
