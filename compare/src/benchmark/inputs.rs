@@ -3,10 +3,11 @@
 
 use crate::cases::records::{file_of, handover, local_read, report, stop, sync, write};
 use crate::edges::long_runs::dense_run;
+use crate::engines::dispatch::{DispatchAnswer, Pair};
 use crate::engines::{Engine, Reference};
 use crate::generate::files::legal_file;
 use crate::generate::random::Random;
-use crate::generate::runs::{drain, follow, legal_run, Policy};
+use crate::generate::runs::{drain, follow, follow_dispatch, legal_run, Policy};
 use crate::generate::tables::chain_place;
 use crate::reference::{run_file, to_table, State, LISTING, MAX_MESSAGES, SCRATCH};
 use furnacejade::{Answer, ForwardNumber, Message, MessageNumber, Name, Payload, Table};
@@ -138,4 +139,31 @@ pub fn applying_write() -> (Table, Vec<u8>) {
     let (answer, _) = state.event(&handover(1, 4), &mut [0; SCRATCH]);
     assert_eq!(answer.set.len(), 1, "the handover applies the write");
     (table, handover(1, 4))
+}
+
+/// A table that was read to its end, with one entry of one log unread again, which is applied already: handing it over
+/// only passes it. No run reaches it. And the pair that waits.
+pub fn waiting_table(read: &Table) -> (Table, Pair) {
+    let (mut t, pair) = (read.clone(), Pair { receiver: 4, owner: 4 });
+    t.controllers[3].read[3] -= 1;
+    let (mut after, mut answer) = (t.clone(), DispatchAnswer::BLANK);
+    Reference.dispatch(&mut after, pair, &mut [0; SCRATCH], &mut answer);
+    assert_eq!((answer.pair, after), (pair, read.clone()), "the table is as described");
+    (t, pair)
+}
+
+/// Seven controllers, of which the first has sent 64 reports, and nothing is handed over; and the handovers by which the
+/// dispatcher alone brings them everywhere, as records.
+pub fn sixty_four_sent() -> (Table, Vec<Vec<u8>>) {
+    let (mut state, mut last, mut records) = (State::fresh(1, 7), Pair { receiver: 7, owner: 7 }, vec![]);
+    (0..MAX_MESSAGES).for_each(|_| assert_eq!(follow(&mut state, &report(1, 1), SCRATCH), 0));
+    let table = to_table(&state);
+    loop {
+        let served = follow_dispatch(&mut state, last, SCRATCH);
+        if served == Pair::BLANK {
+            return (table, records);
+        }
+        records.push(handover(served.receiver, served.owner));
+        last = served;
+    }
 }

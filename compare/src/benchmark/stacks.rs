@@ -3,10 +3,11 @@
 
 use super::inputs::{
     applying_write, dense_files, file_of_reads, last_table, last_two, of_sixty_four, pending_table, run_table,
-    with_writes,
+    waiting_table, with_writes,
 };
 use crate::cases::records::{classed_report, file_of, handover, local_read, report, stop, sync, write};
 use crate::edges::long_runs::{by_log, in_a_circle, under_way_run};
+use crate::engines::dispatch::{dispatch, DispatchAnswer, Pair};
 use crate::engines::stack::needed;
 use crate::reference::{to_table, State, LISTING, MAX_MESSAGES, SCRATCH};
 use furnacejade::{calls, Answer, CountAnswer, FreshAnswer, LookAnswer, Name, RunAnswer, Table};
@@ -16,6 +17,18 @@ fn event_stack(table: &Table, bytes: &[u8]) -> usize {
     needed(|| {
         calls::event(&mut t, bytes, &mut scratch, &mut answer);
     })
+}
+
+/// The dispatcher on a table, with any pair named and with too little scratch.
+fn dispatch_stack(table: &Table) -> usize {
+    let mut answer = DispatchAnswer::BLANK;
+    let named = [(0, 0), (1, 1), (1, 2), (1, 3), (3, 3), (7, 7), (4, 4)].map(Pair::from);
+    let calls = named.into_iter().flat_map(|pair| [63, SCRATCH].map(|length| (pair, length)));
+    let stacks = calls.map(|(pair, length)| {
+        let (mut t, mut scratch) = (table.clone(), vec![0xA5; length]);
+        needed(|| dispatch(&mut t, pair, &mut scratch, &mut answer))
+    });
+    stacks.max().unwrap_or(0)
 }
 
 fn look_stack(table: &Table) -> usize {
@@ -56,10 +69,12 @@ pub fn print() {
     tables.extend([of_sixty_four(&under_way[0], 1).0, of_sixty_four(&under_way[1], MAX_MESSAGES).0]);
     tables.extend([1, MAX_MESSAGES - 1, MAX_MESSAGES].map(|messages| to_table(&with_writes(messages).0)));
     tables.push(applying_write().0);
+    tables.push(waiting_table(&last_table(&running)).0);
     let mut records = vec![vec![], report(1, 5), report(1, 0), classed_report(1, 5, 4), classed_report(1, 5, 5)];
     records.extend([sync(1), handover(1, 2), handover(2, 1), stop(1, 64), stop(9, 0), local_read(1), local_read(9)]);
     records.extend([handover(1, 4), write(1, 1, 1500), write(1, 9, 1500), write(9, 1, 1500)]);
     let events = tables.iter().flat_map(|t| records.iter().map(|record| event_stack(t, record))).max();
+    let dispatches = tables.iter().map(dispatch_stack).max();
     let looks = tables.iter().map(look_stack).max();
     let counts = tables.iter().map(count_stack).max();
     let mut files = vec![dense, running, dense_2, running_2, run_table(3).1, vec![1], vec![3, 3], vec![1, 9]];
@@ -68,7 +83,8 @@ pub fn print() {
     let runs = files.iter().map(|file| run_stack(file)).max();
     println!("\nbytes of stack that a call of the library needs, the most of what was tried");
     let fresh = Some(fresh_stack());
-    for (name, most) in [("event", events), ("look", looks), ("count", counts), ("fresh", fresh), ("run", runs)] {
+    let calls = [("event", events), ("dispatch", dispatches), ("look", looks), ("count", counts)];
+    for (name, most) in calls.into_iter().chain([("fresh", fresh), ("run", runs)]) {
         println!("{name:<56} {:>12}", most.unwrap_or(0));
     }
 }

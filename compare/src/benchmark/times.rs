@@ -5,6 +5,7 @@ use super::inputs::*;
 use crate::cases::records::{classed_report, file_of, handover, local_read, report, stop, write};
 use crate::cases::Asked;
 use crate::edges::long_runs::{by_log, in_a_circle, under_way_run};
+use crate::engines::dispatch::{DispatchAnswer, Pair};
 use crate::engines::library::Library;
 use crate::engines::{Engine, Reference};
 use crate::generate::random::Random;
@@ -36,6 +37,41 @@ fn event(engine: &dyn Engine, table: &Table, bytes: &[u8]) -> f64 {
         let mut t = table.clone();
         timed(|| engine.event(&mut t, bytes, &mut scratch, &mut answer))
     })
+}
+
+/// A call of the dispatcher.
+fn dispatch(engine: &dyn Engine, table: &Table, named: Pair) -> f64 {
+    let (mut scratch, mut answer) = (vec![0xA5; SCRATCH], DispatchAnswer::BLANK);
+    mean(|| {
+        scratch.fill(0xA5);
+        let mut t = table.clone();
+        timed(|| engine.dispatch(&mut t, named, &mut scratch, &mut answer))
+    })
+}
+
+/// The nanoseconds for each handover of the dispatcher alone, from a table to "none".
+fn driven(engine: &dyn Engine, table: &Table) -> f64 {
+    let (mut scratch, mut answer) = (vec![0xA5; SCRATCH], DispatchAnswer::BLANK);
+    let (mut t, mut last, mut handovers) = (table.clone(), Pair { receiver: table.n, owner: table.n }, 0);
+    let time = timed(|| loop {
+        engine.dispatch(&mut t, last, &mut scratch, &mut answer);
+        if answer.pair == Pair::BLANK {
+            break;
+        }
+        (last, handovers) = (answer.pair, handovers + 1);
+    });
+    time.as_nanos() as f64 / handovers as f64
+}
+
+/// The nanoseconds for each of these events, one by one, from a table on.
+fn events(engine: &dyn Engine, table: &Table, records: &[Vec<u8>]) -> f64 {
+    let (mut t, mut scratch, mut answer) = (table.clone(), vec![0xA5; SCRATCH], Answer::BLANK);
+    let time = timed(|| {
+        for record in records {
+            engine.event(&mut t, record, &mut scratch, &mut answer);
+        }
+    });
+    time.as_nanos() as f64 / records.len() as f64
 }
 
 /// A count of "goes before" of two messages at a controller.
@@ -151,6 +187,22 @@ fn rows_with_registers() {
     row("n = 7: 32 syncs and 32 writes, 3,200 events, each", |e| runs(e, std::slice::from_ref(&file)));
 }
 
+/// The dispatcher beside the event call: "none"; a handover that is the next, and one for which the round goes through
+/// all pairs; and the densest run that it drives to "none", with the same handovers as events.
+fn rows_of_dispatcher() {
+    let full = last_table(&dense_files(1).1);
+    row("n = 7: dispatcher says none, full table", |e| dispatch(e, &full, Pair { receiver: 7, owner: 7 }));
+    let (one, pair) = waiting_table(&full);
+    let before = Pair { receiver: pair.receiver, owner: pair.owner - 1 };
+    row("n = 7: dispatcher, next pair, full table", |e| dispatch(e, &one, before));
+    row("n = 7: dispatcher, last of 49 pairs, full table", |e| dispatch(e, &one, pair));
+    let record = handover(pair.receiver, pair.owner);
+    row("n = 7: the same handover as an event", |e| event(e, &one, &record));
+    let (sent, handovers) = sixty_four_sent();
+    row("n = 7: 64 reports, dispatcher to none, each of 3,136", |e| driven(e, &sent));
+    row("n = 7: the same handovers as single events, each", |e| events(e, &sent, &handovers));
+}
+
 pub fn print() {
     println!(
         "nanoseconds for each call, the least of {ROUNDS} means of {CALLS}; scratch is dirty before each single call,
@@ -176,4 +228,5 @@ and a file run gets scratch and listing as the run before left them"
     rows_with_classes();
     rows_under_way();
     rows_with_registers();
+    rows_of_dispatcher();
 }

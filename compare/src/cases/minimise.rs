@@ -3,6 +3,7 @@
 
 use super::fields::plain_table;
 use super::{Asked, Call, Case, Head};
+use crate::engines::dispatch::Pair;
 use furnacejade::{Name, Table};
 
 /// A case that fails, and what it means to fail.
@@ -130,6 +131,10 @@ fn without_controller(call: &Call, gone: u8) -> Option<Call> {
         Call::CountBefore(Asked { controller, first, second }) => {
             let of = |name: &Name| Some(Name { sender: moved(name.sender as usize)? as u8, ..*name });
             Some(Call::CountBefore(Asked { controller: moved(*controller)?, first: of(first)?, second: of(second)? }))
+        }
+        Call::Dispatch { named: Pair { receiver, owner }, scratch } => {
+            let named = Pair { receiver: moved(*receiver)?, owner: moved(*owner)? };
+            Some(Call::Dispatch { named, scratch: *scratch })
         }
         Call::Event { bytes, scratch } => {
             let mut bytes = bytes.clone();

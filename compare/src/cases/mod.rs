@@ -7,6 +7,7 @@ pub mod minimise;
 pub mod records;
 pub mod text;
 
+use crate::engines::dispatch::Pair;
 use crate::reference::{LISTING, SCRATCH};
 use furnacejade::{MessageNumber, Name, Table};
 
@@ -22,6 +23,7 @@ pub enum Call {
     Event { bytes: Vec<u8>, scratch: usize },
     Look(usize),
     CountBefore(Asked),
+    Dispatch { named: Pair, scratch: usize },
 }
 
 impl Call {

@@ -3,10 +3,12 @@
 //! The text is one line for the head and one for each call; below the head `table` stands a line for each field that is
 //! not as in a fresh table of version 1, and a head `fresh` names its version if that is not 1. Bytes are hexadecimal;
 //! `(00*512)` stands for 512 bytes 00, and `(020501*90)` for 90 times these three. Lent memory is given by its length;
-//! what it holds at first is the same dirt in every case. `before 3 3.1 1.1` asks how many put 3.1 before 1.1 at 3.
+//! what it holds at first is the same dirt in every case. `before 3 3.1 1.1` asks how many put 3.1 before 1.1 at 3, and
+//! `dispatch 2 1 scratch 4096` calls the dispatcher, which is told that it served receiver 2 and owner 1 last.
 
 use super::fields::{plain_table, set_field, table_text};
 use super::{Asked, Call, Case, Head};
+use crate::engines::dispatch::Pair;
 
 /// The length of the part that these bytes begin with eight times or more in a row, and how often they do. The part is
 /// no longer than a record.
@@ -67,6 +69,9 @@ impl Case {
                 Call::CountBefore(Asked { controller, first, second }) => {
                     format!("before {controller} {first} {second}\n")
                 }
+                Call::Dispatch { named: Pair { receiver, owner }, scratch } => {
+                    format!("dispatch {receiver} {owner} scratch {scratch}\n")
+                }
             };
         }
         text
@@ -94,6 +99,10 @@ impl Case {
             ("before", _) => {
                 let [first, second] = [2, 3].map(|place: usize| words[place].parse().expect("sender.number"));
                 self.calls.push(Call::CountBefore(Asked { controller: number(1), first, second }));
+            }
+            ("dispatch", _) => {
+                let named = Pair { receiver: number(1), owner: number(2) };
+                self.calls.push(Call::Dispatch { named, scratch: number(4) });
             }
             (_, Head::Table(t)) => set_field(t, line),
             (other, _) => panic!("no head or call: {other}"),

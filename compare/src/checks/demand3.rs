@@ -2,11 +2,15 @@
 //! and shares nothing with the reference. Of counts of "goes before" demand 3 says nothing: they move nothing, and are
 //! worked out anew from the logs of the list.
 
+use super::dispatched::{Dispatched, Waiting};
 use super::never_stale::{NeverStale, Own, Shown};
 use std::collections::{BTreeMap, BTreeSet};
 
 /// A message: sender, number.
 pub type Name = (usize, usize);
+
+/// A handover: receiver, log owner.
+pub type Pair = (usize, usize);
 
 /// Two sums: of the amounts above 0, and of those below 0 with the sign dropped.
 pub type Sums = (usize, usize);
@@ -80,6 +84,7 @@ pub struct Ledger {
     /// The eight registers that any controller held at any moment, each once.
     snapshots: BTreeSet<[Register; 8]>,
     pub readings: NeverStale,
+    pub dispatched: Dispatched,
     broken: Option<String>,
 }
 
@@ -97,6 +102,7 @@ impl Ledger {
             moments: BTreeSet::from([vec![]]),
             snapshots: BTreeSet::from([[((0, 0), 0); 8]]),
             readings: NeverStale::new(n),
+            dispatched: Dispatched::new(n),
             broken: None,
         }
     }
@@ -104,6 +110,12 @@ impl Ledger {
     /// What is wrong with the list so far, if anything.
     pub fn broken(&self) -> Option<&str> {
         self.broken.as_deref()
+    }
+
+    /// Says at which call of the list it broke.
+    pub fn name_place(&mut self, call: usize) {
+        let place = if call == 0 { "before call 1".into() } else { format!("at call {call}") };
+        self.broken = self.broken.take().map(|text| format!("{text}; {place} of the list"));
     }
 
     fn expect(&mut self, holds: bool, what: impl FnOnce() -> String) {
@@ -148,6 +160,41 @@ impl Ledger {
         }
         self.expect(bytes[1] == 3 || set.is_empty(), || "a set without a handover".into());
         self.ending();
+    }
+
+    /// A call of the dispatcher: the pair that it names, whether it is lent enough scratch, and its answer. Pair 0, 0 is
+    /// "none". What it serves is a handover as any other.
+    pub fn dispatch(&mut self, named: Pair, enough: bool, number: u8, pair: Pair, set: &[Name], figures: Figures) {
+        let plain = pair == (0, 0) && set.is_empty() && (figures.finished, figures.sums) == (0, (0, 0));
+        if number != 0 {
+            self.expect(plain, || "a refused call of the dispatcher answers something".into());
+            let refused = self.dispatched.refused(named, enough, number);
+            return self.expect_right(refused);
+        }
+        if pair == (0, 0) {
+            self.expect(plain, || "none is answered with something".into());
+            let waiting = self.waiting();
+            let end = self.dispatched.none(&waiting);
+            self.expect_right(end);
+            return self.ending();
+        }
+        if ![pair.0, pair.1].iter().all(|c| (1..=self.n).contains(c)) {
+            return self.expect(false, || format!("the dispatcher serves {pair:?}"));
+        }
+        self.dispatched.before(named, self.waiting());
+        self.handover(pair.0, pair.1, set, Some(figures));
+        let fair = self.dispatched.after(pair, |(r, o)| self.places[r - 1][o - 1]);
+        self.expect_right(fair);
+        self.ending();
+    }
+
+    /// Every entry that is next for a receiver that runs.
+    fn waiting(&self) -> Vec<Waiting> {
+        let running = (1..=self.n).filter(|r| self.running[r - 1]);
+        let next = |r: usize, o: usize| {
+            (self.places[r - 1][o - 1] < self.logs[o - 1].len()).then(|| self.places[r - 1][o - 1])
+        };
+        running.flat_map(|r| (1..=self.n).filter_map(move |o| Some(((r, o), next(r, o)?)))).collect()
     }
 
     fn send(&mut self, c: usize, content: Content) {
@@ -199,6 +246,8 @@ impl Ledger {
             return self.expect(false, || format!("an accepted handover to {r} reads past the end of log {o}"));
         };
         self.places[r - 1][o - 1] += 1;
+        let bounded = self.dispatched.handover();
+        self.expect_right(bounded);
         if !self.logs[r - 1].contains(&name) {
             self.logs[r - 1].push(name);
         }
@@ -290,6 +339,7 @@ impl Ledger {
 
     fn stop(&mut self, c: usize, kept: usize) {
         self.running[c - 1] = false;
+        self.dispatched.stop();
         let log = &mut self.logs[c - 1];
         let gone = log.split_off(kept.min(log.len()));
         self.cut_off.extend(gone.into_iter().filter(|name| name.0 == c));

@@ -1,9 +1,10 @@
 //! Runs one case through two engines, and finds the first difference: in an answer, in lent memory and its guards, or
 //! in what the tables mean.
 
-use super::counts;
-use super::side::{register, set, Lent, Side};
+use super::side::{numbers, register, set, Lent, Side};
+use super::{counts, served};
 use crate::cases::{asked_in, Asked, Call, Case, Head};
+use crate::engines::dispatch::Pair;
 use crate::engines::Engine;
 use crate::reference::calls::LOCAL_READ;
 use crate::reference::{meaning, well_formed};
@@ -71,6 +72,22 @@ fn event(a: &mut Side, b: &mut Side, bytes: &[u8], scratch: usize) -> Result<(),
     differ_plain("event: table", same_table(&a.table, &b.table))
 }
 
+/// One call of the dispatcher on both sides. What it serves is the handover of the event call, byte by byte; where it
+/// serves nothing, every byte that was lent stays.
+fn dispatch(a: &mut Side, b: &mut Side, named: Pair, scratch: usize) -> Result<(), String> {
+    let before = b.table.clone();
+    let (right, found) = (a.dispatch(named, scratch), b.dispatch(named, scratch));
+    differ("dispatch: refusal", right.answer.answer.refusal, found.answer.answer.refusal)?;
+    differ("dispatch: pair", numbers(right.answer.pair), numbers(found.answer.pair))?;
+    served::laws(b.engine, before, scratch, &found, &b.table)?;
+    differ("dispatch: set", set(&right.answer.answer), set(&found.answer.answer))?;
+    differ("dispatch: finished", right.answer.answer.finished, found.answer.answer.finished)?;
+    differ("dispatch: sums", right.answer.answer.sums, found.answer.answer.sums)?;
+    differ_plain("dispatch: answer", right.answer == found.answer)?;
+    differ_plain("dispatch: scratch", right.scratch == found.scratch)?;
+    differ_plain("dispatch: table", same_table(&a.table, &b.table))
+}
+
 fn look(a: &Side, b: &Side, c: usize) -> Result<(), String> {
     let before = b.table.clone();
     let (right, found) = (a.engine.look(&a.table, c), b.engine.look(&b.table, c));
@@ -129,6 +146,7 @@ pub fn difference(case: &Case, a: &dyn Engine, b: &dyn Engine) -> Result<(), Str
             Call::Event { bytes, scratch } => event(&mut a, &mut b, bytes, *scratch)?,
             Call::Look(c) => look(&a, &b, *c)?,
             Call::CountBefore(_) => counts(&mut a, &mut b, &asked_in(calls))?,
+            Call::Dispatch { named, scratch } => dispatch(&mut a, &mut b, *named, *scratch)?,
         }
     }
     Ok(())

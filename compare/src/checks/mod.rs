@@ -4,8 +4,10 @@
 pub mod counts;
 pub mod demand3;
 mod difference;
+pub mod dispatched;
 pub mod never_stale;
 pub mod replay;
+mod served;
 pub mod side;
 pub mod subsets;
 

@@ -2,9 +2,10 @@
 //! and local reads are added.
 
 use super::demand3::{Figures, Ledger};
-use super::side::{register, set, sums, Lent, Side};
+use super::side::{numbers, register, set, sums, Lent, Side};
 use crate::cases::records::local_read;
 use crate::cases::{Call, Case, Head};
+use crate::engines::dispatch::DispatchAnswer;
 use crate::engines::Engine;
 use crate::reference::SCRATCH;
 use furnacejade::{LookAnswer, RefusalNumber, Table};
@@ -51,6 +52,7 @@ pub fn ledger_of(case: &Case, engine: &dyn Engine) -> Option<Ledger> {
             ledger.ending_read(c, answer.refusal.0, sums(answer.sums));
         }
         if ledger.broken().is_some() {
+            ledger.name_place(step);
             break;
         }
         match case.calls.get(step) {
@@ -64,6 +66,12 @@ pub fn ledger_of(case: &Case, engine: &dyn Engine) -> Option<Ledger> {
                 let answer = &engine.counts_before(&mut side.table, &[*asked])[0];
                 let names = [asked.first, asked.second].map(|x| (x.sender as usize, x.number.0 as usize));
                 ledger.count(asked.controller, names, answer.refusal.0, answer.count);
+            }
+            Some(Call::Dispatch { named, scratch }) => {
+                let DispatchAnswer { pair, answer } = side.dispatch(*named, *scratch).answer;
+                let figures = Figures { finished: answer.finished, sums: sums(answer.sums) };
+                let (named, enough) = (numbers(*named), *scratch >= SCRATCH);
+                ledger.dispatch(named, enough, answer.refusal.0, numbers(pair), &set(&answer), figures);
             }
             None => {}
         }

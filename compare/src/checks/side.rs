@@ -2,6 +2,7 @@
 //! answers in plain numbers.
 
 use super::demand3;
+use crate::engines::dispatch::{DispatchAnswer, Pair};
 use crate::engines::library::DIRTY_SUMS;
 use crate::engines::Engine;
 use furnacejade::{Answer, MessageNumber, Name, RefusalNumber, Register, Sums, Table};
@@ -42,17 +43,37 @@ pub struct EventLeft {
     pub scratch: Vec<u8>,
 }
 
+/// What a call of the dispatcher leaves but for the table.
+pub struct DispatchLeft {
+    pub answer: DispatchAnswer,
+    pub scratch: Vec<u8>,
+}
+
+/// Numbers that no pair has.
+const DIRTY_PAIR: Pair = Pair { receiver: 0xA5A5_A5A5, owner: 0xA5A5_A5A5 };
+
 impl Side<'_> {
     pub fn event(&mut self, bytes: &[u8], scratch: usize) -> EventLeft {
         let (mut scratch, mut answer) = (Lent::new(scratch), dirty_answer());
         let bytes = self.engine.event(&mut self.table, bytes, scratch.lent(), &mut answer);
         EventLeft { answer, bytes, scratch: scratch.memory }
     }
+
+    pub fn dispatch(&mut self, named: Pair, scratch: usize) -> DispatchLeft {
+        let (mut scratch, mut answer) =
+            (Lent::new(scratch), DispatchAnswer { pair: DIRTY_PAIR, answer: dirty_answer() });
+        self.engine.dispatch(&mut self.table, named, scratch.lent(), &mut answer);
+        DispatchLeft { answer, scratch: scratch.memory }
+    }
 }
 
 /// The names of the set, however wrong its size is.
 pub fn set(answer: &Answer) -> Vec<demand3::Name> {
     answer.names[..answer.size.min(64)].iter().map(|x| (x.sender as usize, x.number.0 as usize)).collect()
+}
+
+pub fn numbers(pair: Pair) -> demand3::Pair {
+    (pair.receiver, pair.owner)
 }
 
 pub fn sums(sums: Sums) -> demand3::Sums {

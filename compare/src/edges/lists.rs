@@ -5,8 +5,9 @@ use super::script::{expect, Script};
 use crate::cases::records::{classed_report, file_of, handover, local_read, report, stop, sync, write};
 use crate::cases::text::head_of;
 use crate::cases::Head;
-use crate::checks::demand3::{Figures, Ledger, Name, Register, Sums};
+use crate::checks::demand3::{Figures, Ledger, Name, Pair, Register, Sums};
 use crate::checks::side;
+use crate::engines::dispatch::DispatchAnswer;
 use crate::engines::Engine;
 use crate::reference::{LISTING, SCRATCH};
 use furnacejade::LookAnswer;
@@ -25,6 +26,18 @@ struct List {
 enum Said {
     Event { record: Vec<u8>, set: Vec<Name>, finished: u8, sums: Sums },
     Look { c: usize, shown: Box<Shown> },
+    Dispatch(Dispatch),
+}
+
+/// A call of the dispatcher. Pair 0, 0 is "none", or refused.
+struct Dispatch {
+    named: Pair,
+    scratch: usize,
+    number: u8,
+    pair: Pair,
+    set: Vec<Name>,
+    finished: u8,
+    sums: Sums,
 }
 
 struct Shown {
@@ -67,6 +80,19 @@ fn look_in(version: usize, c: usize, answer: &str) -> Said {
     Said::Look { c, shown: Box::new(Shown { sums, classes, registers }) }
 }
 
+fn dispatch_in(named: &[i64], answer: &str) -> Said {
+    let (served, answer) = answer.split_once(':').unwrap_or((answer, ""));
+    let (number, pair) = match numbers(served)[..] {
+        [receiver, owner] => (0, (receiver as usize, owner as usize)),
+        [number] => (number as u8, (0, 0)),
+        _ => (0, (0, 0)),
+    };
+    let scratch = named.get(2).map_or(SCRATCH, |length| *length as usize);
+    let (finished, sums) = (answer.contains("finished") as u8, sums_in(answer));
+    let named = (named[0] as usize, named[1] as usize);
+    Said::Dispatch(Dispatch { named, scratch, number, pair, set: names_in(answer), finished, sums })
+}
+
 fn said(version: usize, line: &str) -> Said {
     let (call, answer) = line.split_once(':').unwrap_or((line, ""));
     let (word, of) = (call.split_whitespace().next().unwrap_or_default(), numbers(call));
@@ -79,6 +105,7 @@ fn said(version: usize, line: &str) -> Said {
         ("stop", [kept]) => stop(c, *kept as usize),
         ("read", []) => local_read(c),
         ("look", []) => return look_in(version, c, answer),
+        ("dispatch", _) => return dispatch_in(&of, answer),
         (_, [owner]) if call.contains(" from ") => handover(c, *owner as usize),
         _ => panic!("no call: {line}"),
     };
@@ -91,16 +118,20 @@ fn figures(set: &[Name], finished: u8, sums: Sums) -> Figures {
     Figures { finished, sums: if set.is_empty() || finished == 1 { sums } else { (0, 0) } }
 }
 
-/// The events of a list as records, and their listing; looks are left out.
+/// The events of a list as records, and their listing; looks are left out. A handover of the dispatcher is a handover.
 fn records_and_listing(calls: &[Said]) -> (Vec<Vec<u8>>, String) {
-    let (mut records, mut listing) = (vec![], String::new());
+    let (mut records, mut listing): (Vec<Vec<u8>>, String) = (vec![], String::new());
     for call in calls {
-        let Said::Event { record, set, sums, .. } = call else { continue };
-        records.push(record.clone());
+        let (record, set, sums) = match call {
+            Said::Event { record, set, sums, .. } => (record.clone(), set, sums),
+            Said::Dispatch(Dispatch { pair, set, sums, .. }) if pair.0 > 0 => (handover(pair.0, pair.1), set, sums),
+            Said::Dispatch(_) | Said::Look { .. } => continue,
+        };
         if !set.is_empty() {
             let names: String = set.iter().map(|(sender, number)| format!(" {sender}.{number}")).collect();
-            listing += &format!("{} {} {} {}{names}\n", records.len(), record[2], sums.0, sums.1);
+            listing += &format!("{} {} {} {}{names}\n", records.len() + 1, record[2], sums.0, sums.1);
         }
+        records.push(record);
     }
     (records, listing)
 }
@@ -142,6 +173,10 @@ impl List {
                     ledger.event(record, 0, set, Some(figures(set, *finished, *sums)));
                 }
                 Said::Look { c, shown } => ledger.look(*c, 0, shown.sums, shown.classes, shown.registers),
+                Said::Dispatch(Dispatch { named, scratch, number, pair, set, finished, sums }) => {
+                    let figures = figures(set, *finished, *sums);
+                    ledger.dispatch(*named, *scratch >= SCRATCH, *number, *pair, set, figures);
+                }
             }
         }
         ledger.broken().map(String::from)
@@ -174,13 +209,19 @@ impl List {
     }
 }
 
-/// Whether a call is accepted and answers this.
+/// Whether a call answers this; but for the dispatcher's, all are accepted.
 fn gives(script: &mut Script, call: &Said) -> bool {
     match call {
         Said::Event { record, set, finished, sums } => {
             let (answer, right) = (script.answer(record, SCRATCH), figures(set, *finished, *sums));
             let found = (answer.refusal.0, side::set(&answer), answer.finished, side::sums(answer.sums));
             found == (0, set.clone(), right.finished, right.sums)
+        }
+        Said::Dispatch(said) => {
+            let DispatchAnswer { pair, answer } = script.dispatch(said.named, said.scratch);
+            let right = figures(&said.set, said.finished, said.sums);
+            let found = (answer.refusal.0, side::numbers(pair), side::set(&answer), answer.finished);
+            found == (said.number, said.pair, said.set.clone(), right.finished) && side::sums(answer.sums) == right.sums
         }
         Said::Look { c, shown } => {
             let LookAnswer { refusal, panel } = script.engine.look(&script.table, *c);

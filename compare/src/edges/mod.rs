@@ -3,6 +3,7 @@
 
 mod classes;
 mod counts;
+mod dispatcher;
 mod files;
 mod lists;
 mod local_reads;
@@ -25,5 +26,6 @@ pub fn check(engine: &dyn Engine) -> Result<(), String> {
     writes::check(engine)?;
     lists::check(engine)?;
     counts::check(engine)?;
+    dispatcher::check(engine)?;
     long_runs::check(engine)
 }

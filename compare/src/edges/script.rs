@@ -2,6 +2,7 @@
 //! expects.
 
 use crate::cases::records::handover;
+use crate::engines::dispatch::DispatchAnswer;
 use crate::engines::Engine;
 use crate::reference::SCRATCH;
 use furnacejade::{Answer, Panel, Sums, Table};
@@ -20,6 +21,13 @@ impl Script<'_> {
     pub fn answer(&mut self, bytes: &[u8], scratch: usize) -> Answer {
         let mut answer = Answer::BLANK;
         self.engine.event(&mut self.table, bytes, &mut vec![1; scratch], &mut answer);
+        answer
+    }
+
+    /// A call of the dispatcher that names a receiver and an owner.
+    pub fn dispatch(&mut self, named: (usize, usize), scratch: usize) -> DispatchAnswer {
+        let mut answer = DispatchAnswer::BLANK;
+        self.engine.dispatch(&mut self.table, named.into(), &mut vec![1; scratch], &mut answer);
         answer
     }
 

@@ -1,6 +1,7 @@
 //! The faults of the folder `faults`. The build script has planted them all in a copy of the reference, where they
 //! sleep: one at a time can be woken.
 
+use super::dispatch::{DispatchAnswer, Pair};
 use super::Engine;
 use crate::cases::Asked;
 use furnacejade::{Answer, CountAnswer, FreshAnswer, LookAnswer, RunAnswer, Table};
@@ -24,6 +25,9 @@ pub fn planted(fault: usize) -> bool {
     AWAKE.load(Ordering::Relaxed) == fault
 }
 
+/// A number that a fault may keep from one call to the next, as no right call does.
+pub static KEPT: AtomicUsize = AtomicUsize::new(0);
+
 /// The copy of the reference.
 #[allow(dead_code, unused_imports, unused_parens, clippy::all)]
 mod copy {
@@ -37,6 +41,10 @@ impl Engine for Faulty {
     fn event(&self, t: &mut Table, bytes: &[u8], scratch: &mut [u8], answer: &mut Answer) -> usize {
         wake(self.0);
         copy::calls::event(t, bytes, scratch, answer)
+    }
+    fn dispatch(&self, t: &mut Table, named: Pair, scratch: &mut [u8], answer: &mut DispatchAnswer) {
+        wake(self.0);
+        copy::calls::dispatch(t, named, scratch, answer)
     }
     fn look(&self, t: &Table, c: usize) -> LookAnswer {
         wake(self.0);

@@ -1,6 +1,7 @@
 //! The library through its Rust package. Its places for answers are dirty before each call, and each call can be made
 //! twice, the second time on a stack that held something else.
 
+use super::dispatch::{dispatch, DispatchAnswer, Pair};
 use super::stack::on_painted;
 use super::Engine;
 use crate::cases::Asked;
@@ -51,6 +52,15 @@ impl Library {
         left
     }
 
+    fn dispatch_again(&self, t: &mut Table, named: Pair, scratch: &mut [u8], answer: &mut DispatchAnswer) {
+        let (mut table, mut area, mut again) = (t.clone(), scratch.to_vec(), answer.clone());
+        on_painted(PAINTS[0], || dispatch(t, named, scratch, answer));
+        on_painted(PAINTS[1], || dispatch(&mut table, named, &mut area, &mut again));
+        assert!(*answer == again, "two equal calls of the dispatcher answer differently");
+        let same = t.as_bytes() == table.as_bytes() && scratch == area;
+        assert!(same, "two equal calls of the dispatcher leave other bytes");
+    }
+
     fn count_before(&self, t: &Table, Asked { controller, first, second }: Asked) -> CountAnswer {
         let mut answer = CountAnswer { refusal: RefusalNumber(0xA5), count: DIRTY_COUNT };
         calls::count_before(t, controller, &first, &second, &mut answer);
@@ -79,6 +89,12 @@ impl Engine for Library {
         match self.twice {
             true => self.event_again(t, bytes, scratch, answer),
             false => calls::event(t, bytes, scratch, answer),
+        }
+    }
+    fn dispatch(&self, t: &mut Table, named: Pair, scratch: &mut [u8], answer: &mut DispatchAnswer) {
+        match self.twice {
+            true => self.dispatch_again(t, named, scratch, answer),
+            false => dispatch(t, named, scratch, answer),
         }
     }
     fn look(&self, t: &Table, c: usize) -> LookAnswer {

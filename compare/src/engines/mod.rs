@@ -1,17 +1,20 @@
 //! What is compared: the calls as a trait, and the reference as an engine. The library and the reference with a fault
 //! have files of their own.
 
+pub mod dispatch;
 pub mod faults;
 pub mod library;
 pub mod stack;
 
 use crate::cases::Asked;
 use crate::reference::calls;
+use dispatch::{DispatchAnswer, Pair};
 use furnacejade::{Answer, CountAnswer, FreshAnswer, LookAnswer, RunAnswer, Table};
 
 pub trait Engine {
     /// Answers how many bytes are left.
     fn event(&self, t: &mut Table, bytes: &[u8], scratch: &mut [u8], answer: &mut Answer) -> usize;
+    fn dispatch(&self, t: &mut Table, named: Pair, scratch: &mut [u8], answer: &mut DispatchAnswer);
     fn look(&self, t: &Table, c: usize) -> LookAnswer;
     /// Each is a call of its own. The table may be written to here, so that an engine that does so is found.
     fn counts_before(&self, t: &mut Table, asked: &[Asked]) -> Vec<CountAnswer>;
@@ -24,6 +27,9 @@ pub struct Reference;
 impl Engine for Reference {
     fn event(&self, t: &mut Table, bytes: &[u8], scratch: &mut [u8], answer: &mut Answer) -> usize {
         calls::event(t, bytes, scratch, answer)
+    }
+    fn dispatch(&self, t: &mut Table, named: Pair, scratch: &mut [u8], answer: &mut DispatchAnswer) {
+        calls::dispatch(t, named, scratch, answer)
     }
     fn look(&self, t: &Table, c: usize) -> LookAnswer {
         calls::look(t, c)

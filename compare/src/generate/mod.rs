@@ -2,6 +2,7 @@
 //! are made of.
 
 mod broken_tables;
+mod dispatched;
 pub mod files;
 mod lists;
 mod odd;
@@ -12,6 +13,7 @@ pub mod tables;
 
 use crate::cases::Case;
 use broken_tables::table_broken;
+use dispatched::{after_file, dispatched, driven, on_table};
 use files::{file_limits, file_long, file_mangled, file_questions};
 use lists::{boundaries, cut_off, drained, fresh_any, full, list, readings, rivals, set_points, under_way};
 use random::Random;
@@ -20,7 +22,7 @@ use tables::{table_flipped, table_good, table_random};
 /// A kind of case: its name, and how to make one.
 pub type CaseKind = (&'static str, fn(&mut Random) -> Case);
 
-pub const KINDS: [CaseKind; 23] = [
+pub const KINDS: [CaseKind; 26] = [
     ("list", list),
     ("table", table_good),
     ("broken table", table_broken),
@@ -44,6 +46,9 @@ pub const KINDS: [CaseKind; 23] = [
     ("list", list),
     ("table", table_good),
     ("random table", table_random),
+    ("dispatched list", dispatched),
+    ("dispatched table", on_table),
+    ("driven to none", |random| if random.one_in(3) { after_file(random) } else { driven(random) }),
 ];
 
 /// Case `index` of a seed: each has a generator of its own, so that one case can be made again alone.

@@ -2,15 +2,16 @@
 //! and calls of any kind in a row.
 
 use super::random::Random;
-use super::runs::{any_value, follow, highest_read, legal_event, with_none_pending, Policy};
+use super::runs::{any_value, follow, follow_dispatch, highest_read, legal_event, with_none_pending, Policy};
 use crate::cases::records::{classed_report, handover, local_read, report, stop, sync, write};
 use crate::cases::{name, Asked, Call};
+use crate::engines::dispatch::Pair;
 use crate::reference::{State, SCRATCH};
 use furnacejade::Name;
 
 pub fn any_scratch(random: &mut Random) -> usize {
     match random.below(12) {
-        0 => random.pick(&[0, 1, 64, 4094, 4095]),
+        0 => random.pick(&[0, 1, 63, 64, 4094, 4095]),
         1 => random.pick(&[4095, 4097, 4098, 5000, 8192]),
         _ => SCRATCH,
     }
@@ -135,11 +136,37 @@ pub fn any_asked(random: &mut Random, state: &State) -> Asked {
     Asked { controller, first, second: any_name(random, state, controller) }
 }
 
+/// Any two numbers for a call of the dispatcher; half of the time those of a pair.
+pub fn any_pair(random: &mut Random, n: usize) -> Pair {
+    match random.below(4) {
+        0 | 1 => Pair { receiver: random.between(1, n.clamp(1, 7)), owner: random.between(1, n.clamp(1, 7)) },
+        2 => Pair { receiver: any_number(random, n), owner: any_number(random, n) },
+        _ => random
+            .pick(&[(0, 0), (0, n), (n, 0), (n + 1, n), (n, n + 1), (n + 1, 1), (255, 255), (usize::MAX, 1)])
+            .into(),
+    }
+}
+
+/// A call of the dispatcher, which mostly names the pair that it served last.
+fn any_dispatch(random: &mut Random, state: &mut State, last: &mut Pair, odd: usize) -> Call {
+    let named = if random.one_in(3) { any_pair(random, state.n) } else { *last };
+    let scratch = if random.one_in(odd) { any_scratch(random) } else { SCRATCH };
+    let served = follow_dispatch(state, named, scratch);
+    if served != Pair::BLANK {
+        *last = served;
+    }
+    Call::Dispatch { named, scratch }
+}
+
 /// Calls of any kind on a state.
 pub fn any_calls(random: &mut Random, state: &mut State, count: usize, odd: usize) -> Vec<Call> {
     let policy = Policy::random(random);
-    let mut calls = vec![];
+    let (mut calls, mut last) = (vec![], Pair { receiver: state.n, owner: state.n });
     for _ in 0..count {
+        if random.one_in(8) {
+            calls.push(any_dispatch(random, state, &mut last, odd));
+            continue;
+        }
         if random.one_in(8) {
             calls.push(Call::Look(any_number(random, state.n)));
             continue;

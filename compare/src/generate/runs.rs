@@ -3,7 +3,8 @@
 
 use super::random::Random;
 use crate::cases::records::{classed_report, handover, local_read, report, stop, sync, write};
-use crate::reference::{Message, Payload, State, MAX_MESSAGES, REGISTERS, SCRATCH};
+use crate::engines::dispatch::Pair;
+use crate::reference::{self, Message, Payload, State, MAX_MESSAGES, REGISTERS, SCRATCH};
 
 /// How a run goes: one event in `send` is a send, one in `stop` a stop, one in `read` a local read, and each pair of
 /// receiver and log owner has a weight. Weights of 0 let messages pile up and let logs differ in their order. One send
@@ -176,6 +177,13 @@ pub fn legal_event(random: &mut Random, state: &State, policy: &Policy) -> Optio
 /// Carries out an event on the generator's own state.
 pub fn follow(state: &mut State, bytes: &[u8], scratch: usize) -> u8 {
     state.event(bytes, &mut vec![0; scratch]).0.refusal
+}
+
+/// Calls the dispatcher on the generator's own state. Answers the pair that it served.
+pub fn follow_dispatch(state: &mut State, named: Pair, scratch: usize) -> Pair {
+    let named = reference::Pair { receiver: named.receiver, owner: named.owner };
+    let reference::Pair { receiver, owner } = state.dispatch(named, &mut vec![0; scratch]).pair;
+    Pair { receiver, owner }
 }
 
 /// Up to `events` legal events from a state, which is brought up to date.

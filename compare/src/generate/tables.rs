@@ -1,7 +1,7 @@
 //! Random tables as cases: well-formed ones, most of which no run reaches, with junk wherever nothing is read; the same
 //! with a few bytes changed; and random bytes.
 
-use super::odd::{any_calls, any_event, any_number, any_scratch, any_version, writes_of_all};
+use super::odd::{any_calls, any_event, any_number, any_pair, any_scratch, any_version, writes_of_all};
 use super::pairs::every_pair;
 use super::random::Random;
 use super::runs::{any_value, Policy};
@@ -217,6 +217,7 @@ pub fn blind_calls(random: &mut Random, t: &Table) -> Vec<Call> {
     let state = if well_formed(t) { to_state(t) } else { State::fresh(t.version.clamp(1, 2), t.n.clamp(1, 7)) };
     let bytes = any_event(random, &state, &Policy::even(3), 3);
     let mut calls = some_pairs(random, t, 100);
+    calls.push(Call::Dispatch { named: any_pair(random, state.n), scratch: any_scratch(random) });
     calls.extend([Call::Event { bytes, scratch: any_scratch(random) }, Call::Look(any_number(random, state.n))]);
     let mut any_slot = || {
         let Message { sender, number, .. } = t.messages[random.below(t.messages.len())];

@@ -3,11 +3,13 @@
 
 use crate::cases::{asked_in, Asked, Call, Case, Head};
 use crate::checks::counts::pending;
+use crate::checks::dispatched;
 use crate::checks::never_stale::Tally;
 use crate::checks::replay::ledger_of;
+use crate::engines::dispatch::{DispatchAnswer, Pair};
 use crate::engines::Reference;
 use crate::generate;
-use crate::reference::{calls, to_state, well_formed, MAX_MESSAGES};
+use crate::reference::{calls, to_state, well_formed, MAX_MESSAGES, SCRATCH};
 use furnacejade::{Answer, Controller, Message, Payload, Refusal, RefusalNumber, Stamp, Sums, Table};
 
 /// Accepted calls have number 0, and the refusals follow.
@@ -18,6 +20,7 @@ struct Counts {
     events: [usize; NUMBERS],
     looks: [usize; NUMBERS],
     asked: [usize; NUMBERS],
+    dispatches: [usize; NUMBERS],
     files: [usize; NUMBERS],
     before: Before,
     /// Accepted events, by how many messages they apply.
@@ -29,6 +32,23 @@ struct Counts {
     both: BothSums,
     set: SetPoints,
     readings: Tally,
+    served: Served,
+    dispatched: dispatched::Tally,
+}
+
+/// How many calls of the dispatcher served a pair: that of a stopped owner, the one named, one that applies a set and one
+/// that finishes a sync; how many had to pass over a stopped receiver that has something unread, and how many said "none"
+/// with too little scratch.
+#[derive(Default)]
+struct Served {
+    all: usize,
+    stopped_owner: usize,
+    named: usize,
+    sets: usize,
+    syncs: usize,
+    passed_over: usize,
+    nones: usize,
+    short_nones: usize,
 }
 
 /// How many writes were accepted, and how many of them with a date that another write of the register has; how many
@@ -73,6 +93,7 @@ impl Counts {
             events: zero,
             looks: zero,
             asked: zero,
+            dispatches: zero,
             files: zero,
             before: Before::default(),
             sizes: [0; MAX_MESSAGES + 1],
@@ -83,6 +104,8 @@ impl Counts {
             both: BothSums::default(),
             set: SetPoints::default(),
             readings: Tally::default(),
+            served: Served::default(),
+            dispatched: dispatched::Tally::default(),
         }
     }
 
@@ -94,6 +117,7 @@ impl Counts {
                 Call::Look(c) => self.look(&table, *c),
                 Call::Event { bytes, scratch } => self.event(&mut table, bytes, *scratch),
                 Call::CountBefore(_) => self.goes_before(&mut table, &asked_in(calls)),
+                Call::Dispatch { named, scratch } => self.dispatch(&mut table, *named, *scratch),
             }
         }
     }
@@ -102,7 +126,31 @@ impl Counts {
     fn readings(&mut self, case: &Case) {
         if let Some(ledger) = ledger_of(case, &Reference) {
             self.readings.add(&ledger.readings.tally);
+            self.dispatched.add(&ledger.dispatched.tally);
         }
+    }
+
+    fn dispatch(&mut self, table: &mut Table, named: Pair, scratch: usize) {
+        let (before, mut dispatched) = (table.clone(), DispatchAnswer::BLANK);
+        calls::dispatch(table, named, &mut vec![0; scratch], &mut dispatched);
+        let DispatchAnswer { pair, answer } = dispatched;
+        self.dispatches[answer.refusal.0 as usize] += 1;
+        if answer.refusal != RefusalNumber::ACCEPTED {
+            return;
+        }
+        let unread = |r: &Controller| (0..before.n).any(|o| r.read[o] < before.controllers[o].length);
+        let stopped = before.controllers[..before.n].iter().filter(|r| r.running == 0);
+        self.served.passed_over += stopped.filter(|r| unread(r)).count().min(1);
+        if pair == Pair::BLANK {
+            self.served.nones += 1;
+            self.served.short_nones += (scratch < SCRATCH) as usize;
+            return;
+        }
+        self.served.all += 1;
+        self.served.stopped_owner += (before.controllers[pair.owner - 1].running == 0) as usize;
+        self.served.named += (pair == named) as usize;
+        self.served.sets += (answer.size > 0) as usize;
+        self.served.syncs += answer.finished as usize;
     }
 
     fn head(&mut self, head: &Head) -> Table {
@@ -207,6 +255,20 @@ impl Counts {
         );
         println!("syncs finished whose sender lacked something finished when they were begun {lacking}");
         println!("looks that must find a finished write of another {looks}; stale local reads {stale_reads}");
+        self.print_dispatched();
+    }
+
+    fn print_dispatched(&self) {
+        let Served { all, stopped_owner, named, sets, syncs, passed_over, nones, short_nones } = self.served;
+        println!("calls of the dispatcher by number {:?}; handovers {all}, none {nones}", self.dispatches);
+        println!(
+            "of the handovers with a set {sets}, that finish a sync {syncs}, from a stopped owner {stopped_owner}"
+        );
+        println!("of the pair named {named}; none with too little scratch {short_nones}");
+        println!("accepted where a stopped receiver has something unread {passed_over}");
+        let dispatched::Tally { made, nones, rounds, mixed, last_moment } = self.dispatched;
+        println!("in lists: its handovers {made}, none {nones}; stretches of n x n that had to be fair {rounds}");
+        println!("of these with other handovers in between {mixed}, with an entry that the last reads {last_moment}");
     }
 }
 

@@ -88,8 +88,14 @@ fn check_subsets(case: &Case) -> usize {
     let Some(mut state) = first_state(case) else { return 0 };
     let mut checked = 0;
     for call in &case.calls {
-        let Call::Event { bytes, scratch } = call else { continue };
-        state.event(bytes, &mut vec![0; *scratch]);
+        match call {
+            Call::Event { bytes, scratch } => _ = state.event(bytes, &mut vec![0; *scratch]),
+            Call::Dispatch { named, scratch } => {
+                let named = reference::Pair { receiver: named.receiver, owner: named.owner };
+                state.dispatch(named, &mut vec![0; *scratch]);
+            }
+            Call::Look(_) | Call::CountBefore(_) => continue,
+        }
         for c in state.controllers.iter().filter(|c| c.pending.len() <= subsets::MOST) {
             let right = subsets::largest(state.n, &c.pending);
             if right != reference::largest(state.n, &c.pending) {

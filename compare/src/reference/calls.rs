@@ -3,6 +3,7 @@
 
 use super::{self as reference, *};
 use crate::cases::Asked;
+use crate::engines::dispatch::{DispatchAnswer, Pair};
 use furnacejade::{
     Answer, CountAnswer, FreshAnswer, LookAnswer, MessageNumber, Name, Panel, RefusalNumber, Register, RunAnswer,
     Stamp, Sums, Table,
@@ -35,14 +36,37 @@ pub fn event(t: &mut Table, bytes: &[u8], scratch: &mut [u8], answer: &mut Answe
         if bytes[1] != LOCAL_READ {
             store(&state, t);
         }
-        answer.finished = given.finished as u8;
-        answer.sums = sums_of(given.sums);
-        answer.size = given.set.len();
-        for (to, x) in answer.names.iter_mut().zip(&given.set) {
-            *to = Name { sender: x.sender as u8, number: MessageNumber(x.number as u8) };
-        }
+        tell(&given, answer);
     }
     rest.len()
+}
+
+/// What an accepted event answers: its set, "finished" and the sums.
+fn tell(given: &reference::Answer, answer: &mut Answer) {
+    answer.finished = given.finished as u8;
+    answer.sums = sums_of(given.sums);
+    answer.size = given.set.len();
+    for (to, x) in answer.names.iter_mut().zip(&given.set) {
+        *to = Name { sender: x.sender as u8, number: MessageNumber(x.number as u8) };
+    }
+}
+
+/// The dispatcher call: question 4 first. Where no handover is carried out, every byte of the table stays.
+pub fn dispatch(t: &mut Table, named: Pair, scratch: &mut [u8], dispatched: &mut DispatchAnswer) {
+    *dispatched = DispatchAnswer::BLANK;
+    if !well_formed(t) {
+        dispatched.answer.refusal = RefusalNumber(4);
+        return;
+    }
+    let mut state = to_state(t);
+    let named = reference::Pair { receiver: named.receiver, owner: named.owner };
+    let reference::Dispatched { pair, answer: handover } = state.dispatch(named, scratch);
+    dispatched.answer.refusal = RefusalNumber(handover.refusal);
+    if pair != reference::Pair::default() {
+        store(&state, t);
+        dispatched.pair = Pair { receiver: pair.receiver, owner: pair.owner };
+        tell(&handover, &mut dispatched.answer);
+    }
 }
 
 pub fn look(t: &Table, c: usize) -> LookAnswer {

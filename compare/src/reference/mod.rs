@@ -4,6 +4,7 @@
 
 mod applied_set;
 pub mod calls;
+mod dispatcher;
 mod files;
 mod messages;
 mod queries;
@@ -13,6 +14,7 @@ mod tables;
 mod well_formed;
 
 pub use applied_set::*;
+pub use dispatcher::*;
 pub use files::*;
 pub use messages::*;
 pub use queries::*;

@@ -7,7 +7,9 @@ mod mangle;
 mod program;
 mod rules;
 
+use crate::cases::records::handover;
 use crate::cases::{minimise, Call, Case, Head};
+use crate::engines::dispatch::{dispatch, DispatchAnswer, Pair};
 use crate::generate;
 use crate::generate::random::Random;
 use crate::reference::{well_formed, Name, Raw, State, SCRATCH};
@@ -56,6 +58,20 @@ impl Run {
                 let state = crate::reference::run_file(bytes, &mut lines, &mut area).state;
                 Run { table: answer.table, state, applied: None }
             }
+        }
+    }
+
+    /// The record of a call and the length of its scratch. That of the dispatcher is the handover that it would make.
+    fn record(&self, call: &Call) -> Option<(Vec<u8>, usize)> {
+        match call {
+            Call::Event { bytes, scratch } => Some((bytes.clone(), *scratch)),
+            Call::Dispatch { named, scratch } => {
+                let mut answer = DispatchAnswer::BLANK;
+                dispatch(&mut self.table.clone(), *named, &mut vec![0; *scratch], &mut answer);
+                let Pair { receiver, owner } = answer.pair;
+                (answer.pair != Pair::BLANK).then(|| (handover(receiver, owner), *scratch))
+            }
+            Call::Look(_) | Call::CountBefore(_) => None,
         }
     }
 
@@ -152,8 +168,8 @@ impl Tables<'_> {
         let mut run = Run::new(&case.head);
         self.table(name, &run);
         for (index, call) in case.calls.iter().enumerate() {
-            let Call::Event { bytes, scratch } = call else { continue };
-            let accepted = run.event(bytes, *scratch);
+            let Some((bytes, scratch)) = run.record(call) else { continue };
+            let accepted = run.event(&bytes, scratch);
             let accepted = accepted.unwrap_or_else(|what| report(name, &run.table, &what, &|_| false));
             if accepted && (bytes[1] == 4 || self.random.one_in(ASKED_IN)) {
                 self.table(&format!("{name} call {index}"), &run);
