@@ -3,14 +3,13 @@
 
 use crate::cases::records::{file_of, handover, local_read, report, stop, sync, write};
 use crate::edges::long_runs::dense_run;
-use crate::engines::dispatch::{DispatchAnswer, Pair};
 use crate::engines::{Engine, Reference};
 use crate::generate::files::legal_file;
 use crate::generate::random::Random;
 use crate::generate::runs::{drain, follow, follow_dispatch, legal_run, Policy};
 use crate::generate::tables::chain_place;
 use crate::reference::{run_file, to_table, State, LISTING, MAX_MESSAGES, SCRATCH};
-use furnacejade::{Answer, ForwardNumber, Message, MessageNumber, Name, Payload, Table};
+use furnacejade::{Answer, DispatchAnswer, ForwardNumber, Message, MessageNumber, Name, Pair, Payload, Table};
 
 /// The last two messages of a table, or names of none.
 pub fn last_two(table: &Table) -> [Name; 2] {

@@ -7,10 +7,10 @@ use super::inputs::{
 };
 use crate::cases::records::{classed_report, file_of, handover, local_read, report, stop, sync, write};
 use crate::edges::long_runs::{by_log, in_a_circle, under_way_run};
-use crate::engines::dispatch::{dispatch, DispatchAnswer, Pair};
+use crate::engines::pair;
 use crate::engines::stack::needed;
 use crate::reference::{to_table, State, LISTING, MAX_MESSAGES, SCRATCH};
-use furnacejade::{calls, Answer, CountAnswer, FreshAnswer, LookAnswer, Name, RunAnswer, Table};
+use furnacejade::{calls, Answer, CountAnswer, DispatchAnswer, FreshAnswer, LookAnswer, Name, RunAnswer, Table};
 
 fn event_stack(table: &Table, bytes: &[u8]) -> usize {
     let (mut t, mut scratch, mut answer) = (table.clone(), vec![0xA5; SCRATCH], Answer::BLANK);
@@ -22,11 +22,11 @@ fn event_stack(table: &Table, bytes: &[u8]) -> usize {
 /// The dispatcher on a table, with any pair named and with too little scratch.
 fn dispatch_stack(table: &Table) -> usize {
     let mut answer = DispatchAnswer::BLANK;
-    let named = [(0, 0), (1, 1), (1, 2), (1, 3), (3, 3), (7, 7), (4, 4)].map(Pair::from);
+    let named = [(0, 0), (1, 1), (1, 2), (1, 3), (3, 3), (7, 7), (4, 4)].map(pair);
     let calls = named.into_iter().flat_map(|pair| [63, SCRATCH].map(|length| (pair, length)));
     let stacks = calls.map(|(pair, length)| {
         let (mut t, mut scratch) = (table.clone(), vec![0xA5; length]);
-        needed(|| dispatch(&mut t, pair, &mut scratch, &mut answer))
+        needed(|| calls::dispatch(&mut t, pair, &mut scratch, &mut answer))
     });
     stacks.max().unwrap_or(0)
 }

@@ -5,13 +5,12 @@ use super::inputs::*;
 use crate::cases::records::{classed_report, file_of, handover, local_read, report, stop, write};
 use crate::cases::Asked;
 use crate::edges::long_runs::{by_log, in_a_circle, under_way_run};
-use crate::engines::dispatch::{DispatchAnswer, Pair};
 use crate::engines::library::Library;
 use crate::engines::{Engine, Reference};
 use crate::generate::random::Random;
 use crate::generate::runs::{drain, follow, Policy};
 use crate::reference::{to_state, to_table, State, LISTING, MAX_MESSAGES, SCRATCH};
-use furnacejade::{Answer, Table};
+use furnacejade::{Answer, DispatchAnswer, Pair, Table};
 use std::hint::black_box;
 use std::time::{Duration, Instant};
 

@@ -3,8 +3,7 @@
 
 use super::fields::plain_table;
 use super::{Asked, Call, Case, Head};
-use crate::engines::dispatch::Pair;
-use furnacejade::{Name, Table};
+use furnacejade::{Name, Pair, Table};
 
 /// A case that fails, and what it means to fail.
 struct Search<'a> {

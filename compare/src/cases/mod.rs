@@ -7,9 +7,8 @@ pub mod minimise;
 pub mod records;
 pub mod text;
 
-use crate::engines::dispatch::Pair;
 use crate::reference::{LISTING, SCRATCH};
-use furnacejade::{MessageNumber, Name, Table};
+use furnacejade::{MessageNumber, Name, Pair, Table};
 
 #[derive(Clone)]
 pub enum Head {

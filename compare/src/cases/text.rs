@@ -8,7 +8,7 @@
 
 use super::fields::{plain_table, set_field, table_text};
 use super::{Asked, Call, Case, Head};
-use crate::engines::dispatch::Pair;
+use furnacejade::Pair;
 
 /// The length of the part that these bytes begin with eight times or more in a row, and how often they do. The part is
 /// no longer than a record.

@@ -4,11 +4,10 @@
 use super::side::{numbers, register, set, Lent, Side};
 use super::{counts, served};
 use crate::cases::{asked_in, Asked, Call, Case, Head};
-use crate::engines::dispatch::Pair;
 use crate::engines::Engine;
 use crate::reference::calls::LOCAL_READ;
 use crate::reference::{meaning, well_formed};
-use furnacejade::{LookAnswer, RefusalNumber, RunAnswer, Table};
+use furnacejade::{LookAnswer, Pair, RefusalNumber, RunAnswer, Table};
 
 /// What a file run leaves.
 struct RunLeft {

@@ -5,10 +5,9 @@ use super::demand3::{Figures, Ledger};
 use super::side::{numbers, register, set, sums, Lent, Side};
 use crate::cases::records::local_read;
 use crate::cases::{Call, Case, Head};
-use crate::engines::dispatch::DispatchAnswer;
 use crate::engines::Engine;
 use crate::reference::SCRATCH;
-use furnacejade::{LookAnswer, RefusalNumber, Table};
+use furnacejade::{DispatchAnswer, LookAnswer, RefusalNumber, Table};
 
 /// The ledger and the table with which a list begins, if the head gives one.
 fn list_head(case: &Case, engine: &dyn Engine) -> Option<(Ledger, Table)> {

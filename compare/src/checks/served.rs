@@ -3,10 +3,10 @@
 
 use super::side::{DispatchLeft, Lent, Side};
 use crate::cases::records::handover;
-use crate::engines::dispatch::{DispatchAnswer, Pair};
+use crate::engines::unserved;
 use crate::engines::Engine;
 use crate::reference::{well_formed, SCRATCH};
-use furnacejade::{RefusalNumber, Table};
+use furnacejade::{DispatchAnswer, Pair, RefusalNumber, Table};
 
 /// The number that the event call gives the record of a handover. A refused one leaves the table as it is.
 fn refusal(side: &mut Side, receiver: usize, owner: usize, scratch: usize) -> u8 {
@@ -81,7 +81,7 @@ pub fn laws(
     let mut before = Side { engine, table: before };
     let DispatchAnswer { pair, answer } = &left.answer;
     if answer.refusal != RefusalNumber::ACCEPTED || *pair == Pair::BLANK {
-        if left.answer != DispatchAnswer::refused(answer.refusal) {
+        if left.answer != unserved(answer.refusal) {
             return Err("dispatch: nothing was served, and the answer is not zero".into());
         }
         unchanged(&before, left, after, scratch)?;

@@ -2,10 +2,9 @@
 //! answers in plain numbers.
 
 use super::demand3;
-use crate::engines::dispatch::{DispatchAnswer, Pair};
 use crate::engines::library::DIRTY_SUMS;
 use crate::engines::Engine;
-use furnacejade::{Answer, MessageNumber, Name, RefusalNumber, Register, Sums, Table};
+use furnacejade::{Answer, DispatchAnswer, MessageNumber, Name, Pair, RefusalNumber, Register, Sums, Table};
 
 const GUARD: usize = 64;
 

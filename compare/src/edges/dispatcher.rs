@@ -6,10 +6,10 @@ use crate::cases::records::{handover, local_read, report, stop};
 use crate::checks::demand3::{Figures, Ledger, Pair};
 use crate::checks::dispatched::{Dispatched, MOST_HANDOVERS};
 use crate::checks::side;
-use crate::engines::dispatch::DispatchAnswer;
 use crate::engines::Engine;
+use crate::engines::{pair, unserved};
 use crate::reference::{MAX_MESSAGES, SCRATCH};
-use furnacejade::{RefusalNumber, Table};
+use furnacejade::{DispatchAnswer, RefusalNumber, Table};
 
 const NONE: Pair = (0, 0);
 
@@ -34,10 +34,10 @@ impl<'a> Script<'a> {
     /// Whether a call answers only this number, and leaves table and scratch as they were.
     fn only(&mut self, named: Pair, scratch: usize, number: u8) -> bool {
         let (before, mut area, mut answer) = (self.table.clone(), vec![7; scratch], DispatchAnswer::BLANK);
-        answer.pair = (77, 77).into();
-        self.engine.dispatch(&mut self.table, named.into(), &mut area, &mut answer);
+        answer.pair = pair((77, 77));
+        self.engine.dispatch(&mut self.table, pair(named), &mut area, &mut answer);
         let same = before.as_bytes() == self.table.as_bytes() && area.iter().all(|byte| *byte == 7);
-        same && answer == DispatchAnswer::refused(RefusalNumber(number))
+        same && answer == unserved(RefusalNumber(number))
     }
 
     fn copy(&self) -> Script<'a> {
@@ -148,7 +148,7 @@ fn scratch(engine: &dyn Engine) -> Result<(), String> {
     for length in [SCRATCH, SCRATCH + 1, 2 * SCRATCH] {
         let ((mut s, _), mut area) = (all_wait(engine, 2)?, vec![7; length]);
         let mut answer = DispatchAnswer::BLANK;
-        engine.dispatch(&mut s.table, (2, 2).into(), &mut area, &mut answer);
+        engine.dispatch(&mut s.table, pair((2, 2)), &mut area, &mut answer);
         let cleared = area[..SCRATCH].iter().all(|byte| *byte == 0) && area[SCRATCH..].iter().all(|byte| *byte == 7);
         expect(cleared && side::numbers(answer.pair) == (1, 1), "scratch after a handover of the dispatcher")?;
     }

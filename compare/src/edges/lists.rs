@@ -7,10 +7,9 @@ use crate::cases::text::head_of;
 use crate::cases::Head;
 use crate::checks::demand3::{Figures, Ledger, Name, Pair, Register, Sums};
 use crate::checks::side;
-use crate::engines::dispatch::DispatchAnswer;
 use crate::engines::Engine;
 use crate::reference::{LISTING, SCRATCH};
-use furnacejade::LookAnswer;
+use furnacejade::{DispatchAnswer, LookAnswer};
 
 /// A list from a fresh table: what it is about, and its calls. If no engine gives its answers, what the checker says.
 #[derive(Default)]

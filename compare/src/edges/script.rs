@@ -2,10 +2,10 @@
 //! expects.
 
 use crate::cases::records::handover;
-use crate::engines::dispatch::DispatchAnswer;
+use crate::engines::pair;
 use crate::engines::Engine;
 use crate::reference::SCRATCH;
-use furnacejade::{Answer, Panel, Sums, Table};
+use furnacejade::{Answer, DispatchAnswer, Panel, Sums, Table};
 
 /// An engine with a table, for short scripts.
 pub struct Script<'a> {
@@ -27,7 +27,7 @@ impl Script<'_> {
     /// A call of the dispatcher that names a receiver and an owner.
     pub fn dispatch(&mut self, named: (usize, usize), scratch: usize) -> DispatchAnswer {
         let mut answer = DispatchAnswer::BLANK;
-        self.engine.dispatch(&mut self.table, named.into(), &mut vec![1; scratch], &mut answer);
+        self.engine.dispatch(&mut self.table, pair(named), &mut vec![1; scratch], &mut answer);
         answer
     }
 

@@ -1,10 +1,9 @@
 //! The faults of the folder `faults`. The build script has planted them all in a copy of the reference, where they
 //! sleep: one at a time can be woken.
 
-use super::dispatch::{DispatchAnswer, Pair};
 use super::Engine;
 use crate::cases::Asked;
-use furnacejade::{Answer, CountAnswer, FreshAnswer, LookAnswer, RunAnswer, Table};
+use furnacejade::{Answer, CountAnswer, DispatchAnswer, FreshAnswer, LookAnswer, Pair, RunAnswer, Table};
 use std::sync::atomic::{AtomicUsize, Ordering};
 
 /// Every fault: its name, and what it does.

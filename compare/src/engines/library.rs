@@ -1,12 +1,12 @@
 //! The library through its Rust package. Its places for answers are dirty before each call, and each call can be made
 //! twice, the second time on a stack that held something else.
 
-use super::dispatch::{dispatch, DispatchAnswer, Pair};
 use super::stack::on_painted;
 use super::Engine;
 use crate::cases::Asked;
 use furnacejade::{
-    calls, Answer, CountAnswer, FreshAnswer, LookAnswer, Panel, RefusalNumber, Register, RunAnswer, Stamp, Sums, Table,
+    calls, Answer, CountAnswer, DispatchAnswer, FreshAnswer, LookAnswer, Pair, Panel, RefusalNumber, Register,
+    RunAnswer, Stamp, Sums, Table,
 };
 use furnacejade::{CLASSES, REGISTERS};
 use std::mem::size_of;
@@ -53,10 +53,11 @@ impl Library {
     }
 
     fn dispatch_again(&self, t: &mut Table, named: Pair, scratch: &mut [u8], answer: &mut DispatchAnswer) {
-        let (mut table, mut area, mut again) = (t.clone(), scratch.to_vec(), answer.clone());
-        on_painted(PAINTS[0], || dispatch(t, named, scratch, answer));
-        on_painted(PAINTS[1], || dispatch(&mut table, named, &mut area, &mut again));
-        assert!(*answer == again, "two equal calls of the dispatcher answer differently");
+        let (mut table, mut area, mut again) = (t.clone(), scratch.to_vec(), None);
+        on_painted(PAINTS[0], || calls::dispatch(t, named, scratch, answer));
+        on_painted(PAINTS[1], || again = Some(furnacejade::dispatch(&mut table, named, &mut area)));
+        let first = answer.answer.refusal.check().map(|()| answer.served().map(|_| answer.clone()));
+        assert!(Some(first) == again, "two equal calls of the dispatcher answer differently");
         let same = t.as_bytes() == table.as_bytes() && scratch == area;
         assert!(same, "two equal calls of the dispatcher leave other bytes");
     }
@@ -94,7 +95,7 @@ impl Engine for Library {
     fn dispatch(&self, t: &mut Table, named: Pair, scratch: &mut [u8], answer: &mut DispatchAnswer) {
         match self.twice {
             true => self.dispatch_again(t, named, scratch, answer),
-            false => dispatch(t, named, scratch, answer),
+            false => calls::dispatch(t, named, scratch, answer),
         }
     }
     fn look(&self, t: &Table, c: usize) -> LookAnswer {

@@ -1,15 +1,25 @@
 //! What is compared: the calls as a trait, and the reference as an engine. The library and the reference with a fault
 //! have files of their own.
 
-pub mod dispatch;
 pub mod faults;
 pub mod library;
 pub mod stack;
 
 use crate::cases::Asked;
 use crate::reference::calls;
-use dispatch::{DispatchAnswer, Pair};
-use furnacejade::{Answer, CountAnswer, FreshAnswer, LookAnswer, RunAnswer, Table};
+use furnacejade::{
+    Answer, CountAnswer, DispatchAnswer, FreshAnswer, LookAnswer, Pair, RefusalNumber, RunAnswer, Table,
+};
+
+/// The pair of these numbers, whatever they are.
+pub fn pair((receiver, owner): (usize, usize)) -> Pair {
+    Pair { receiver, owner }
+}
+
+/// What a refused call of the dispatcher answers; with number 0 it is "none".
+pub fn unserved(refusal: RefusalNumber) -> DispatchAnswer {
+    DispatchAnswer { pair: Pair::BLANK, answer: Answer { refusal, ..Answer::BLANK } }
+}
 
 pub trait Engine {
     /// Answers how many bytes are left.

@@ -8,8 +8,8 @@ use super::runs::{follow_dispatch, highest_read, legal_run, Policy};
 use super::tables::good_table;
 use crate::cases::records::{report_in, stop};
 use crate::cases::{Call, Case, Head};
-use crate::engines::dispatch::Pair;
 use crate::reference::{to_state, State, LISTING, SCRATCH};
+use furnacejade::Pair;
 
 /// A list that is made call by call, with the state that it leaves and the pair that the dispatcher served last.
 struct Dispatching {

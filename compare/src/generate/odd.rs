@@ -5,9 +5,9 @@ use super::random::Random;
 use super::runs::{any_value, follow, follow_dispatch, highest_read, legal_event, with_none_pending, Policy};
 use crate::cases::records::{classed_report, handover, local_read, report, stop, sync, write};
 use crate::cases::{name, Asked, Call};
-use crate::engines::dispatch::Pair;
+use crate::engines::pair;
 use crate::reference::{State, SCRATCH};
-use furnacejade::Name;
+use furnacejade::{Name, Pair};
 
 pub fn any_scratch(random: &mut Random) -> usize {
     match random.below(12) {
@@ -141,9 +141,16 @@ pub fn any_pair(random: &mut Random, n: usize) -> Pair {
     match random.below(4) {
         0 | 1 => Pair { receiver: random.between(1, n.clamp(1, 7)), owner: random.between(1, n.clamp(1, 7)) },
         2 => Pair { receiver: any_number(random, n), owner: any_number(random, n) },
-        _ => random
-            .pick(&[(0, 0), (0, n), (n, 0), (n + 1, n), (n, n + 1), (n + 1, 1), (255, 255), (usize::MAX, 1)])
-            .into(),
+        _ => pair(random.pick(&[
+            (0, 0),
+            (0, n),
+            (n, 0),
+            (n + 1, n),
+            (n, n + 1),
+            (n + 1, 1),
+            (255, 255),
+            (usize::MAX, 1),
+        ])),
     }
 }
 

@@ -3,8 +3,8 @@
 
 use super::random::Random;
 use crate::cases::records::{classed_report, handover, local_read, report, stop, sync, write};
-use crate::engines::dispatch::Pair;
 use crate::reference::{self, Message, Payload, State, MAX_MESSAGES, REGISTERS, SCRATCH};
+use furnacejade::Pair;
 
 /// How a run goes: one event in `send` is a send, one in `stop` a stop, one in `read` a local read, and each pair of
 /// receiver and log owner has a weight. Weights of 0 let messages pile up and let logs differ in their order. One send

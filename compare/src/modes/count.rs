@@ -6,11 +6,12 @@ use crate::checks::counts::pending;
 use crate::checks::dispatched;
 use crate::checks::never_stale::Tally;
 use crate::checks::replay::ledger_of;
-use crate::engines::dispatch::{DispatchAnswer, Pair};
 use crate::engines::Reference;
 use crate::generate;
 use crate::reference::{calls, to_state, well_formed, MAX_MESSAGES, SCRATCH};
-use furnacejade::{Answer, Controller, Message, Payload, Refusal, RefusalNumber, Stamp, Sums, Table};
+use furnacejade::{
+    Answer, Controller, DispatchAnswer, Message, Pair, Payload, Refusal, RefusalNumber, Stamp, Sums, Table,
+};
 
 /// Accepted calls have number 0, and the refusals follow.
 const NUMBERS: usize = 1 + Refusal::ALL.len();

@@ -3,10 +3,9 @@
 
 use super::{self as reference, *};
 use crate::cases::Asked;
-use crate::engines::dispatch::{DispatchAnswer, Pair};
 use furnacejade::{
-    Answer, CountAnswer, FreshAnswer, LookAnswer, MessageNumber, Name, Panel, RefusalNumber, Register, RunAnswer,
-    Stamp, Sums, Table,
+    Answer, CountAnswer, DispatchAnswer, FreshAnswer, LookAnswer, MessageNumber, Name, Pair, Panel, RefusalNumber,
+    Register, RunAnswer, Stamp, Sums, Table,
 };
 
 /// The kind of a record that leaves the table as it is.

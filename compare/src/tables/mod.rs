@@ -9,12 +9,11 @@ mod rules;
 
 use crate::cases::records::handover;
 use crate::cases::{minimise, Call, Case, Head};
-use crate::engines::dispatch::{dispatch, DispatchAnswer, Pair};
 use crate::generate;
 use crate::generate::random::Random;
 use crate::reference::{well_formed, Name, Raw, State, SCRATCH};
 use answers::{difference, first_difference, names, text, unpacked};
-use furnacejade::{calls, event, FreshAnswer, RunAnswer, Table};
+use furnacejade::{calls, event, DispatchAnswer, FreshAnswer, Pair, RunAnswer, Table};
 use std::collections::BTreeSet;
 use std::process::exit;
 
@@ -67,7 +66,7 @@ impl Run {
             Call::Event { bytes, scratch } => Some((bytes.clone(), *scratch)),
             Call::Dispatch { named, scratch } => {
                 let mut answer = DispatchAnswer::BLANK;
-                dispatch(&mut self.table.clone(), *named, &mut vec![0; *scratch], &mut answer);
+                calls::dispatch(&mut self.table.clone(), *named, &mut vec![0; *scratch], &mut answer);
                 let Pair { receiver, owner } = answer.pair;
                 (answer.pair != Pair::BLANK).then(|| (handover(receiver, owner), *scratch))
             }
