@@ -3,8 +3,8 @@ use Prim.Native.Nat.{ℕ, _-_, _≤_, max}
 use mathlib.Core.Path.{_≡_}
 use mathlib.Core.Bool.{false, cond}
 use mathlib.Core.List.{List, []}
-use lib.ListN.{length, getD, set}
-use Rattle.model.specs.Tables.{Messages, scratchSize, noSums, noController, unheld, messageNumber, at, messagesOf, highest, withDelivered}
+use lib.ListN.{length, set}
+use Rattle.model.specs.Tables.{Messages, scratchSize, noSums, unheld, messageNumber, at, messagesOf, highest, withDelivered}
 use Rattle.model.specs.Events.{sentMessage, subject, after, next, appliedBy, sums, panelOf, namesOf, finishes}
 use Rattle.model.specs.Sized.{Sized}
 use Rattle.model.specs.Calls.{cleared, answerOf}
@@ -18,7 +18,7 @@ use Rattle.model.specs.declared.Event.the-variants.{Send, Handover}
 use Rattle.model.specs.declared.Answer.{Answer}
 use Rattle.effects.specs.declared.Effect.{Effect}
 use Rattle.effects.specs.Conditions.{Accepted}
-use Rattle.effects.specs.Parties.{seatOf, Allowed}
+use Rattle.effects.specs.Parties.{Allowed}
 
 -- ONE MESSAGE OF A SET: message m of slot s leaves the buffer and is applied
 
@@ -61,9 +61,9 @@ pub record Quiet (c : Controller) (w : List ℕ) (answer : Effect) (scratch : Li
   pub effect : answer ≡ record { answer = noSet 0; controller = c }
   pub clear : scratch ≡ cleared w
 
--- a local read of c, the index of which is bounded
-pub record Reads (t : Table) (c : ℕ) (w : List ℕ) (answer : Answer) (scratch : List ℕ) : Type 0 where
-  pub sums-are : answer ≡ readAnswer (sums (messagesOf t) (getD (t .controllers) (seatOf c) noController .applied))
+-- a local read of a controller that is x
+pub record Reads (t : Table) (x : Controller) (w : List ℕ) (answer : Answer) (scratch : List ℕ) : Type 0 where
+  pub sums-are : answer ≡ readAnswer (sums (messagesOf t) (x .applied))
   pub clear : scratch ≡ cleared w
 
 -- CONTRACTS, of every well-formed table on which no question refuses the event

@@ -8,9 +8,10 @@ ghost use Rattle.model.specs.Registers.{dateOf};
 ghost use Rattle.model.specs.Fair.{fairRegister};
 ghost use Rattle.model.specs.Events.{forward, received, deliver, subject, sums};
 ghost use Rattle.effects.specs.Conditions.{Receivable, Readable, Deliverable, Dated};
-ghost use Rattle.effects.specs.Parties.{ownerOf, seatOf, partiesOf};
+ghost use Rattle.effects.specs.Parties.{ownerOf, seatOf, indicesOf, handOf, partiesOf};
 ghost use Rattle.effects.specs.Effects.{withApplied, noSet, Quiet, Reads, HandsOver, CarriesOut, Sends, Stores};
 use model::Answer;
+use model::Command;
 use model::Controller;
 use model::Event;
 use model::ForwardNumber;
@@ -64,16 +65,46 @@ pub fn seat(controller: u8) -> usize
     )
 }
 
+// The indices of the controllers that a record names. A local read has its controller for both.
+pub struct Places {
+    pub subject: usize,
+    pub owner: usize,
+}
+
+pub fn indices(a: Command) -> Places
+    ensures { λ r. ⌜ r ≡ indicesOf a ⌝ }
+{
+    match a {
+        Command::Act(e) => Places {
+            subject: seat(subject(e)),
+            owner: seat(owner(e)),
+        },
+        Command::Read(c) => Places {
+            subject: seat(c),
+            owner: seat(c),
+        },
+    }
+}
+
+// The two controllers that a record names, out of all.
+pub fn at_hand(controllers: [Controller; Table::CONTROLLERS], a: Command) -> Parties
+    ensures { λ r. ⌜ r ≡ handOf controllers a ⌝ }
+{
+    let places = indices(a);
+    let i = places.subject;
+    let j = places.owner;
+    Parties {
+        subject: controllers[i],
+        owner: controllers[j],
+    }
+}
+
 // The two controllers that an event reads, out of a table.
 pub fn both(t: Table, e: Event) -> Parties
     ensures { λ r. ⌜ r ≡ partiesOf t e ⌝ }
 {
-    let i = seat(subject(e));
-    let j = seat(owner(e));
-    Parties {
-        subject: t.controllers[i],
-        owner: t.controllers[j],
-    }
+    let controllers = t.controllers;
+    at_hand(controllers, Command::Act(e))
 }
 
 // WHAT EACH KIND DOES
@@ -253,12 +284,10 @@ pub fn quiet(c: Controller, scratch: &mut [u8]) -> Effect
     }
 }
 
-// What a local read answers: the sums that the panel of its controller shows.
-pub fn read_answer(t: Table, controller: u8, scratch: &mut [u8]) -> Answer
-    ensures { λ r. ⌜ Reads t controller (now (scratch .entry)) r (now (scratch .exit)) ⌝ }
+// What a local read answers: the sums that the panel of its controller, which is x, shows.
+pub fn read_answer(t: Table, x: Controller, scratch: &mut [u8]) -> Answer
+    ensures { λ r. ⌜ Reads t x (now (scratch .entry)) r (now (scratch .exit)) ⌝ }
 {
-    let i = seat(controller);
-    let x = t.controllers[i];
     let sums = sums(t, x);
     let done = quiet(x, scratch);
     let mut answer = done.answer;

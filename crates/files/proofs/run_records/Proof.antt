@@ -1,11 +1,11 @@
 -- `run_records` carries out the records of a file. The loop's invariant is `Running`, and its measure the bytes left.
 -- Assumes nothing.
 use mathlib.Core.Path.{_≡_, refl, sym, ap, subst, _∙_}
-use Prim.Native.Nat.{_<_}
+use Prim.Native.Nat.{ℕ, _<_}
 use native.Mathlib.Omega.{arith}
-use lib.ListN.{length}
+use lib.ListN.{length, getD}
 use denote.Ref.{now}
-use Rattle.model.specs.Tables.{seats}
+use Rattle.model.specs.Tables.{seats, noController}
 use Rattle.model.specs.Events.{subject}
 use Rattle.model.specs.Records.{decode}
 use Rattle.model.specs.declared.Event.{Event}
@@ -13,14 +13,14 @@ use Rattle.model.specs.declared.Event.the-variants.{Send}
 use Rattle.model.specs.declared.Command.{Command}
 use Rattle.model.specs.declared.Command.the-variants.{Act}
 use Rattle.records.specs.Cuts.{recordOf}
-use Rattle.effects.specs.Parties.{seatOf}
+use Rattle.effects.specs.Parties.{seatOf, indicesOf}
 use Rattle.effects.specs.Effects.{Leaves}
 use Rattle.effects.proofs.Room.{Sendable, sendable}
-use Rattle.effects.proofs.Seats.{allowed-at}
+use Rattle.effects.proofs.Seats.{indices-low}
 use Rattle.events.proofs.QuestionOrder.{command-read}
 use Rattle.files.specs.declared.Ahead.{Ahead}
-use Rattle.files.specs.Turns.{seatsOf, aheadOf}
-use Rattle.files.proofs.OneRecord.{seats-low, turn-leaves}
+use Rattle.files.specs.Turns.{aheadOf}
+use Rattle.files.proofs.OneRecord.{turn-leaves}
 use Rattle.files.proofs.StoredRecord.{read-stays, event-stored, send-stored}
 use Rattle.files.proofs.RecordLoop.{Running, run-begins, run-before, run-ends, run-further, run-goes-on, scratch-size}
 use borrow.Author.Needs.{needs}
@@ -79,17 +79,17 @@ found-is c = ap (λ (a : Ahead). a .found) (c .look-ahead .ensures)
 command-is : (c : tie.After-look-ahead Inv-loop μ-loop) → c .look-ahead .result .found .command ≡ decode (inside c .loop .table .version) (inside c .loop .left .now)
 command-is c = command-read _ _ _ (found-is c)
 
-subject-at : (c : tie.After-look-ahead Inv-loop μ-loop) → c .look-ahead .result .subject ≡ seatsOf (decode (inside c .loop .table .version) (inside c .loop .left .now)) .0
+subject-at : (c : tie.After-look-ahead Inv-loop μ-loop) → c .look-ahead .result .subject ≡ indicesOf (decode (inside c .loop .table .version) (inside c .loop .left .now)) .subject
 unfolding aheadOf
 subject-at c = ap (λ (a : Ahead). a .subject) (c .look-ahead .ensures)
 
-owner-at : (c : tie.After-look-ahead Inv-loop μ-loop) → c .look-ahead .result .owner ≡ seatsOf (decode (inside c .loop .table .version) (inside c .loop .left .now)) .1
+owner-at : (c : tie.After-look-ahead Inv-loop μ-loop) → c .look-ahead .result .owner ≡ indicesOf (decode (inside c .loop .table .version) (inside c .loop .left .now)) .owner
 unfolding aheadOf
 owner-at c = ap (λ (a : Ahead). a .owner) (c .look-ahead .ensures)
 
 indices : (c : tie.After-look-ahead Inv-loop μ-loop) → (c .look-ahead .result .subject < seats) × (c .look-ahead .result .owner < seats)
 indices c =
-    let h = seats-low (decode (inside c .loop .table .version) (inside c .loop .left .now)) in
+    let h = indices-low (decode (inside c .loop .table .version) (inside c .loop .left .now)) in
     (omega (arith, subject-at c, h .0), omega (arith, owner-at c, h .1))
 
 -- of an event: what it is, what the turn leaves of its subject, and the subject's index
@@ -101,8 +101,8 @@ leaves : (c : tie.After-command Inv-loop μ-loop) → let d = turned (went c) in
 leaves c = turn-leaves (turned (went c) .turn .ensures) (went c .if1 .left) _ (event-is c)
 
 seat : (c : tie.After-command Inv-loop μ-loop) → ahead (turned (went c)) .look-ahead .result .subject ≡ seatOf (subject (c .command .given .0 .0))
-unfolding seatsOf
-seat c = subject-at (ahead (turned (went c))) ∙ ap (λ (a : Command). seatsOf a .0) (event-is c)
+unfolding indicesOf
+seat c = subject-at (ahead (turned (went c))) ∙ ap (λ (a : Command). indicesOf a .subject) (event-is c)
 
 sends : (c : tie.After-e Inv-loop μ-loop)
     → let d = turned (went (commanded (kept c))) in Leaves (loop d .loop .table) (Send (c .e .given .0 .0) (c .e .given .0 .1 .0)) (d .turn .result .controller)
@@ -149,13 +149,13 @@ element-copy-out-y : tie.Need-element-copy-out-y Inv-loop μ-loop
 element-copy-out-y c = indices (c .before .before) .1
 
 turn-requires : tie.Need-turn-requires Inv-loop μ-loop
-unfolding seatsOf
 turn-requires c κs =
     let k = looked c in (
       run-before _ _ _ _ _ _ _ _ (inside k .loop .inv),
       record {
         record-is = found-is k;
-        allowed = λ e q a. allowed-at _ e a _ _ (subject-at k ∙ ap (λ (x : Command). seatsOf x .0) q) (owner-at k ∙ ap (λ (x : Command). seatsOf x .1) q);
+        subject-is = ap (λ (i : ℕ). getD (inside k .loop .table .controllers) i noController) (subject-at k);
+        owner-is = ap (λ (i : ℕ). getD (inside k .loop .table .controllers) i noController) (owner-at k);
       },
     )
 
