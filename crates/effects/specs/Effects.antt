@@ -1,5 +1,5 @@
 -- What an event does, as the functions of the effects hand it on: its answer, and the one controller that it changes.
-use Prim.Native.Nat.{ℕ, _-_, _≤_, max}
+use Prim.Native.Nat.{ℕ, _+_, _-_, _≤_, max}
 use mathlib.Core.Path.{_≡_}
 use mathlib.Core.Bool.{false, cond}
 use mathlib.Core.List.{List, []}
@@ -17,6 +17,7 @@ use Rattle.model.specs.declared.Event.{Event}
 use Rattle.model.specs.declared.Event.the-variants.{Send, Handover}
 use Rattle.model.specs.declared.Answer.{Answer}
 use Rattle.effects.specs.declared.Effect.{Effect}
+use Rattle.effects.specs.declared.Sent.{Sent}
 use Rattle.effects.specs.Conditions.{Accepted}
 use Rattle.effects.specs.Parties.{Allowed}
 
@@ -80,6 +81,14 @@ pub record HandsOver (n : ℕ) (M : Messages) (x y : Controller) (r o : ℕ) (w 
 -- the message m that c sends after those of M; its sender is then x
 pub record Sends (M : Messages) (x : Controller) (c : ℕ) (p : Payload) (m : Message) : Type 0 where
   pub sent : (t : Table) → messagesOf t ≡ M → Accepted t (Send c p) → x ≡ after t (Send c p) → m ≡ sentMessage M (at t c) c p
+
+-- the messages M with m after them
+unfoldable pub sentOf : Messages → Message → Sent
+sentOf M m = record { count = M .count + 1; messages = set (M .slots) (M .count) m }
+
+-- the messages M with the one that c sends; its sender is then x
+pub record Adds (M : Messages) (x : Controller) (c : ℕ) (p : Payload) (r : Sent) : Type 0 where
+  pub added : (t : Table) → messagesOf t ≡ M → Accepted t (Send c p) → x ≡ after t (Send c p) → r ≡ sentOf M (sentMessage M (at t c) c p)
 
 -- an accepted event leaves its subject as x
 abbrev pub Leaves : Table → Event → Controller → Type 0

@@ -9,7 +9,7 @@ ghost use Rattle.model.specs.Fair.{fairRegister};
 ghost use Rattle.model.specs.Events.{forward, received, deliver, subject, sums};
 ghost use Rattle.effects.specs.Conditions.{Receivable, Readable, Deliverable, Dated};
 ghost use Rattle.effects.specs.Parties.{ownerOf, seatOf, indicesOf, handOf, partiesOf};
-ghost use Rattle.effects.specs.Effects.{withApplied, noSet, Quiet, Reads, HandsOver, CarriesOut, Sends, Stores};
+ghost use Rattle.effects.specs.Effects.{withApplied, noSet, Quiet, Reads, HandsOver, CarriesOut, Sends, Adds, Stores};
 use model::Answer;
 use model::Command;
 use model::Controller;
@@ -393,7 +393,7 @@ fn date_of(
 }
 
 // The message that a send adds to these, where its sender is then c.
-pub fn sent_message(
+fn sent_message(
     count: usize,
     messages: [Message; Table::MESSAGES],
     c: Controller,
@@ -408,6 +408,31 @@ pub fn sent_message(
     Message::of(sender, number, date, payload)
 }
 
+// The messages, and how many they are.
+pub struct Sent {
+    pub count: usize,
+    pub messages: [Message; Table::MESSAGES],
+}
+
+// The messages after a send, whose sender is then c.
+pub fn with_sent(
+    count: usize,
+    messages: [Message; Table::MESSAGES],
+    c: Controller,
+    sender: u8,
+    payload: Payload,
+) -> Sent
+    ensures { λ r. ⌜ Adds (firstOf count messages) c sender payload r ⌝ }
+{
+    let slot = numbers::at_most(count, Table::MESSAGES - 1);
+    let mut next = messages;
+    next[slot] = sent_message(count, messages, c, sender, payload);
+    Sent {
+        count: slot + 1,
+        messages: next,
+    }
+}
+
 // The table after an event that leaves its subject as c: a send adds its message.
 pub fn stored(t: Table, e: Event, c: Controller) -> Table
     ensures { λ r. ⌜ Stores t e c r ⌝ }
@@ -418,9 +443,10 @@ pub fn stored(t: Table, e: Event, c: Controller) -> Table
     let Event::Send { sender, payload } = e else {
         return next;
     };
-    let slot = numbers::at_most(next.count, Table::MESSAGES - 1);
     let messages = t.messages;
-    next.messages[slot] = sent_message(t.count, messages, c, sender, payload);
-    next.count = slot + 1;
+    let sent = with_sent(t.count, messages, c, sender, payload);
+    let all = sent.messages;
+    next.count = sent.count;
+    next.messages = all;
     next
 }

@@ -214,10 +214,11 @@ fn run_records(head: Header, bytes: &[u8], listing: &mut [u8], scratch: &mut [u8
         let Event::Send { sender, payload } = e else {
             continue;
         };
-        let slot = table.count;
         let messages = table.messages;
-        table.messages[slot] = effects::sent_message(slot, messages, c, sender, payload);
-        table.count = slot + 1;
+        let sent = effects::with_sent(table.count, messages, c, sender, payload);
+        let all = sent.messages;
+        table.count = sent.count;
+        table.messages = all;
     }
     answered(cursor, table)
 }

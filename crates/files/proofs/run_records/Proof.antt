@@ -15,7 +15,6 @@ use Rattle.model.specs.declared.Command.the-variants.{Act}
 use Rattle.records.specs.Cuts.{recordOf}
 use Rattle.effects.specs.Parties.{seatOf, indicesOf}
 use Rattle.effects.specs.Effects.{Leaves}
-use Rattle.effects.proofs.Room.{Sendable, sendable}
 use Rattle.effects.proofs.Seats.{indices-low}
 use Rattle.events.proofs.QuestionOrder.{command-read}
 use Rattle.files.specs.declared.Ahead.{Ahead}
@@ -35,7 +34,7 @@ abbrev μ-loop : tie.MeasureT-loop
 μ-loop bytes listing₀ scratch₀ table₀ left₀ cursor₀ listing scratch table left cursor = length left
 
 -- PLACES: from after the message to the event, the subject stored, the command, the verdict, the bytes left and the turn
-abbrev kind : tie.After-sent-message Inv-loop μ-loop → tie.After-e Inv-loop μ-loop
+abbrev kind : tie.After-with-sent Inv-loop μ-loop → tie.After-e Inv-loop μ-loop
 kind c = c .before .before .before
 
 abbrev kept : tie.After-e Inv-loop μ-loop → tie.After-c Inv-loop μ-loop
@@ -109,9 +108,6 @@ sends : (c : tie.After-e Inv-loop μ-loop)
 sends c =
     let d = turned (went (commanded (kept c))) in
     subst (λ (x : Event). Leaves (loop d .loop .table) x (d .turn .result .controller)) (c .e .given .1) (leaves (commanded (kept c)))
-
-room : (c : tie.After-e Inv-loop μ-loop) → Sendable (loop (turned (went (commanded (kept c)))) .loop .table) (c .e .given .0 .0) (c .e .given .0 .1 .0)
-room c = sendable _ _ _ (sends c .0)
 
 -- fewer bytes are left
 fewer : (c : tie.After-rest2 Inv-loop μ-loop) → length (now (c .rest2 .result)) < length (loop (done c) .loop .left .now)
@@ -208,30 +204,22 @@ loop-again-3 c =
     (λ _. event-stored _ _ _ (event-is k) _ (seat k) _ (leaves k) (c .match2 .keys2))
     (λ n. absurd (n (g .if1 .left)))
 
-sent-message-requires : tie.Need-sent-message-requires Inv-loop μ-loop
-sent-message-requires c κs = search needs
-
-mul-t25 : tie.Need-mul-t25 Inv-loop μ-loop
-mul-t25 c = omega (arith, room (kind c) .slot)
-
-element-set-from-table : tie.Need-element-set-from-table Inv-loop μ-loop
-element-set-from-table c = room (kind c) .slot
-
-add-table : tie.Need-add-table Inv-loop μ-loop
-add-table c = omega (arith, room (kind c) .slot)
+with-sent-requires : tie.Need-with-sent-requires Inv-loop μ-loop
+with-sent-requires c κs = search needs
 
 loop-less-4 : tie.Need-loop-less-4 Inv-loop μ-loop
-loop-less-4 c = fewer (went (commanded (kept (kind c))) .before)
+loop-less-4 c = fewer (went (commanded (kept (kind (c .before)))) .before)
 
 loop-again-4 : tie.Need-loop-again-4 Inv-loop μ-loop
 loop-again-4 c =
-    let e = kind c in
+    let w = c .before in
+    let e = kind w in
     let k = commanded (kept e) in
     let g = went k in
     let d = turned g in
     let x = sends e in
     run-goes-on _ _ _ _ _ _ _ _ (loop d .loop .inv) (some d .loop-test .taken) _ _ _ (d .turn .ensures) _ (g .before .rest2 .ensures) _
-    (λ _. send-stored _ _ _ (event-is k) _ (seat k) _ (leaves k) _ _ (e .e .given .1) _ (c .sent-message .ensures .sent _ refl (x .0) (x .1)))
+    (λ _. send-stored _ _ _ (event-is k) _ (seat k) _ (leaves k) _ _ (e .e .given .1) _ (w .with-sent .ensures .added _ refl (x .0) (x .1)))
     (λ n. absurd (n (g .if1 .left)))
 
 answered-requires : tie.Need-answered-requires Inv-loop μ-loop
@@ -274,10 +262,7 @@ run-records-spec =
     enum-known-e
     loop-less-3
     loop-again-3
-    sent-message-requires
-    mul-t25
-    element-set-from-table
-    add-table
+    with-sent-requires
     loop-less-4
     loop-again-4
     answered-requires
