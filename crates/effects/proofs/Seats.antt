@@ -1,6 +1,6 @@
--- The controllers that an event reads, taken out of the table: they are the definition's. Assumes nothing.
+-- The controllers that a record names, taken out of the table: they are the definition's. Assumes nothing.
 use mathlib.Core.Path.{_≡_, refl, ap}
-use Prim.Native.Nat.{ℕ, _-_, _<_}
+use Prim.Native.Nat.{ℕ, _-_, _≤_, _<_}
 use native.Mathlib.Omega.{arith}
 use lib.ListN.{getD}
 use Rattle.model.specs.Tables.{seats, noController, controllerIn, at}
@@ -8,10 +8,12 @@ use Rattle.model.specs.Events.{subject}
 use Rattle.model.specs.declared.Table.{Table}
 use Rattle.model.specs.declared.Event.{Event}
 use Rattle.model.specs.declared.Event.the-variants.{Send, Handover, Stop}
+use Rattle.model.specs.declared.Command.{Command}
+use Rattle.model.specs.declared.Command.the-variants.{Act, Read}
 use Rattle.model.specs.Facts.{Among}
 use Rattle.effects.specs.declared.Parties.{Parties as Both}
 use Rattle.effects.specs.Conditions.{Accepted}
-use Rattle.effects.specs.Parties.{ownerOf, seatOf, partiesOf, Allowed}
+use Rattle.effects.specs.Parties.{ownerOf, seatOf, indicesOf, handOf, partiesOf, Allowed}
 use Rattle.effects.proofs.Room.{subject-seated, readable}
 
 pub seat-is : (c i : ℕ) → i ≡ seatOf c → Among seats c → i ≡ c - 1
@@ -21,6 +23,16 @@ seat-is c i e h = omega (arith, e, h .low, h .high)
 pub seat-low : (c i : ℕ) → i ≡ seatOf c → i < seats
 unfolding seatOf
 seat-low c i e = omega (arith, e)
+
+-- past the last controller nothing is said
+pub seat-within : (c i : ℕ) → i ≡ seatOf c → c ≤ seats → i ≡ c - 1
+unfolding seatOf
+seat-within c i e h = omega (arith, e, h)
+
+pub indices-low : (a : Command) → (indicesOf a .subject < seats) × (indicesOf a .owner < seats)
+unfolding indicesOf
+indices-low (Act e) = (seat-low (subject e) _ refl, seat-low (ownerOf e) _ refl)
+indices-low (Read c) = (seat-low c _ refl, seat-low c _ refl)
 
 module _ (t : Table) where
   owner-seated : (e : Event) → Accepted t e → Among seats (ownerOf e)
@@ -45,3 +57,7 @@ module _ (t : Table) where
     pub allowed-parties : (p : Both) → p ≡ partiesOf t e → Allowed t e (p .subject) (p .owner)
     unfolding partiesOf
     allowed-parties p is = rw is (allowed-at _ _ refl refl)
+
+    pub allowed-hand : (a : Command) → a ≡ Act e → (p : Both) → p ≡ handOf (t .controllers) a → Allowed t e (p .subject) (p .owner)
+    unfolding handOf indicesOf
+    allowed-hand a acts p is = rw (is, acts) (allowed-at _ _ refl refl)

@@ -26,9 +26,10 @@ use Rattle.model.proofs.Event as event
 use Rattle.model.proofs.Lengths.{none-named}
 use Rattle.invariant.proofs.Stores.{at-same}
 use Rattle.effects.specs.declared.Effect.{Effect}
+use Rattle.effects.specs.declared.Sent.{Sent}
 use Rattle.effects.specs.Conditions.{Accepted, Dated}
 use Rattle.effects.specs.Parties.{Allowed}
-use Rattle.effects.specs.Effects.{Leaves, noSet, effectOf}
+use Rattle.effects.specs.Effects.{noSet, effectOf, sentOf}
 use Rattle.effects.proofs.Room.{sendable}
 use Rattle.effects.proofs.WriteDates.{formed-dated}
 
@@ -78,20 +79,21 @@ message-sent t c p x q e M em k d ek fd n en m is =
     let date = fd (subst (λ (N : Messages). Dated N) em (formed-dated t (q .0))) (h .register) in
     rw (is, en, number, date, e) refl
 
--- the table with it
-pub stored-slot : (t : Table) (c i : ℕ) (p : Payload) (x : Controller) → x ≡ after t (Send c p) → i ≡ c - 1
-    → (m : Message) → m ≡ sentMessage (messagesOf t) (at t c) c p
-    → _≡_ {A = Table} (record { version = t .version; n = t .n; count = t .count + 1; messages = set (t .messages) (t .count) m; controllers = set (t .controllers) i x }) (next t (Send c p))
-unfolding next subject withSent withController withMessage
-stored-slot t c i p x e ei m em = rw (em, e, ei) refl
+-- added to the messages M, in a slot that is bounded
+pub sent-added : (t : Table) (c : ℕ) (p : Payload) → Accepted t (Send c p) → (M : Messages) → messagesOf t ≡ M
+    → (s : ℕ) → s ≡ min (M .count) (capacity - 1) → (m k : Message) → m ≡ k
+    → _≡_ {A = Sent} (record { count = s + 1; messages = set (M .slots) s m }) (sentOf M k)
+unfolding sentOf
+sent-added t c p q M em s es m k e =
+    let slot : s ≡ M .count = omega (arith, es, ap (λ (N : Messages). N .count) em, sendable t c p q .slot) in
+    rw (slot, e) refl
 
--- in a slot that is bounded
-pub stored-send : (t : Table) (c i s : ℕ) (p : Payload) (x : Controller) → Leaves t (Send c p) x → i ≡ c - 1 → s ≡ min (t .count) (capacity - 1)
-    → (m : Message) → m ≡ sentMessage (messagesOf t) (at t c) c p
-    → _≡_ {A = Table} (record { version = t .version; n = t .n; count = s + 1; messages = set (t .messages) s m; controllers = set (t .controllers) i x }) (next t (Send c p))
-stored-send t c i s p x l ei es m em =
-    let slot : s ≡ t .count = omega (arith, es, sendable t c p (l .0) .slot) in
-    rw slot (stored-slot t c i p x (l .1) ei m em)
+-- the table with them
+pub stored-send : (t : Table) (c i : ℕ) (p : Payload) (x : Controller) → x ≡ after t (Send c p) → i ≡ c - 1
+    → (r : Sent) → r ≡ sentOf (messagesOf t) (sentMessage (messagesOf t) (at t c) c p)
+    → _≡_ {A = Table} (record { version = t .version; n = t .n; count = r .count; messages = r .messages; controllers = set (t .controllers) i x }) (next t (Send c p))
+unfolding sentOf next subject withSent withController withMessage
+stored-send t c i p x e ei r er = rw (er, e, ei) refl
 
 -- an event of another kind
 pub stored-else : (t : Table) (e : Event) (i : ℕ) (x : Controller) → (tagOf event.the-type e ≡ 1) ⊎ (tagOf event.the-type e ≡ 2) → i ≡ subject e - 1 → x ≡ after t e

@@ -1,10 +1,10 @@
 -- What an event does, as the functions of the effects hand it on: its answer, and the one controller that it changes.
-use Prim.Native.Nat.{ℕ, _-_, _≤_, max}
+use Prim.Native.Nat.{ℕ, _+_, _-_, _≤_, max}
 use mathlib.Core.Path.{_≡_}
 use mathlib.Core.Bool.{false, cond}
 use mathlib.Core.List.{List, []}
-use lib.ListN.{length, getD, set}
-use Rattle.model.specs.Tables.{Messages, scratchSize, noSums, noController, unheld, messageNumber, at, messagesOf, highest, withDelivered}
+use lib.ListN.{length, set}
+use Rattle.model.specs.Tables.{Messages, scratchSize, noSums, unheld, messageNumber, at, messagesOf, highest, withDelivered}
 use Rattle.model.specs.Events.{sentMessage, subject, after, next, appliedBy, sums, panelOf, namesOf, finishes}
 use Rattle.model.specs.Sized.{Sized}
 use Rattle.model.specs.Calls.{cleared, answerOf}
@@ -17,8 +17,9 @@ use Rattle.model.specs.declared.Event.{Event}
 use Rattle.model.specs.declared.Event.the-variants.{Send, Handover}
 use Rattle.model.specs.declared.Answer.{Answer}
 use Rattle.effects.specs.declared.Effect.{Effect}
+use Rattle.effects.specs.declared.Sent.{Sent}
 use Rattle.effects.specs.Conditions.{Accepted}
-use Rattle.effects.specs.Parties.{seatOf, Allowed}
+use Rattle.effects.specs.Parties.{Allowed}
 
 -- ONE MESSAGE OF A SET: message m of slot s leaves the buffer and is applied
 
@@ -61,9 +62,9 @@ pub record Quiet (c : Controller) (w : List ℕ) (answer : Effect) (scratch : Li
   pub effect : answer ≡ record { answer = noSet 0; controller = c }
   pub clear : scratch ≡ cleared w
 
--- a local read of c, the index of which is bounded
-pub record Reads (t : Table) (c : ℕ) (w : List ℕ) (answer : Answer) (scratch : List ℕ) : Type 0 where
-  pub sums-are : answer ≡ readAnswer (sums (messagesOf t) (getD (t .controllers) (seatOf c) noController .applied))
+-- a local read of a controller that is x
+pub record Reads (t : Table) (x : Controller) (w : List ℕ) (answer : Answer) (scratch : List ℕ) : Type 0 where
+  pub sums-are : answer ≡ readAnswer (sums (messagesOf t) (x .applied))
   pub clear : scratch ≡ cleared w
 
 -- CONTRACTS, of every well-formed table on which no question refuses the event
@@ -80,6 +81,14 @@ pub record HandsOver (n : ℕ) (M : Messages) (x y : Controller) (r o : ℕ) (w 
 -- the message m that c sends after those of M; its sender is then x
 pub record Sends (M : Messages) (x : Controller) (c : ℕ) (p : Payload) (m : Message) : Type 0 where
   pub sent : (t : Table) → messagesOf t ≡ M → Accepted t (Send c p) → x ≡ after t (Send c p) → m ≡ sentMessage M (at t c) c p
+
+-- the messages M with m after them
+unfoldable pub sentOf : Messages → Message → Sent
+sentOf M m = record { count = M .count + 1; messages = set (M .slots) (M .count) m }
+
+-- the messages M with the one that c sends; its sender is then x
+pub record Adds (M : Messages) (x : Controller) (c : ℕ) (p : Payload) (r : Sent) : Type 0 where
+  pub added : (t : Table) → messagesOf t ≡ M → Accepted t (Send c p) → x ≡ after t (Send c p) → r ≡ sentOf M (sentMessage M (at t c) c p)
 
 -- an accepted event leaves its subject as x
 abbrev pub Leaves : Table → Event → Controller → Type 0

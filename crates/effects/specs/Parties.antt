@@ -1,5 +1,6 @@
 -- The controllers that an event reads, as the functions of the effects hand them on in place of the table.
 use mathlib.Core.Path.{_≡_}
+use mathlib.Core.List.{List}
 use Prim.Native.Nat.{ℕ, _-_, min}
 use lib.ListN.{getD}
 use Rattle.model.specs.Tables.{seats, noController, at}
@@ -8,6 +9,9 @@ use Rattle.model.specs.declared.Controller.{Controller}
 use Rattle.model.specs.declared.Table.{Table}
 use Rattle.model.specs.declared.Event.{Event}
 use Rattle.model.specs.declared.Event.the-variants.{Send, Handover, Stop}
+use Rattle.model.specs.declared.Command.{Command}
+use Rattle.model.specs.declared.Command.the-variants.{Act, Read}
+use Rattle.effects.specs.declared.Places.{Places}
 use Rattle.effects.specs.declared.Parties.{Parties as Both}
 use Rattle.effects.specs.Conditions.{Accepted}
 
@@ -21,7 +25,15 @@ ownerOf (Stop c k) = c
 unfoldable pub seatOf : ℕ → ℕ
 seatOf c = min (c - 1) (seats - 1)
 
--- what stands in a table in the places of both
+-- the indices of the controllers that a record names; a local read has its controller for both
+unfoldable pub indicesOf : Command → Places
+indicesOf (Act e) = record { subject = seatOf (subject e); owner = seatOf (ownerOf e) }
+indicesOf (Read c) = record { subject = seatOf c; owner = seatOf c }
+
+-- what stands among the controllers C in these places, and in a table in those of an event
+unfoldable pub handOf : List Controller → Command → Both
+handOf C a = record { subject = getD C (indicesOf a .subject) noController; owner = getD C (indicesOf a .owner) noController }
+
 unfoldable pub partiesOf : Table → Event → Both
 partiesOf t e = record {
   subject = getD (t .controllers) (seatOf (subject e)) noController;

@@ -8,9 +8,10 @@ ghost use Rattle.model.specs.Registers.{dateOf};
 ghost use Rattle.model.specs.Fair.{fairRegister};
 ghost use Rattle.model.specs.Events.{forward, received, deliver, subject, sums};
 ghost use Rattle.effects.specs.Conditions.{Receivable, Readable, Deliverable, Dated};
-ghost use Rattle.effects.specs.Parties.{ownerOf, seatOf, partiesOf};
-ghost use Rattle.effects.specs.Effects.{withApplied, noSet, Quiet, Reads, HandsOver, CarriesOut, Sends, Stores};
+ghost use Rattle.effects.specs.Parties.{ownerOf, seatOf, indicesOf, handOf, partiesOf};
+ghost use Rattle.effects.specs.Effects.{withApplied, noSet, Quiet, Reads, HandsOver, CarriesOut, Sends, Adds, Stores};
 use model::Answer;
+use model::Command;
 use model::Controller;
 use model::Event;
 use model::ForwardNumber;
@@ -64,16 +65,46 @@ pub fn seat(controller: u8) -> usize
     )
 }
 
+// The indices of the controllers that a record names. A local read has its controller for both.
+pub struct Places {
+    pub subject: usize,
+    pub owner: usize,
+}
+
+pub fn indices(a: Command) -> Places
+    ensures { λ r. ⌜ r ≡ indicesOf a ⌝ }
+{
+    match a {
+        Command::Act(e) => Places {
+            subject: seat(subject(e)),
+            owner: seat(owner(e)),
+        },
+        Command::Read(c) => Places {
+            subject: seat(c),
+            owner: seat(c),
+        },
+    }
+}
+
+// The two controllers that a record names, out of all.
+pub fn at_hand(controllers: [Controller; Table::CONTROLLERS], a: Command) -> Parties
+    ensures { λ r. ⌜ r ≡ handOf controllers a ⌝ }
+{
+    let places = indices(a);
+    let i = places.subject;
+    let j = places.owner;
+    Parties {
+        subject: controllers[i],
+        owner: controllers[j],
+    }
+}
+
 // The two controllers that an event reads, out of a table.
 pub fn both(t: Table, e: Event) -> Parties
     ensures { λ r. ⌜ r ≡ partiesOf t e ⌝ }
 {
-    let i = seat(subject(e));
-    let j = seat(owner(e));
-    Parties {
-        subject: t.controllers[i],
-        owner: t.controllers[j],
-    }
+    let controllers = t.controllers;
+    at_hand(controllers, Command::Act(e))
 }
 
 // WHAT EACH KIND DOES
@@ -253,12 +284,10 @@ pub fn quiet(c: Controller, scratch: &mut [u8]) -> Effect
     }
 }
 
-// What a local read answers: the sums that the panel of its controller shows.
-pub fn read_answer(t: Table, controller: u8, scratch: &mut [u8]) -> Answer
-    ensures { λ r. ⌜ Reads t controller (now (scratch .entry)) r (now (scratch .exit)) ⌝ }
+// What a local read answers: the sums that the panel of its controller, which is x, shows.
+pub fn read_answer(t: Table, x: Controller, scratch: &mut [u8]) -> Answer
+    ensures { λ r. ⌜ Reads t x (now (scratch .entry)) r (now (scratch .exit)) ⌝ }
 {
-    let i = seat(controller);
-    let x = t.controllers[i];
     let sums = sums(t, x);
     let done = quiet(x, scratch);
     let mut answer = done.answer;
@@ -364,7 +393,7 @@ fn date_of(
 }
 
 // The message that a send adds to these, where its sender is then c.
-pub fn sent_message(
+fn sent_message(
     count: usize,
     messages: [Message; Table::MESSAGES],
     c: Controller,
@@ -379,6 +408,31 @@ pub fn sent_message(
     Message::of(sender, number, date, payload)
 }
 
+// The messages, and how many they are.
+pub struct Sent {
+    pub count: usize,
+    pub messages: [Message; Table::MESSAGES],
+}
+
+// The messages after a send, whose sender is then c.
+pub fn with_sent(
+    count: usize,
+    messages: [Message; Table::MESSAGES],
+    c: Controller,
+    sender: u8,
+    payload: Payload,
+) -> Sent
+    ensures { λ r. ⌜ Adds (firstOf count messages) c sender payload r ⌝ }
+{
+    let slot = numbers::at_most(count, Table::MESSAGES - 1);
+    let mut next = messages;
+    next[slot] = sent_message(count, messages, c, sender, payload);
+    Sent {
+        count: slot + 1,
+        messages: next,
+    }
+}
+
 // The table after an event that leaves its subject as c: a send adds its message.
 pub fn stored(t: Table, e: Event, c: Controller) -> Table
     ensures { λ r. ⌜ Stores t e c r ⌝ }
@@ -389,9 +443,10 @@ pub fn stored(t: Table, e: Event, c: Controller) -> Table
     let Event::Send { sender, payload } = e else {
         return next;
     };
-    let slot = numbers::at_most(next.count, Table::MESSAGES - 1);
     let messages = t.messages;
-    next.messages[slot] = sent_message(t.count, messages, c, sender, payload);
-    next.count = slot + 1;
+    let sent = with_sent(t.count, messages, c, sender, payload);
+    let all = sent.messages;
+    next.count = sent.count;
+    next.messages = all;
     next
 }

@@ -7,12 +7,13 @@ use Prim.Native.Nat.{ℕ, _+_}
 use native.Mathlib.Omega.{arith}
 use lib.ListN.{length}
 use borrow.Author.Tests.{ne-eqb}
-use Rattle.model.specs.Tables.{seats, Among}
+use Rattle.model.specs.Tables.{at}
 use Rattle.model.specs.Events.{next, resulting, shown, panelOf}
 use Rattle.model.specs.Records.{size, decode}
 use Rattle.model.specs.WellFormed.{wellFormed}
 use Rattle.model.specs.Questions.{firstNo, lentTable, stepQuestions}
 use Rattle.model.specs.Calls.{Outcome, answering, accepted, refused, settled, step, event, scratchAfter, answerOf}
+use Rattle.model.specs.declared.Controller.{Controller}
 use Rattle.model.specs.declared.Table.{Table}
 use Rattle.model.specs.declared.Event.{Event}
 use Rattle.model.specs.declared.Command.the-variants.{Act, Read}
@@ -21,7 +22,6 @@ use Rattle.model.proofs.Steps.{step-is-accepted, step-is-refused, event-is-step
 use Rattle.events.specs.declared.Stepped.{Stepped}
 use Rattle.effects.specs.declared.Effect.{Effect}
 use Rattle.effects.specs.Effects.{noSet, readAnswer, effectOf, Effected, Reads}
-use Rattle.effects.proofs.Seats.{at-seat}
 use Rattle.events.specs.Stepped.{steppedOf, unchanged, Answers, Steps}
 
 module _ (t : Table) (s w : List ℕ) where
@@ -41,11 +41,11 @@ module _ (t : Table) (s w : List ℕ) where
     step-acted e q d v a x ex =
         rw (step-is-accepted t s (length w) z) (record { outcome = rw (a .effect, ex, eu, q) refl; clear = rw q (a .clear) })
 
-    pub step-read : (c : ℕ) → decode (t .version) s ≡ Read c → Among seats c → (a : Answer) (v : List ℕ) → Reads t c w a v
+    pub step-read : (c : ℕ) → decode (t .version) s ≡ Read c → (x : Controller) → x ≡ at t c → (a : Answer) (v : List ℕ) → Reads t x w a v
         → Answers (step t s (length w)) s w (record { answer = a; used = u; table = t }) v
     unfolding steppedOf accepted answering resulting readAnswer answerOf scratchAfter panelOf shown
-    step-read c q h a v r =
-        rw (step-is-accepted t s (length w) z) (record { outcome = rw (r .sums-are, at-seat t c _ refl h, eu, q) refl; clear = rw q (r .clear) })
+    step-read c q x ex a v r =
+        rw (step-is-accepted t s (length w) z) (record { outcome = rw (r .sums-are, ex, eu, q) refl; clear = rw q (r .clear) })
 
   event-is-refused : (room : ℕ) → wellFormed t ≡ false → event t s room ≡ refused t s 4
   unfolding event settled firstNo lentTable

@@ -3,16 +3,21 @@ use mathlib.Core.Path.{_≡_, refl, sym, ap, _∙_}
 use mathlib.Core.Logic.{_≢_, inl, inr}
 use mathlib.Core.Bool.{true}
 use mathlib.Core.List.{List, [], _∷_, _++_}
-use Prim.Native.Nat.{ℕ, _+_, _≤_, _<_}
+use Prim.Native.Nat.{ℕ, _+_, _-_, _≤_, _<_}
+use lib.ListN.{getD}
 use lib.Dec.{eqb}
 use borrow.Author.Tests.{eqb-true, eqb-false, eq-eqb, ne-eqb, le-leb, lt-leb}
 use Rattle.lists.proofs.Tests.{cond-true, cond-false, decided}
-use Rattle.model.specs.Tables.{seats, scratchSize, Among}
+use Rattle.model.specs.Tables.{seats, scratchSize, Among, noController, controllerIn, at}
+use Rattle.model.specs.Events.{subject, controllerOf}
 use Rattle.model.specs.Records.{size, decode}
 use Rattle.model.specs.WellFormed.{wellFormed}
 use Rattle.model.specs.Questions.{firstNo, recordQuestions, commandQuestions, scratchRoom, stepQuestions}
+use Rattle.model.specs.declared.Controller.{Controller}
 use Rattle.model.specs.declared.Table.{Table}
 use Rattle.model.specs.declared.Event.{Event}
+use Rattle.model.specs.declared.Event.the-variants.{Handover}
+use Rattle.model.specs.declared.Command.{Command}
 use Rattle.model.specs.declared.Command.the-variants.{Act, Read}
 use Rattle.model.proofs.Tested.{facts}
 use Rattle.model.proofs.Allowed.{command-numbered, record-numbered, step-asked, read-allowed}
@@ -20,8 +25,11 @@ use Rattle.model.proofs.Steps.{step-first-no, accepted-room}
 use Rattle.invariant.proofs.Stores.{seated}
 use Rattle.records.specs.Cuts.{recordOf}
 use Rattle.records.specs.declared.Record.{Record}
+use Rattle.questions.specs.AtHand.{AtHand}
 use Rattle.questions.proofs.Answers.{first-refused, first-passed}
 use Rattle.effects.specs.Conditions.{Accepted}
+use Rattle.effects.specs.Parties.{ownerOf, seatOf, indicesOf}
+use Rattle.effects.proofs.Seats.{seat-within}
 use Rattle.events.specs.Stepped.{refusalOf}
 
 -- THE RECORD
@@ -61,6 +69,24 @@ module _ (t : Table) (r : Record) (room : ℕ) where
       pub none-refuses : scratchSize ≤ room → 0 ≡ refusalOf t r room
       unfolding firstNo scratchRoom
       none-refuses h = sym (past-event ∙ rw (le-leb scratchSize room h) refl)
+
+-- what stands in the places of the controllers that a record names is at hand for its questions
+pub in-hand : (t : Table) (a : Command) (x y : Controller) → x ≡ getD (t .controllers) (indicesOf a .subject) noController
+    → y ≡ getD (t .controllers) (indicesOf a .owner) noController → AtHand t a x y
+unfolding controllerIn indicesOf controllerOf ownerOf
+in-hand t a x y ex ey = record { subject-is = λ h. ex ∙ ap (λ (k : ℕ). getD (t .controllers) k noController) (subject-at a h); owner-is = λ r o e h. owner-at r o (rw e at ey) h }
+  where
+    subject-at : (a : Command) → controllerOf a ≤ seats → indicesOf a .subject ≡ controllerOf a - 1
+    subject-at (Act e) h = seat-within (subject e) _ refl h
+    subject-at (Read c) h = seat-within c _ refl h
+
+    owner-at : (r o : ℕ) → y ≡ getD (t .controllers) (seatOf (ownerOf (Handover r o))) noController → o ≤ seats → y ≡ at t o
+    owner-at r o e h = e ∙ ap (λ (k : ℕ). getD (t .controllers) k noController) (seat-within o _ refl h)
+
+-- the controller of a local read
+pub reader-is : (t : Table) (a : Command) (x y : Controller) → AtHand t a x y → (c : ℕ) → a ≡ Read c → c ≤ seats → x ≡ at t c
+unfolding controllerOf
+reader-is t a x y h c e l = (rw e at (h .subject-is)) l
 
 -- AS THE DEFINITION ASKS
 

@@ -35,21 +35,23 @@ use Rattle.model.proofs.Steps.{step-first-no, step-is-accepted}
 use Rattle.model.proofs.Runs.{advance-gone, advance-ended}
 use Rattle.records.specs.Cuts.{recordOf}
 use Rattle.records.specs.declared.Record.{Record}
+use Rattle.questions.specs.AtHand.{AtHand}
 use Rattle.records.proofs.Cuts.{part-rest}
 use Rattle.listing.specs.declared.Put.{Put}
 use Rattle.listing.specs.Writing.{putAnswer, tailAfter, Wrote}
 use Rattle.effects.specs.declared.Effect.{Effect}
 use Rattle.effects.specs.Conditions.{Accepted}
-use Rattle.effects.specs.Parties.{ownerOf, seatOf}
+use Rattle.effects.specs.declared.Places.{Places}
+use Rattle.effects.specs.Parties.{indicesOf, Allowed}
 use Rattle.effects.specs.Effects.{effectOf, Effected, Leaves}
 use Rattle.effects.proofs.Room.{subject-seated}
-use Rattle.effects.proofs.Seats.{seat-low}
+use Rattle.effects.proofs.Seats.{allowed-at}
 use Rattle.effects.proofs.StoredEffect.{sums-shown}
-use Rattle.events.proofs.QuestionOrder.{command-read, allowed}
+use Rattle.events.proofs.QuestionOrder.{command-read, in-hand, allowed}
 use Rattle.files.specs.declared.Ahead.{Ahead}
 use Rattle.files.specs.declared.Cursor.{Cursor}
 use Rattle.files.specs.declared.Advance.{Advance}
-use Rattle.files.specs.Turns.{seatsOf, aheadOf, SumsAnswered, progressOf, ended, gone, Before, turned, Turned}
+use Rattle.files.specs.Turns.{Found, aheadOf, SumsAnswered, progressOf, ended, gone, Before, turned, Turned}
 
 -- a line that question 16 refuses does not fit, and one that it does not refuse fits
 unfit : (a c : ℕ) → firstNo (lineFits a c ∷ []) ≢ 0 → leb a c ≡ false
@@ -69,21 +71,19 @@ overlay-after n x l h =
 
 -- THE RECORD AHEAD
 
-module _ (v : ℕ) (s : List ℕ) (r : Record) (er : r ≡ recordOf v s) where
-  pub ahead-acts : (e : Event) → r .command ≡ Act e → (i j : ℕ) → i ≡ seatOf (subject e) → j ≡ seatOf (ownerOf e)
-      → _≡_ {A = Ahead} (record { found = r; subject = i; owner = j }) (aheadOf v s)
-  unfolding aheadOf seatsOf recordOf
-  ahead-acts e q i j ei ej = rw (ei, ej, ← command-read v s r er, q, er) refl
+pub ahead-is : (v : ℕ) (s : List ℕ) (r : Record) → r ≡ recordOf v s → (p : Places) → p ≡ indicesOf (r .command)
+    → _≡_ {A = Ahead} (record { found = r; subject = p .subject; owner = p .owner }) (aheadOf v s)
+unfolding aheadOf recordOf
+ahead-is v s r er p ep = rw (ep, command-read v s r er, er) refl
 
-  pub ahead-reads : (c : ℕ) → r .command ≡ Read c → _≡_ {A = Ahead} (record { found = r; subject = 0; owner = 0 }) (aheadOf v s)
-  unfolding aheadOf seatsOf recordOf
-  ahead-reads c q = rw (← command-read v s r er, q, er) refl
+-- the controllers that it names are at hand for its questions, and an event that no question refuses has them
+module _ {t : Table} {r : Record} {s : List ℕ} {x y : Controller} (f : Found t r s x y) where
+  pub found-hand : AtHand t (r .command) x y
+  found-hand = rw (command-read (t .version) s r (f .record-is)) (in-hand t (decode (t .version) s) x y (f .subject-is) (f .owner-is))
 
--- the indices are those of controllers
-pub seats-low : (a : Command) → (seatsOf a .0 < seats) × (seatsOf a .1 < seats)
-unfolding seatsOf
-seats-low (Act e) = (seat-low (subject e) _ refl, seat-low (ownerOf e) _ refl)
-seats-low (Read c) = (omega arith, omega arith)
+  pub found-allowed : (e : Event) → decode (t .version) s ≡ Act e → Accepted t e → Allowed t e x y
+  unfolding indicesOf
+  found-allowed e q a = rw (f .subject-is, f .owner-is, q) (allowed-at t e a _ _ refl refl)
 
 -- THE LINE
 

@@ -3,11 +3,11 @@ use mathlib.Core.Path.{_≡_}
 use mathlib.Core.Bool.{true, _&&_, cond}
 use mathlib.Core.List.{List, _∷_}
 use Prim.Native.Nat.{ℕ, _+_, _≤_}
-use lib.ListN.{length, take}
+use lib.ListN.{length, getD, take}
 use lib.Dec.{eqb, leb}
 use Rattle.lists.specs.Build.{overlay}
-use Rattle.model.specs.Tables.{messagesOf, yes?}
-use Rattle.model.specs.Events.{subject, sums}
+use Rattle.model.specs.Tables.{noController, messagesOf, yes?}
+use Rattle.model.specs.Events.{sums}
 use Rattle.model.specs.Records.{byte, size, decode}
 use Rattle.model.specs.WellFormed.{wellFormed}
 use Rattle.model.specs.Questions.{ask, firstNo, longestFile, freshQuestions}
@@ -16,14 +16,12 @@ use Rattle.model.specs.Runs.{Progress, advance, progress, ran}
 use Rattle.model.specs.declared.Controller.{Controller}
 use Rattle.model.specs.declared.Table.{Table}
 use Rattle.model.specs.declared.Event.{Event}
-use Rattle.model.specs.declared.Command.{Command}
-use Rattle.model.specs.declared.Command.the-variants.{Act, Read}
+use Rattle.model.specs.declared.Command.the-variants.{Act}
 use Rattle.model.specs.declared.RunAnswer.{RunAnswer}
 use Rattle.records.specs.Cuts.{recordOf}
 use Rattle.records.specs.declared.Record.{Record}
 use Rattle.effects.specs.declared.Effect.{Effect}
-use Rattle.effects.specs.Conditions.{Accepted}
-use Rattle.effects.specs.Parties.{ownerOf, seatOf, Allowed}
+use Rattle.effects.specs.Parties.{indicesOf}
 use Rattle.effects.specs.Effects.{Leaves}
 use Rattle.files.specs.declared.Ahead.{Ahead}
 use Rattle.files.specs.declared.Header.{Header}
@@ -49,13 +47,9 @@ answerAt c t = record { refusal = c .refusal; events = c .events; written = c .w
 
 -- ONE RECORD
 
--- the indices of the controllers that an event reads, 0 where there is none; and the record that s begins with, in a file of version v
-unfoldable pub seatsOf : Command → ℕ × ℕ
-seatsOf (Act e) = (seatOf (subject e), seatOf (ownerOf e))
-seatsOf (Read c) = (0, 0)
-
+-- the record that s begins with, in a file of version v, and the indices of the controllers that it names
 unfoldable pub aheadOf : ℕ → List ℕ → Ahead
-aheadOf v s = record { found = recordOf v s; subject = seatsOf (decode v s) .0; owner = seatsOf (decode v s) .1 }
+aheadOf v s = record { found = recordOf v s; subject = indicesOf (decode v s) .subject; owner = indicesOf (decode v s) .owner }
 
 -- a finished sync's answer is the sums that its controller then shows
 abbrev pub SumsAnswered : Table → Effect → Type 0
@@ -78,10 +72,11 @@ pub record Before (c : Cursor) (t : Table) (s l : List ℕ) : Type 0 where
   pub within : c .written ≤ length l
   pub few : c .events + length s ≤ longestFile
 
--- the record f was read off the bytes s, and its event, if it has one that no question refuses, has x and y
+-- the record f was read off the bytes s, and x and y stand in the places of the controllers that it names
 pub record Found (t : Table) (f : Record) (s : List ℕ) (x y : Controller) : Type 0 where
   pub record-is : f ≡ recordOf (t .version) s
-  pub allowed : (e : Event) → decode (t .version) s ≡ Act e → Accepted t e → Allowed t e x y
+  pub subject-is : x ≡ getD (t .controllers) (indicesOf (decode (t .version) s) .subject) noController
+  pub owner-is : y ≡ getD (t .controllers) (indicesOf (decode (t .version) s) .owner) noController
 
 -- the run after the record that s begins with; the scratch area has `room` bytes
 unfoldable pub turned : Cursor → Table → List ℕ → List ℕ → ℕ → Progress

@@ -95,8 +95,7 @@ fn list_line(tail: &mut [u8], event: usize, e: Event, t: Table, done: Effect) ->
     )
 }
 
-// The record that the bytes left begin with, and the indices of the controllers that its event reads; those of a local read are
-// not used.
+// The record that the bytes left begin with, and the indices of the controllers that it names.
 struct Ahead {
     found: Record,
     subject: usize,
@@ -108,17 +107,11 @@ fn look_ahead(version: usize, left: &[u8]) -> Ahead
 {
     let found = records::read_record(version, left);
     let command = found.command;
-    match command {
-        Command::Act(e) => Ahead {
-            found,
-            subject: effects::seat(effects::subject(e)),
-            owner: effects::seat(effects::owner(e)),
-        },
-        Command::Read(c) => Ahead {
-            found,
-            subject: 0,
-            owner: 0,
-        },
+    let places = effects::indices(command);
+    Ahead {
+        found,
+        subject: places.subject,
+        owner: places.owner,
     }
 }
 
@@ -169,7 +162,7 @@ fn turn(
     ensures { λ r. ⌜ Turned cursor t (now (left .entry)) (now (listing .entry)) (now (scratch .entry)) r (now (listing .exit)) (now (scratch .exit)) ⌝ }
 {
     let start = cursor.written;
-    let refusal = events::step_refusal(t, found, scratch.len());
+    let refusal = events::step_refusal(t, x, y, found, scratch.len());
     if refusal != 0 {
         return ended(cursor, refusal, left.len(), x);
     }
@@ -221,10 +214,11 @@ fn run_records(head: Header, bytes: &[u8], listing: &mut [u8], scratch: &mut [u8
         let Event::Send { sender, payload } = e else {
             continue;
         };
-        let slot = table.count;
         let messages = table.messages;
-        table.messages[slot] = effects::sent_message(slot, messages, c, sender, payload);
-        table.count = slot + 1;
+        let sent = effects::with_sent(table.count, messages, c, sender, payload);
+        let all = sent.messages;
+        table.count = sent.count;
+        table.messages = all;
     }
     answered(cursor, table)
 }

@@ -1,35 +1,32 @@
 -- What is printed is built in one text: the lines of the run, the header line before them, the end line after them. Assumes nothing.
 use mathlib.Core.Path.{_≡_, refl, sym, ap, ap₂, _∙_}
-use mathlib.Core.Logic.{_≢_}
-use mathlib.Core.Bool.{cond}
+use mathlib.Core.Logic.{_≢_, _⊎_, inl, inr}
+use mathlib.Core.Bool.{Bool, true, false, _&&_, cond}
 use mathlib.Core.List.{List, [], _∷_, _++_, append-assoc}
 use Prim.Native.Nat.{ℕ, zero, suc, _+_, _-_, _^_, _≤_, _<_}
 use native.Mathlib.Nat.{le-of-suc-le-suc}
 use native.Mathlib.Omega.{arith}
 use lib.ListN.{length, take, drop, length-append, length-drop, length-take, take-append-drop}
 use lib.Seq.{take-append-seam, drop-append-seam, drop-drop, length-take-le}
-use lib.Dec.{eqb}
-use borrow.Author.Tests.{le-leb, eq-eqb, ne-eqb, eqb-true, eqb-false}
+use lib.Dec.{eqb, leb, ltb}
+use borrow.Author.Tests.{le-leb, lt-leb, eq-eqb, ne-eqb, eqb-true, eqb-false}
 use borrow.Rule.Slice.PartMut.{midOf, putMid, same-len-mid}
 use Rattle.lists.specs.Build.{overlay}
 use Rattle.lists.proofs.Build.{length-overlay}
-use Rattle.lists.proofs.Tests.{cond-true, cond-false, by-contradiction}
-use Rattle.model.specs.Tables.{scratchSize, zeroTable, start, fresh}
-use Rattle.model.specs.Events.{resulting}
-use Rattle.model.specs.Records.{byte, afterRecord, decode}
-use Rattle.model.specs.Questions.{firstNo, fileQuestions}
-use Rattle.model.specs.Calls.{Outcome, accepted, refused, step}
-use Rattle.model.specs.Runs.{header, footer, Progress, RunOutcome, verdict, records, begun, progress, ran, fileRun}
+use Rattle.lists.proofs.Tests.{cond-case, cond-true, cond-false, by-contradiction, contradiction}
+use Rattle.model.specs.Tables.{scratchSize, zeroTable}
+use Rattle.model.specs.Records.{byte, afterRecord}
+use Rattle.model.specs.Questions.{Question, firstNo, freshQuestions, fileQuestions, lineFits}
+use Rattle.model.specs.Calls.{step}
+use Rattle.model.specs.Runs.{header, footer, Progress, RunOutcome, lineAt, verdict, records, begun, progress, ran, fileRun}
 use Rattle.model.specs.declared.Table.{Table}
-use Rattle.model.specs.declared.Command.{Command}
-use Rattle.model.specs.declared.Command.the-variants.{Act, Read}
 use Rattle.model.specs.declared.RunAnswer.{RunAnswer}
 use Rattle.model.proofs.Decimals.{decimal-one}
 use Rattle.model.proofs.Lengths.{footer-bound}
 use Rattle.model.proofs.Allowed.{file-allowed}
-use Rattle.model.proofs.Steps.{step-case, file-run-ran}
+use Rattle.model.proofs.Steps.{step-first-no, file-run-ran}
 use Rattle.model.proofs.Runs.{gone, advance-case}
-use Rattle.invariant.proofs.Sizes.{next-n}
+use Rattle.invariant.proofs.Refusals.{step-refusals}
 use Rattle.invariant.proofs.Listing.{listing-fits}
 use Rattle.listing.specs.declared.Put.{Put}
 use Rattle.listing.specs.Writing.{putAnswer, tailAfter, Wrote}
@@ -89,29 +86,63 @@ laid-before g h y l t k e p =
       end = p .end ∙ same;
     }
 
--- THE NUMBER OF CONTROLLERS, which a run's table keeps
+-- THE NUMBER OF A REFUSAL: questions 1 to 3 refuse a file, and later ones a record
 
-resulting-n : (t : Table) (a : Command) → resulting t a .n ≡ t .n
-unfolding resulting
-resulting-n t (Act e) = next-n t e
-resulting-n t (Read c) = refl
+abbrev pub early : ℕ → Bool
+early k = ltb 0 k && leb k 3
 
-step-n : (t : Table) (s : List ℕ) (room : ℕ) → step t s room .table .n ≡ t .n
-unfolding accepted refused
-step-n t s room = step-case t s room (λ (o : Outcome). o .table .n ≡ t .n) (λ _. resulting-n t (decode (t .version) s)) (λ _. refl)
+abbrev Early : ℕ → Type 0
+Early k = k ≢ 0 → early k ≡ true
 
-records-n : (f : ℕ) (p : Progress) (s : List ℕ) (room space : ℕ) → records f p s room space .table .n ≡ p .table .n
+abbrev Earlies : List Question → Type 0
+Earlies [] = Unit {0}
+Earlies (q ∷ qs) = (early (q .number) ≡ true) × Earlies qs
+
+abbrev Late : ℕ → Type 0
+Late k = (k ≡ 0) ⊎ (3 < k)
+
+late-not-early : (k : ℕ) → Late k → early k ≡ false
+late-not-early k (inl z) = rw z refl
+late-not-early k (inr h) = and-none (ltb 0 k) (lt-leb k 3 h)
+  where
+    and-none : (b : Bool) {c : Bool} → c ≡ false → (b && c) ≡ false
+    and-none true e = e
+    and-none false e = refl
+
+first-early : (qs : List Question) → Earlies qs → Early (firstNo qs)
+unfolding firstNo
+first-early [] w = λ n. absurd (n refl)
+first-early (q ∷ qs) w = cond-case Early (q .yes) (firstNo qs) (q .number) (λ _. first-early qs (w .1)) (λ _ _. w .0)
+
+file-early : (s : List ℕ) → Early (firstNo (fileQuestions s))
+unfolding fileQuestions freshQuestions
+file-early s = first-early (fileQuestions s) (refl, (refl, (refl, tt)))
+
+step-late : (t : Table) (s : List ℕ) (room : ℕ) → Late (step t s room .answer .refusal)
+step-late t s room = elim (step-refusals t s room) [
+  | inl z ↦ inl (step-first-no t s room ∙ z)
+  | inr k ↦ inr (omega (arith, step-first-no t s room))
+]
+
+verdict-late : (p : Progress) (s : List ℕ) (room space : ℕ) → Late (verdict p s room space)
+unfolding verdict firstNo lineFits
+verdict-late p s room space =
+    let k = step (p .table) s room .answer .refusal in
+    let fits = leb (length (lineAt p s room)) (space - length (p .lines)) in
+    cond-case Late (eqb k 0) (cond fits 0 16) k (λ _. cond-case Late fits 0 16 (λ _. inl refl) (λ _. inr (omega arith))) (λ _. step-late (p .table) s room)
+
+records-late : (f : ℕ) (p : Progress) (s : List ℕ) (room space : ℕ) → Late (p .refusal) → Late (records f p s room space .refusal)
 unfolding records
-records-n zero p s room space = refl
-records-n (suc f) p [] room space = refl
-records-n (suc f) p (b ∷ s) room space =
-    advance-case p (b ∷ s) room space (λ q. cond (eqb (q .refusal) 0) (records f q (afterRecord (b ∷ s)) room space) q .table .n ≡ p .table .n)
-    (λ _. records-n f (gone p (b ∷ s) room space) (afterRecord (b ∷ s)) room space ∙ step-n (p .table) (b ∷ s) room)
-    (λ d. rw (ne-eqb (verdict p (b ∷ s) room space) 0 d))
+records-late zero p s room space h = h
+records-late (suc f) p [] room space h = h
+records-late (suc f) p (b ∷ s) room space h =
+    advance-case p (b ∷ s) room space (λ q. Late (cond (eqb (q .refusal) 0) (records f q (afterRecord (b ∷ s)) room space) q .refusal))
+    (λ _. records-late f (gone p (b ∷ s) room space) (afterRecord (b ∷ s)) room space (inl refl))
+    (λ d. rw (ne-eqb (verdict p (b ∷ s) room space) 0 d) (verdict-late p (b ∷ s) room space))
 
-progress-n : (s : List ℕ) (room space : ℕ) → progress s room space .table .n ≡ byte s 1
-unfolding progress begun fresh start
-progress-n s room space = records-n (length s) (begun (byte s 0) (byte s 1)) (drop 2 s) room space
+progress-late : (s : List ℕ) (room space : ℕ) → Late (progress s room space .refusal)
+unfolding progress begun
+progress-late s room space = records-late (length s) (begun (byte s 0) (byte s 1)) (drop 2 s) room space (inl refl)
 
 header-size : (n : ℕ) → n < 10 → length (header n) ≡ headerSize
 unfolding header
@@ -132,32 +163,34 @@ pub record Refused (s : List ℕ) (r : RunAnswer) : Type 0 where
   pub events : r .events ≡ 0
   pub refusal : r .refusal ≡ firstNo (fileQuestions s)
 
-pub record Passed (s : List ℕ) (r : RunAnswer) : Type 0 where
+pub record Passed (s : List ℕ) : Type 0 where
   pub asked : firstNo (fileQuestions s) ≡ 0
-  pub n : r .table .n ≡ byte s 1
-  pub few : r .table .n < 10
+  pub few : byte s 1 < 10
 
--- the table tells them apart
+-- the run's refusal tells them apart
 module _ (s l w : List ℕ) (r : RunAnswer) (e : r ≡ fileRun s l w .answer) where
-  passed-n : firstNo (fileQuestions s) ≡ 0 → r .table .n ≡ byte s 1
+  passed-late : firstNo (fileQuestions s) ≡ 0 → early (r .refusal) ≡ false
   unfolding ran
-  passed-n z = ap (λ (a : RunAnswer). a .table .n) e ∙ ap (λ (o : RunOutcome). o .answer .table .n) (file-run-ran s l w z) ∙ progress-n s (length w) (length l)
+  passed-late z =
+      late-not-early (r .refusal)
+      (rw (ap (λ (a : RunAnswer). a .refusal) e ∙ ap (λ (o : RunOutcome). o .answer .refusal) (file-run-ran s l w z)) (progress-late s (length w) (length l)))
 
   refused-answer : firstNo (fileQuestions s) ≢ 0 → r ≡ record { refusal = firstNo (fileQuestions s); events = 0; written = 0; table = zeroTable }
   unfolding fileRun
   refused-answer d = e ∙ ap (λ (o : RunOutcome). o .answer) (cond-false _ _ (ne-eqb (firstNo (fileQuestions s)) 0 d))
 
-  pub none-refused : r .table .n ≡ 0 → Refused s r
-  none-refused z =
-      let d : firstNo (fileQuestions s) ≢ 0 = λ q. omega (arith, passed-n q, file-allowed s q .fresh .some) in
+  pub early-refused : early (r .refusal) ≡ true → Refused s r
+  early-refused y =
+      let d : firstNo (fileQuestions s) ≢ 0 = λ q. contradiction y (passed-late q) in
       record { asked = d; events = ap (λ (a : RunAnswer). a .events) (refused-answer d); refusal = ap (λ (a : RunAnswer). a .refusal) (refused-answer d) }
 
-  pub some-passed : r .table .n ≢ 0 → Passed s r
-  unfolding zeroTable start
-  some-passed d =
+  pub late-passed : early (r .refusal) ≡ false → Passed s
+  late-passed y =
       let k = firstNo (fileQuestions s) in
-      let z = eqb-true k 0 (by-contradiction (eqb k 0) (λ y. d (ap (λ (a : RunAnswer). a .table .n) (refused-answer (eqb-false k 0 y))))) in
-      record { asked = z; n = passed-n z; few = omega (arith, passed-n z, file-allowed s z .fresh .few) }
+      let z = eqb-true k 0 (by-contradiction (eqb k 0) (λ n.
+      let d = eqb-false k 0 n in
+      contradiction (file-early s d) (ap early (sym (ap (λ (a : RunAnswer). a .refusal) (refused-answer d))) ∙ y))) in
+      record { asked = z; few = omega (arith, file-allowed s z .fresh .few) }
 
 -- THE TEXT, which was l, with x and the lines of the run in it; the run has answered r
 
@@ -190,15 +223,15 @@ has-lines s l w m j r z ll lw ej er em same =
     }
 
 -- the header line takes that place
-pub has-header : (s l t u : List ℕ) (r : RunAnswer) (q : Put) → length l ≡ textSize → Passed s r → Holds (take headerSize l) s l t r → Wrote (header (r .table .n)) t u q
+pub has-header : (s l t u : List ℕ) (r : RunAnswer) (q : Put) (n : ℕ) → n ≡ byte s 1 → length l ≡ textSize → Passed s → Holds (take headerSize l) s l t r → Wrote (header n) t u q
     → Holds (header (byte s 1)) s l u r
-has-header s l t u r q ll p h w =
-    let x = header (r .table .n) in
-    let size = header-size (r .table .n) (p .few) in
+has-header s l t u r q n en ll p h w =
+    let x = header n in
+    let size = header-size n (omega (arith, en, p .few)) in
     let front = laid-line (omega (arith, h .size)) w in
     let whole = laid-before (take headerSize l) x (lent s .lines) l t (headerSize + r .written) (length-take-le headerSize l (omega arith) ∙ sym size) (h .laid) in
     record {
-      laid = rw (← front .text, p .n) at whole;
+      laid = rw (← front .text, en) at whole;
       short = h .short;
       size = ap length (front .text) ∙ length-overlay x t (omega (arith, h .size)) ∙ h .size;
       events = h .events;

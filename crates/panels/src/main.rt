@@ -5,6 +5,7 @@ ghost use lib.ListN.{length, take};
 ghost use Rattle.model.specs.Tables.{scratchSize};
 ghost use Rattle.panels.specs.Printed.{textSize, printed};
 use model::Table;
+use model::refusal;
 
 // The bytes that stand first, all of them where there are fewer.
 fn first(bytes: &[u8], size: usize) -> &[u8]
@@ -26,19 +27,20 @@ const FOOTER: usize = 29;
 
 const TEXT: usize = HEADER + LISTING + FOOTER;
 
-// Writes what is to be printed of a file, and answers how many bytes that is. The run comes first, since its table has the number
-// of controllers: 0 if the file was refused before its first record, and then there is no header line.
+// Writes what is to be printed of a file, and answers how many bytes that is. The run comes first, since its refusal tells whether
+// there is a header line: not of a file that questions 1 to 3 refuse. The number of controllers is the file's second byte. The run's
+// table has it too, but with that read the compiler would keep a second table.
 fn report(file: &[u8], text: &mut [u8], scratch: &mut [u8]) -> usize
     requires { ⌜ (length (now text) ≡ textSize) × (length (now scratch) ≡ scratchSize) ⌝ }
     ensures { λ r. ⌜ take r (now (text .exit)) ≡ printed (now (file .entry)) ⌝ }
 {
     let run = files::run(file, &mut text[HEADER..HEADER + LISTING], scratch);
-    let n = run.table.n;
-    if n == 0 {
-        let only = listing::put_footer(text, run.events, run.refusal);
+    let number = run.refusal;
+    if (0 < number) & (number <= refusal::CONTROLLER_COUNT) {
+        let only = listing::put_footer(text, run.events, number);
         return only.written;
     }
-    listing::put_header(text, n as u8);
+    listing::put_header(text, records::byte_at(file, 1));
     let end = HEADER + run.written;
     let tail = listing::put_footer(&mut text[end..], run.events, run.refusal);
     end + tail.written

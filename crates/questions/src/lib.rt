@@ -1,14 +1,15 @@
 // Questions 8 to 14 and 17 to 20, on every table. Past the last controller the definitions read zeros; no value of the
 // type has empty arrays, so each function that reads a controller answers that case by itself. A function that indexes an
-// array of the table copies it, so each kind has the controllers read in one function.
+// array of the table copies it, so a caller hands over the controllers that it has at hand, and only a stop reads all.
 ghost use mathlib.Core.Path.{_≡_};
 ghost use mathlib.Core.Bool.{not, _&&_, _||_};
-ghost use Prim.Native.Nat.{_<_};
+ghost use Prim.Native.Nat.{_≤_, _<_};
 ghost use lib.Dec.{eqb, leb, ltb};
 ghost use lib.ListN.{getD};
 ghost use Rattle.lists.specs.Below.{all};
 ghost use Rattle.model.specs.Tables.{seats, capacity, reportKind, writeKind, noController, controllerIn, firstOf};
 ghost use Rattle.model.specs.Questions.{firstNo, ownPending, latest, synced, payloadQuestions, senderQuestions, sendQuestions, handoverQuestions, stopQuestions, readQuestions, commandQuestions};
+ghost use Rattle.questions.specs.AtHand.{orNone, AtHand};
 use model::Command;
 use model::Controller;
 use model::Event;
@@ -167,11 +168,11 @@ fn send_refusal(
     n: usize,
     count: usize,
     messages: [Message; Table::MESSAGES],
-    controllers: [Controller; Table::CONTROLLERS],
+    x: Controller,
     sender: u8,
     payload: Payload,
 ) -> u8
-    ensures { λ r. ⌜ r ≡ firstNo (sendQuestions version n (firstOf count messages) (controllerIn controllers sender) sender payload) ⌝ }
+    ensures { λ r. ⌜ r ≡ firstNo (sendQuestions version n (firstOf count messages) (orNone sender x) sender payload) ⌝ }
 {
     if !named(n, sender) {
         return refusal::CONTROLLER;
@@ -180,41 +181,32 @@ fn send_refusal(
     if refusal != 0 {
         return refusal;
     }
-    let i = numbers::predecessor(sender as usize);
-    if Table::CONTROLLERS <= i {
+    if Table::CONTROLLERS < sender as usize {
         return refusal::STOPPED;
     }
-    let x = controllers[i];
     sender_refusal(count, messages, x, sender, payload)
 }
 
 // A HANDOVER
 
-fn handover_refusal(
-    n: usize,
-    controllers: [Controller; Table::CONTROLLERS],
-    receiver: u8,
-    owner: u8,
-) -> u8
-    ensures { λ r. ⌜ r ≡ firstNo (handoverQuestions n (controllerIn controllers receiver) (controllerIn controllers owner) receiver owner) ⌝ }
+fn handover_refusal(n: usize, x: Controller, y: Controller, receiver: u8, owner: u8) -> u8
+    ensures { λ r. ⌜ r ≡ firstNo (handoverQuestions n (orNone receiver x) (orNone owner y) receiver owner) ⌝ }
 {
     if !(named(n, receiver) & named(n, owner)) {
         return refusal::CONTROLLER;
     }
-    let r = numbers::predecessor(receiver as usize);
-    let o = numbers::predecessor(owner as usize);
-    if Table::CONTROLLERS <= r {
+    if Table::CONTROLLERS < receiver as usize {
         return refusal::STOPPED;
     }
-    let flag = controllers[r].running;
+    let flag = x.running;
     if flag == 0 {
         return refusal::STOPPED;
     }
+    let o = numbers::predecessor(owner as usize);
     if Table::CONTROLLERS <= o {
         return refusal::NO_ENTRY;
     }
-    let length = controllers[o].length;
-    let x = controllers[r];
+    let length = y.length;
     let read = x.read;
     let place = read[o];
     if length <= place {
@@ -241,20 +233,14 @@ fn none_past(n: usize, controllers: [Controller; Table::CONTROLLERS], o: usize, 
     true
 }
 
-fn pick(controllers: [Controller; Table::CONTROLLERS], i: usize) -> Controller
-    requires { ⌜ i < seats ⌝ }
-    ensures { λ r. ⌜ r ≡ getD controllers i noController ⌝ }
-{
-    controllers[i]
-}
-
 fn stop_refusal(
     n: usize,
     controllers: [Controller; Table::CONTROLLERS],
+    x: Controller,
     controller: u8,
     kept: usize,
 ) -> u8
-    ensures { λ r. ⌜ r ≡ firstNo (stopQuestions n controllers controller kept) ⌝ }
+    ensures { λ r. ⌜ ((controller ≤ seats → x ≡ controllerIn controllers controller) → r ≡ firstNo (stopQuestions n controllers controller kept)) ⌝ }
 {
     if !named(n, controller) {
         return refusal::CONTROLLER;
@@ -263,7 +249,6 @@ fn stop_refusal(
     if Table::CONTROLLERS <= i {
         return refusal::STOPPED;
     }
-    let x = pick(controllers, i);
     let flag = x.running;
     if flag == 0 {
         return refusal::STOPPED;
@@ -284,19 +269,17 @@ fn read_refusal(
     n: usize,
     count: usize,
     messages: [Message; Table::MESSAGES],
-    controllers: [Controller; Table::CONTROLLERS],
+    x: Controller,
     controller: u8,
 ) -> u8
-    ensures { λ r. ⌜ r ≡ firstNo (readQuestions n (firstOf count messages) (controllerIn controllers controller) controller) ⌝ }
+    ensures { λ r. ⌜ r ≡ firstNo (readQuestions n (firstOf count messages) (orNone controller x) controller) ⌝ }
 {
     if !named(n, controller) {
         return refusal::CONTROLLER;
     }
-    let i = numbers::predecessor(controller as usize);
-    if Table::CONTROLLERS <= i {
+    if Table::CONTROLLERS < controller as usize {
         return refusal::STOPPED;
     }
-    let x = controllers[i];
     let flag = x.running;
     if flag == 0 {
         return refusal::STOPPED;
@@ -310,33 +293,26 @@ fn read_refusal(
 
 // EVERY RECORD
 
-// The first no of questions 8 to 14 and 17 to 20, in their order for each kind of record.
-pub fn refusal(t: Table, a: Command) -> u8
-    ensures { λ r. ⌜ r ≡ firstNo (commandQuestions t a) ⌝ }
+// The first no of questions 8 to 14 and 17 to 20, in their order for each kind of record. A caller has the controllers at hand that
+// the record names: x, and y whose log a handover reads.
+pub fn refusal(t: Table, x: Controller, y: Controller, a: Command) -> u8
+    ensures { λ r. ⌜ (AtHand t a x y → r ≡ firstNo (commandQuestions t a)) ⌝ }
 {
-    let controllers = t.controllers;
     match a {
         Command::Act(e) => match e {
             Event::Send { sender, payload } => {
                 let messages = t.messages;
-                send_refusal(
-                    t.version,
-                    t.n,
-                    t.count,
-                    messages,
-                    controllers,
-                    sender,
-                    payload,
-                )
+                send_refusal(t.version, t.n, t.count, messages, x, sender, payload)
             }
-            Event::Handover { receiver, owner } => {
-                handover_refusal(t.n, controllers, receiver, owner)
+            Event::Handover { receiver, owner } => handover_refusal(t.n, x, y, receiver, owner),
+            Event::Stop { controller, kept } => {
+                let controllers = t.controllers;
+                stop_refusal(t.n, controllers, x, controller, kept)
             }
-            Event::Stop { controller, kept } => stop_refusal(t.n, controllers, controller, kept),
         },
         Command::Read(controller) => {
             let messages = t.messages;
-            read_refusal(t.n, t.count, messages, controllers, controller)
+            read_refusal(t.n, t.count, messages, x, controller)
         }
     }
 }

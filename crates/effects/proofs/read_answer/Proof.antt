@@ -1,47 +1,31 @@
 -- `read_answer` gives the sums, and else what no set does. Assumes nothing.
-use mathlib.Core.Path.{refl}
-use native.Mathlib.Omega.{arith}
+use mathlib.Core.Path.{_≡_, refl, ap}
 use Rattle.model.specs.Calls.{answerOf}
+use Rattle.model.specs.declared.Sums.{Sums}
+use Rattle.model.specs.declared.Answer.{Answer}
+use Rattle.effects.specs.declared.Effect.{Effect}
 use Rattle.effects.specs.Effects.{noSet, readAnswer}
-use Rattle.effects.proofs.Seats.{seat-low}
 use borrow.Author.Needs.{needs}
 use Rattle.effects.proofs.read_answer.Statement.{statement}
 use Rattle.effects.proofs.read_answer.Tie as tie
 
-seat-requires : tie.Need-seat-requires
-seat-requires c κs = search needs
+-- no set's answer, with sums
+with-sums : (a : Answer) (z y : Sums) → a ≡ noSet 0 → z ≡ y
+    → _≡_ {A = Answer} (record { refusal = a .refusal; finished = a .finished; sums = z; size = a .size; names = a .names }) (readAnswer y)
+unfolding noSet readAnswer answerOf
+with-sums a z y e f = rw (e, f) refl
 
-mul-x : tie.Need-mul-x
-mul-x c = omega (arith, seat-low _ _ (c .seat .ensures))
-
-element-copy-out-x : tie.Need-element-copy-out-x
-element-copy-out-x c = seat-low _ _ (c .seat .ensures)
-
-sums-requires : tie.Need-sums-requires
-sums-requires c κs = search needs
-
-quiet-requires : tie.Need-quiet-requires
-quiet-requires c κs = search needs
-
-same-length : tie.Need-same-length
-same-length c = search needs
+-- from the end to the cleared scratch area
+abbrev cleared : tie.After-answer → tie.After-quiet
+cleared c = c .before .before .before
 
 returns : tie.Need-returns
-unfolding noSet readAnswer answerOf
 returns c =
-    let q = c .before .before .before in
-    let s = q .before .before in
-    let i = s .before .before in
-    record { sums-are = rw (s .sums .ensures, q .quiet .ensures .effect, i .seat .ensures) refl; clear = q .quiet .ensures .clear }
+    let q = cleared c in
+    record {
+      sums-are = with-sums _ _ _ (ap (λ (d : Effect). d .answer) (q .quiet .ensures .effect)) (q .before .before .sums .ensures);
+      clear = q .quiet .ensures .clear;
+    }
 
 pub read-answer-spec : {M : Type 1} → statement M
-read-answer-spec =
-    tie.close
-    (tie.spec
-    seat-requires
-    mul-x
-    element-copy-out-x
-    sums-requires
-    quiet-requires
-    same-length
-    returns)
+read-answer-spec = tie.close (tie.spec (λ c κs. search needs) (λ c κs. search needs) (λ c. search needs) returns)

@@ -14,8 +14,8 @@ use Rattle.effects.proofs.stored.Statement.{statement}
 use Rattle.effects.proofs.stored.Tie as tie
 
 -- PLACES: from the end to the test of the kind, and from there to the subject's index
-abbrev kind : tie.After-sent-message → tie.After-e
-kind c = c .before .before .before .before
+abbrev kind : tie.After-with-sent → tie.After-e
+kind c = c .before .before .before
 
 abbrev indexed : tie.After-e → tie.After-seat
 indexed c = c .before .before
@@ -42,32 +42,18 @@ enum-known-e c = search needs
 returns : tie.Need-returns
 returns c = record { stored = λ l. stored-else _ _ _ _ (c .match .keys2) (index (c .before) (subject-seated _ _ (l .0))) (l .1) }
 
-sub-at-most : tie.Need-sub-at-most
-sub-at-most c = search needs
-
-at-most-requires : tie.Need-at-most-requires
-at-most-requires c κs = search needs
-
-sent-message-requires : tie.Need-sent-message-requires
-sent-message-requires c κs = search needs
-
-mul-t11 : tie.Need-mul-t11
-mul-t11 c = search needs
-
-element-set-from-next : tie.Need-element-set-from-next
-element-set-from-next c = search needs
-
-add-next : tie.Need-add-next
-add-next c = search needs
+with-sent-requires : tie.Need-with-sent-requires
+with-sent-requires c κs = search needs
 
 returns-2 : tie.Need-returns-2
 unfolding subject
 returns-2 c = record {
   stored = λ l.
-      let k = kind c in
+      let w = c .before in
+      let k = kind w in
       let e = k .e .given .1 in
       let m = rw e at l in
-      rw e (stored-send _ _ _ _ _ _ m (index (indexed k) (subject-seated _ _ (l .0)) ∙ ap (λ (x : Event). subject x - 1) e) (c .before .before .at-most .ensures) _ (c .sent-message .ensures .sent _ refl (m .0) (m .1)));
+      rw e (stored-send _ _ _ _ _ (m .1) (index (indexed k) (subject-seated _ _ (l .0)) ∙ ap (λ (x : Event). subject x - 1) e) _ (w .with-sent .ensures .added _ refl (m .0) (m .1)));
 }
 
 pub stored-spec : {M : Type 1} → statement M
@@ -80,10 +66,5 @@ stored-spec =
     element-set-from-c
     enum-known-e
     returns
-    sub-at-most
-    at-most-requires
-    sent-message-requires
-    mul-t11
-    element-set-from-next
-    add-next
+    with-sent-requires
     returns-2)

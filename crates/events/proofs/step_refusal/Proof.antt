@@ -5,19 +5,19 @@ use Rattle.events.proofs.step_refusal.Statement.{statement}
 use Rattle.events.proofs.step_refusal.Tie as tie
 
 returns : tie.Need-returns
-returns c = shape-refuses _ _ _ (c .if1 .taken)
+returns c h = shape-refuses _ _ _ (c .if1 .taken)
 
 refusal-requires : tie.Need-refusal-requires
 refusal-requires c κs = search needs
 
 returns-2 : tie.Need-returns-2
-returns-2 c = event-refuses _ _ _ (c .before .before .if1 .left) _ (c .before .refusal .ensures) (c .if2 .taken)
+returns-2 c h = event-refuses _ _ _ (c .before .before .if1 .left) _ (c .before .refusal .ensures h) (c .if2 .taken)
 
 returns-3 : tie.Need-returns-3
-returns-3 c = let d = c .before .before in room-refuses _ _ _ (d .before .if1 .left) _ (d .refusal .ensures) (c .before .if2 .left) (c .if3 .taken)
+returns-3 c h = let d = c .before .before in room-refuses _ _ _ (d .before .if1 .left) _ (d .refusal .ensures h) (c .before .if2 .left) (c .if3 .taken)
 
 returns-4 : tie.Need-returns-4
-returns-4 c = let d = c .before .before in none-refuses _ _ _ (d .before .if1 .left) _ (d .refusal .ensures) (c .before .if2 .left) (c .if3 .left)
+returns-4 c h = let d = c .before .before in none-refuses _ _ _ (d .before .if1 .left) _ (d .refusal .ensures h) (c .before .if2 .left) (c .if3 .left)
 
 pub step-refusal-spec : {M : Type 1} → statement M
 step-refusal-spec = tie.close (tie.spec returns refusal-requires returns-2 returns-3 returns-4)

@@ -1,11 +1,11 @@
 -- `run_records` carries out the records of a file. The loop's invariant is `Running`, and its measure the bytes left.
 -- Assumes nothing.
 use mathlib.Core.Path.{_≡_, refl, sym, ap, subst, _∙_}
-use Prim.Native.Nat.{_<_}
+use Prim.Native.Nat.{ℕ, _<_}
 use native.Mathlib.Omega.{arith}
-use lib.ListN.{length}
+use lib.ListN.{length, getD}
 use denote.Ref.{now}
-use Rattle.model.specs.Tables.{seats}
+use Rattle.model.specs.Tables.{seats, noController}
 use Rattle.model.specs.Events.{subject}
 use Rattle.model.specs.Records.{decode}
 use Rattle.model.specs.declared.Event.{Event}
@@ -13,14 +13,13 @@ use Rattle.model.specs.declared.Event.the-variants.{Send}
 use Rattle.model.specs.declared.Command.{Command}
 use Rattle.model.specs.declared.Command.the-variants.{Act}
 use Rattle.records.specs.Cuts.{recordOf}
-use Rattle.effects.specs.Parties.{seatOf}
+use Rattle.effects.specs.Parties.{seatOf, indicesOf}
 use Rattle.effects.specs.Effects.{Leaves}
-use Rattle.effects.proofs.Room.{Sendable, sendable}
-use Rattle.effects.proofs.Seats.{allowed-at}
+use Rattle.effects.proofs.Seats.{indices-low}
 use Rattle.events.proofs.QuestionOrder.{command-read}
 use Rattle.files.specs.declared.Ahead.{Ahead}
-use Rattle.files.specs.Turns.{seatsOf, aheadOf}
-use Rattle.files.proofs.OneRecord.{seats-low, turn-leaves}
+use Rattle.files.specs.Turns.{aheadOf}
+use Rattle.files.proofs.OneRecord.{turn-leaves}
 use Rattle.files.proofs.StoredRecord.{read-stays, event-stored, send-stored}
 use Rattle.files.proofs.RecordLoop.{Running, run-begins, run-before, run-ends, run-further, run-goes-on, scratch-size}
 use borrow.Author.Needs.{needs}
@@ -35,7 +34,7 @@ abbrev μ-loop : tie.MeasureT-loop
 μ-loop bytes listing₀ scratch₀ table₀ left₀ cursor₀ listing scratch table left cursor = length left
 
 -- PLACES: from after the message to the event, the subject stored, the command, the verdict, the bytes left and the turn
-abbrev kind : tie.After-sent-message Inv-loop μ-loop → tie.After-e Inv-loop μ-loop
+abbrev kind : tie.After-with-sent Inv-loop μ-loop → tie.After-e Inv-loop μ-loop
 kind c = c .before .before .before
 
 abbrev kept : tie.After-e Inv-loop μ-loop → tie.After-c Inv-loop μ-loop
@@ -79,17 +78,17 @@ found-is c = ap (λ (a : Ahead). a .found) (c .look-ahead .ensures)
 command-is : (c : tie.After-look-ahead Inv-loop μ-loop) → c .look-ahead .result .found .command ≡ decode (inside c .loop .table .version) (inside c .loop .left .now)
 command-is c = command-read _ _ _ (found-is c)
 
-subject-at : (c : tie.After-look-ahead Inv-loop μ-loop) → c .look-ahead .result .subject ≡ seatsOf (decode (inside c .loop .table .version) (inside c .loop .left .now)) .0
+subject-at : (c : tie.After-look-ahead Inv-loop μ-loop) → c .look-ahead .result .subject ≡ indicesOf (decode (inside c .loop .table .version) (inside c .loop .left .now)) .subject
 unfolding aheadOf
 subject-at c = ap (λ (a : Ahead). a .subject) (c .look-ahead .ensures)
 
-owner-at : (c : tie.After-look-ahead Inv-loop μ-loop) → c .look-ahead .result .owner ≡ seatsOf (decode (inside c .loop .table .version) (inside c .loop .left .now)) .1
+owner-at : (c : tie.After-look-ahead Inv-loop μ-loop) → c .look-ahead .result .owner ≡ indicesOf (decode (inside c .loop .table .version) (inside c .loop .left .now)) .owner
 unfolding aheadOf
 owner-at c = ap (λ (a : Ahead). a .owner) (c .look-ahead .ensures)
 
 indices : (c : tie.After-look-ahead Inv-loop μ-loop) → (c .look-ahead .result .subject < seats) × (c .look-ahead .result .owner < seats)
 indices c =
-    let h = seats-low (decode (inside c .loop .table .version) (inside c .loop .left .now)) in
+    let h = indices-low (decode (inside c .loop .table .version) (inside c .loop .left .now)) in
     (omega (arith, subject-at c, h .0), omega (arith, owner-at c, h .1))
 
 -- of an event: what it is, what the turn leaves of its subject, and the subject's index
@@ -101,17 +100,14 @@ leaves : (c : tie.After-command Inv-loop μ-loop) → let d = turned (went c) in
 leaves c = turn-leaves (turned (went c) .turn .ensures) (went c .if1 .left) _ (event-is c)
 
 seat : (c : tie.After-command Inv-loop μ-loop) → ahead (turned (went c)) .look-ahead .result .subject ≡ seatOf (subject (c .command .given .0 .0))
-unfolding seatsOf
-seat c = subject-at (ahead (turned (went c))) ∙ ap (λ (a : Command). seatsOf a .0) (event-is c)
+unfolding indicesOf
+seat c = subject-at (ahead (turned (went c))) ∙ ap (λ (a : Command). indicesOf a .subject) (event-is c)
 
 sends : (c : tie.After-e Inv-loop μ-loop)
     → let d = turned (went (commanded (kept c))) in Leaves (loop d .loop .table) (Send (c .e .given .0 .0) (c .e .given .0 .1 .0)) (d .turn .result .controller)
 sends c =
     let d = turned (went (commanded (kept c))) in
     subst (λ (x : Event). Leaves (loop d .loop .table) x (d .turn .result .controller)) (c .e .given .1) (leaves (commanded (kept c)))
-
-room : (c : tie.After-e Inv-loop μ-loop) → Sendable (loop (turned (went (commanded (kept c)))) .loop .table) (c .e .given .0 .0) (c .e .given .0 .1 .0)
-room c = sendable _ _ _ (sends c .0)
 
 -- fewer bytes are left
 fewer : (c : tie.After-rest2 Inv-loop μ-loop) → length (now (c .rest2 .result)) < length (loop (done c) .loop .left .now)
@@ -149,13 +145,13 @@ element-copy-out-y : tie.Need-element-copy-out-y Inv-loop μ-loop
 element-copy-out-y c = indices (c .before .before) .1
 
 turn-requires : tie.Need-turn-requires Inv-loop μ-loop
-unfolding seatsOf
 turn-requires c κs =
     let k = looked c in (
       run-before _ _ _ _ _ _ _ _ (inside k .loop .inv),
       record {
         record-is = found-is k;
-        allowed = λ e q a. allowed-at _ e a _ _ (subject-at k ∙ ap (λ (x : Command). seatsOf x .0) q) (owner-at k ∙ ap (λ (x : Command). seatsOf x .1) q);
+        subject-is = ap (λ (i : ℕ). getD (inside k .loop .table .controllers) i noController) (subject-at k);
+        owner-is = ap (λ (i : ℕ). getD (inside k .loop .table .controllers) i noController) (owner-at k);
       },
     )
 
@@ -208,30 +204,22 @@ loop-again-3 c =
     (λ _. event-stored _ _ _ (event-is k) _ (seat k) _ (leaves k) (c .match2 .keys2))
     (λ n. absurd (n (g .if1 .left)))
 
-sent-message-requires : tie.Need-sent-message-requires Inv-loop μ-loop
-sent-message-requires c κs = search needs
-
-mul-t25 : tie.Need-mul-t25 Inv-loop μ-loop
-mul-t25 c = omega (arith, room (kind c) .slot)
-
-element-set-from-table : tie.Need-element-set-from-table Inv-loop μ-loop
-element-set-from-table c = room (kind c) .slot
-
-add-table : tie.Need-add-table Inv-loop μ-loop
-add-table c = omega (arith, room (kind c) .slot)
+with-sent-requires : tie.Need-with-sent-requires Inv-loop μ-loop
+with-sent-requires c κs = search needs
 
 loop-less-4 : tie.Need-loop-less-4 Inv-loop μ-loop
-loop-less-4 c = fewer (went (commanded (kept (kind c))) .before)
+loop-less-4 c = fewer (went (commanded (kept (kind (c .before)))) .before)
 
 loop-again-4 : tie.Need-loop-again-4 Inv-loop μ-loop
 loop-again-4 c =
-    let e = kind c in
+    let w = c .before in
+    let e = kind w in
     let k = commanded (kept e) in
     let g = went k in
     let d = turned g in
     let x = sends e in
     run-goes-on _ _ _ _ _ _ _ _ (loop d .loop .inv) (some d .loop-test .taken) _ _ _ (d .turn .ensures) _ (g .before .rest2 .ensures) _
-    (λ _. send-stored _ _ _ (event-is k) _ (seat k) _ (leaves k) _ _ (e .e .given .1) _ (c .sent-message .ensures .sent _ refl (x .0) (x .1)))
+    (λ _. send-stored _ _ _ (event-is k) _ (seat k) _ (leaves k) _ _ (e .e .given .1) _ (w .with-sent .ensures .added _ refl (x .0) (x .1)))
     (λ n. absurd (n (g .if1 .left)))
 
 answered-requires : tie.Need-answered-requires Inv-loop μ-loop
@@ -274,10 +262,7 @@ run-records-spec =
     enum-known-e
     loop-less-3
     loop-again-3
-    sent-message-requires
-    mul-t25
-    element-set-from-table
-    add-table
+    with-sent-requires
     loop-less-4
     loop-again-4
     answered-requires

@@ -17,7 +17,7 @@ use Rattle.effects.specs.Conditions.{Accepted}
 use Rattle.effects.specs.Parties.{Allowed}
 use Rattle.events.specs.Stepped.{refusalOf}
 use Rattle.events.proofs.QuestionOrder.{command-read, used-read, refusal-is, enough, allowed}
-use Rattle.files.proofs.OneRecord.{sums-answered, turn-refused, turn-read, turn-full, written-within, turn-listed}
+use Rattle.files.proofs.OneRecord.{found-hand, found-allowed, sums-answered, turn-refused, turn-read, turn-full, written-within, turn-listed}
 use borrow.Author.Needs.{needs}
 use Rattle.files.proofs.turn.Statement.{statement}
 use Rattle.files.proofs.turn.Tie as tie
@@ -70,7 +70,7 @@ command-is s = command-read _ _ _ (record-is s)
 first-no-is : (c : tie.After-step-refusal) → let s = start c in c .step-refusal .result ≡ firstNo (stepQuestions (s .args .t) (bytes s) (room s))
 first-no-is c =
     let s = start c in
-    c .step-refusal .ensures ∙ (ap (λ (r : Record). refusalOf (s .args .t) r (room s)) (record-is s) ∙ refusal-is (s .args .t) (bytes s) (room s))
+    c .step-refusal .ensures (found-hand (s .pre .1)) ∙ (ap (λ (r : Record). refusalOf (s .args .t) r (room s)) (record-is s) ∙ refusal-is (s .args .t) (bytes s) (room s))
 
 passed : (c : tie.Else1) → let s = begin c in firstNo (stepQuestions (s .args .t) (bytes s) (room s)) ≡ 0
 passed c = sym (first-no-is (c .before)) ∙ c .if1 .left
@@ -86,7 +86,7 @@ accepted : (c : tie.After-command) → Accepted (begin (asked c) .args .t) (c .c
 accepted c = let k = asked c in allowed _ _ _ (begin k .pre .0 .formed) (passed k) _ (event-is c)
 
 permitted : (c : tie.After-command) → let s = begin (asked c) in Allowed (s .args .t) (c .command .given .0 .0) (s .args .x) (s .args .y)
-permitted c = begin (asked c) .pre .1 .allowed _ (event-is c) (accepted c)
+permitted c = found-allowed (begin (asked c) .pre .1) _ (event-is c) (accepted c)
 
 roomy : (c : tie.After-command) → scratchSize ≤ room (begin (asked c))
 roomy c = let k = asked c in enough _ _ _ (begin k .pre .0 .formed) (passed k)

@@ -8,7 +8,7 @@ use borrow.Rule.Slice.PartMut.{putMid, same-len-mid}
 use Rattle.model.specs.Records.{byte}
 use Rattle.model.specs.Runs.{header}
 use Rattle.panels.specs.Printed.{headerSize, listingSize, textSize}
-use Rattle.panels.proofs.Printing.{none-refused, Passed, some-passed, Holds, has-lines, has-header, HasEnd, has-end, only-end}
+use Rattle.panels.proofs.Printing.{early-refused, Passed, late-passed, Holds, has-lines, has-header, HasEnd, has-end, only-end}
 use borrow.Author.Needs.{needs}
 use Rattle.panels.proofs.report.Statement.{statement}
 use Rattle.panels.proofs.report.Tie as tie
@@ -19,7 +19,7 @@ abbrev headed : tie.After-struct-known → tie.After-put-header
 headed c = c .before .before .before
 
 abbrev else : tie.After-put-header → tie.Else1
-else c = c .before .before
+else c = c .before .before .before
 
 abbrev ran : tie.After-slice-known4 → tie.After-text
 ran c = c .before .before .before
@@ -38,8 +38,8 @@ linesText c = putMid headerSize part (start c .args .text .now) (c .before .run 
 lines-size : (c : tie.After-text) → length (linesText c) ≡ textSize
 lines-size c = same-len-mid headerSize part (start c .args .text .now) (c .before .run .last .1 .0) (c .text .given .0) ∙ start c .pre .0
 
-passed : (c : tie.Else1) → let t = ran (c .before) in Passed (start t .args .file .now) (t .before .run .result)
-passed c = some-passed _ _ _ _ (ran (c .before) .before .run .ensures .outcome) (c .if1 .left)
+passed : (c : tie.Else1) → let t = ran (c .before) in Passed (start t .args .file .now)
+passed c = late-passed _ _ _ _ (ran (c .before) .before .run .ensures .outcome) (c .if1 .left)
 
 with-lines : (c : tie.Else1)
     → let t = ran (c .before) in
@@ -58,7 +58,7 @@ with-header : (c : tie.After-put-header)
 with-header c =
     let e = else c in
     let s = start (ran (e .before)) in
-    has-header (s .args .file .now) (s .args .text .now) _ _ _ _ (s .pre .0) (passed e) (with-lines e) (c .put-header .ensures)
+    has-header (s .args .file .now) (s .args .text .now) _ _ _ _ _ (c .before .byte-at .ensures) (s .pre .0) (passed e) (with-lines e) (c .put-header .ensures)
 
 -- where the end line begins
 abbrev linesEnd : tie.After-put-header → ℕ
@@ -111,10 +111,10 @@ returns c =
     let t = ran (then .before) in
     let fields = t .before .run .ok .1 .1 in
     only-end (start t .args .file .now) (linesText t) _ _ _ (lines-size t) (fields .1 .0 .1) (fields .0 .1)
-    (none-refused _ _ _ _ (t .before .run .ensures .outcome) (then .if1 .taken)) (put .put-footer .ensures)
+    (early-refused _ _ _ _ (t .before .run .ensures .outcome) (then .if1 .taken)) (put .put-footer .ensures)
 
-cast-put-header : tie.Need-cast-put-header
-cast-put-header c = omega (arith, passed (c .before) .few)
+byte-at-requires : tie.Need-byte-at-requires
+byte-at-requires c κs = search needs
 
 put-header-requires : tie.Need-put-header-requires
 put-header-requires c κs = search needs
@@ -161,7 +161,7 @@ report-spec =
     same-length
     same-length-2
     returns
-    cast-put-header
+    byte-at-requires
     put-header-requires
     add-end
     sub-put-footer

@@ -1,25 +1,20 @@
 -- The questions of a report, sync or write, in order. Assumes nothing.
 use mathlib.Core.Path.{_≡_, sym, _∙_}
 use mathlib.Core.Bool.{true}
-use lib.ListN.{length}
 use borrow.Author.Needs.{needs}
 use Prim.Native.Nat.{ℕ}
-use Rattle.model.specs.Tables.{seats, controllerIn}
 use Rattle.model.specs.Fair.{named}
 use Rattle.model.specs.Questions.{firstNo, payloadQuestions, senderQuestions, sendQuestions}
 use Rattle.model.specs.declared.Payload.{Payload}
 use Rattle.model.proofs.Allowed.{Numbered, none, more}
 use Rattle.questions.proofs.Answers.{seen-yes, seen-no, first-refused, first-passed}
-use Rattle.questions.proofs.Controllers.{controller-past}
+use Rattle.questions.proofs.Controllers.{none-here, some-here}
 use Rattle.questions.proofs.send_refusal.Statement.{statement}
 use Rattle.questions.proofs.send_refusal.Tie as tie
 
 -- from after the questions of the payload to the entry
 abbrev entered : tie.After-payload-refusal → tie.Start
 entered c = c .before .before .before
-
-long : (c : tie.After-payload-refusal) → length (entered c .args .t5) ≡ seats
-long c = entered c .good .1 .1 .1 .1 .0 .1 .0 .1
 
 sender-named : (c : tie.After-payload-refusal) → named (entered c .args .n) (entered c .args .sender) ≡ true
 unfolding named
@@ -43,18 +38,19 @@ returns-2 c =
 returns-3 : tie.Need-returns-3
 unfolding firstNo sendQuestions senderQuestions
 returns-3 c =
-    let i = c .before in
-    let p = i .before .before in
-    let e = sym (p .payload-refusal .ensures) ∙ i .before .if2 .left in
-    rw (sender-named p, first-passed (payload-numbered _ _) _ e, controller-past _ (long p) _ (i .predecessor .ensures) (c .if3 .taken))
+    let q = c .before in
+    let p = q .before in
+    let e = sym (p .payload-refusal .ensures) ∙ q .if2 .left in
+    rw (sender-named p, first-passed (payload-numbered _ _) _ e, none-here _ _ (c .if3 .taken))
 
 returns-4 : tie.Need-returns-4
-unfolding firstNo sendQuestions controllerIn
+unfolding firstNo sendQuestions
 returns-4 c =
-    let i = c .before .before .before in
-    let p = i .before .before in
-    let e = sym (p .payload-refusal .ensures) ∙ i .before .if2 .left in
-    rw (sender-named p, first-passed (payload-numbered _ _) _ e, ← i .predecessor .ensures) (c .sender-refusal .ensures)
+    let k = c .before in
+    let q = k .before in
+    let p = q .before in
+    let e = sym (p .payload-refusal .ensures) ∙ q .if2 .left in
+    rw (sender-named p, first-passed (payload-numbered _ _) _ e, some-here _ _ (k .if3 .left)) (c .sender-refusal .ensures)
 
 pub send-refusal-spec : {M : Type 1} → statement M
 send-refusal-spec =
@@ -64,9 +60,6 @@ send-refusal-spec =
     returns
     (λ c κs. search needs)
     returns-2
-    (λ c κs. search needs)
     returns-3
-    (λ c. search needs)
-    (λ c. search needs)
     (λ c κs. search needs)
     returns-4)

@@ -1,7 +1,7 @@
 -- The questions of a stop, in order. Assumes nothing.
 use mathlib.Core.Path.{_≡_}
 use mathlib.Core.Bool.{true}
-use Prim.Native.Nat.{ℕ, suc, _-_}
+use Prim.Native.Nat.{ℕ, suc, _-_, _≤_, _<_}
 use native.Mathlib.Omega.{arith}
 use lib.ListN.{length}
 use borrow.Author.Needs.{needs}
@@ -19,7 +19,7 @@ abbrev entered : tie.After-predecessor → tie.Start
 entered c = c .before .before .before
 
 abbrev indexed : tie.Else3 → tie.After-predecessor
-indexed c = c .before .before .before
+indexed c = c .before .before
 
 long : (c : tie.After-predecessor) → length (entered c .args .controllers) ≡ seats
 long c = entered c .good .1 .0 .1 .0 .1
@@ -31,45 +31,50 @@ controller-named c = seen-yes (c .before .before .named .ensures) (c .before .if
 index-suc : (r : ℕ) → suc r - 1 ≡ r
 index-suc r = omega arith
 
+-- the number, where its index is that of a controller
+within : (c i : ℕ) → i ≡ c - 1 → i < seats → c ≤ seats
+within c i e h = omega (arith, e, h)
+
+-- the controller at hand is the one of the array
+here : (c : tie.Else2) → let a = entered (c .before) .args in (a .controller ≤ seats → a .x ≡ controllerIn (a .controllers) (a .controller)) → a .x ≡ controllerIn (a .controllers) (a .controller)
+here c h = h (within _ _ (c .before .predecessor .ensures) (c .if2 .left))
+
 returns : tie.Need-returns
 unfolding firstNo stopQuestions named
-returns c = rw (seen-no (c .before .named .ensures) (c .if1 .taken))
+returns c h = rw (seen-no (c .before .named .ensures) (c .if1 .taken))
 
 returns-2 : tie.Need-returns-2
 unfolding firstNo stopQuestions
-returns-2 c = let k = c .before in rw (controller-named k, controller-past _ (long k) _ (k .predecessor .ensures) (c .if2 .taken))
+returns-2 c h = let k = c .before in rw (controller-named k, controller-past _ (long k) _ (k .predecessor .ensures) (c .if2 .taken))
 
 returns-3 : tie.Need-returns-3
-unfolding firstNo stopQuestions controllerIn
-returns-3 c =
-    let p = c .before in
-    let k = p .before .before in
-    rw (controller-named k, ← k .predecessor .ensures, ← p .pick .ensures, c .if3 .taken)
+unfolding firstNo stopQuestions
+returns-3 c h = let k = c .before in rw (controller-named (k .before), ← here k h, c .if3 .taken)
 
 returns-4 : tie.Need-returns-4
-unfolding firstNo stopQuestions keepable controllerIn
-returns-4 c =
+unfolding firstNo stopQuestions keepable
+returns-4 c h =
     let a = c .before in
     let k = indexed a in
-    rw (controller-named k, ← k .predecessor .ensures, ← a .before .pick .ensures, runs (a .if3 .left), lt-leb _ _ (c .if4 .taken))
+    rw (controller-named k, ← here (a .before) h, runs (a .if3 .left), lt-leb _ _ (c .if4 .taken))
 
 returns-5 : tie.Need-returns-5
 unfolding firstNo stopQuestions keepable controllerIn
-returns-5 c =
+returns-5 c h =
     let l = c .before .before in
     let a = l .before in
     let k = indexed a in
     let e = seen-no (c .before .none-past .ensures) (c .if5 .taken) in
-    simp index-suc (rw (controller-named k, ← k .predecessor .ensures, ← a .before .pick .ensures, runs (a .if3 .left), le-leb _ _ (l .if4 .left), e))
+    simp index-suc (rw (controller-named k, ← here (a .before) h, ← k .predecessor .ensures, runs (a .if3 .left), le-leb _ _ (l .if4 .left), e))
 
 returns-6 : tie.Need-returns-6
 unfolding firstNo stopQuestions keepable controllerIn
-returns-6 c =
+returns-6 c h =
     let l = c .before .before in
     let a = l .before in
     let k = indexed a in
     let e = seen-yes (c .before .none-past .ensures) (c .if5 .left) in
-    simp index-suc (rw (controller-named k, ← k .predecessor .ensures, ← a .before .pick .ensures, runs (a .if3 .left), le-leb _ _ (l .if4 .left), e))
+    simp index-suc (rw (controller-named k, ← here (a .before) h, ← k .predecessor .ensures, runs (a .if3 .left), le-leb _ _ (l .if4 .left), e))
 
 pub stop-refusal-spec : {M : Type 1} → statement M
 stop-refusal-spec =
@@ -79,7 +84,6 @@ stop-refusal-spec =
     returns
     (λ c κs. search needs)
     returns-2
-    (λ c κs. search needs)
     returns-3
     returns-4
     (λ c κs. search needs)
