@@ -107,6 +107,11 @@ impl Ledger {
         }
     }
 
+    /// How many controllers the list has.
+    pub fn n(&self) -> usize {
+        self.n
+    }
+
     /// What is wrong with the list so far, if anything.
     pub fn broken(&self) -> Option<&str> {
         self.broken.as_deref()
