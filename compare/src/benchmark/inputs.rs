@@ -151,8 +151,8 @@ pub fn waiting_table(read: &Table) -> (Table, Pair) {
     (t, pair)
 }
 
-/// Seven controllers, of which the first has sent 64 reports, and nothing is handed over; and the handovers by which the
-/// dispatcher alone brings them everywhere, as records.
+/// Seven controllers, of which the first has sent 64 reports, and nothing is handed over; and the handovers by which
+/// the dispatcher alone brings them everywhere, as records.
 pub fn sixty_four_sent() -> (Table, Vec<Vec<u8>>) {
     let (mut state, mut last, mut records) = (State::fresh(1, 7), Pair { receiver: 7, owner: 7 }, vec![]);
     (0..MAX_MESSAGES).for_each(|_| assert_eq!(follow(&mut state, &report(1, 1), SCRATCH), 0));

@@ -107,6 +107,11 @@ impl Ledger {
         }
     }
 
+    /// How many controllers the list has.
+    pub fn n(&self) -> usize {
+        self.n
+    }
+
     /// What is wrong with the list so far, if anything.
     pub fn broken(&self) -> Option<&str> {
         self.broken.as_deref()
@@ -162,8 +167,8 @@ impl Ledger {
         self.ending();
     }
 
-    /// A call of the dispatcher: the pair that it names, whether it is lent enough scratch, and its answer. Pair 0, 0 is
-    /// "none". What it serves is a handover as any other.
+    /// A call of the dispatcher: the pair that it names, whether it is lent enough scratch, and its answer. Pair 0, 0
+    /// is "none". What it serves is a handover as any other.
     pub fn dispatch(&mut self, named: Pair, enough: bool, number: u8, pair: Pair, set: &[Name], figures: Figures) {
         let plain = pair == (0, 0) && set.is_empty() && (figures.finished, figures.sums) == (0, (0, 0));
         if number != 0 {

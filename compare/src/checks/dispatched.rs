@@ -1,5 +1,6 @@
-//! What is promised of the dispatcher over one list of calls, from arguments and answers alone: it is fair, its handovers
-//! are bounded, and "none" is the end. The ledger says which entries wait; here stand the handovers and their order.
+//! What is promised of the dispatcher over one list of calls, from arguments and answers alone: it is fair, its
+//! handovers are bounded, and "none" is the end. The ledger says which entries wait; here stand the handovers and their
+//! order.
 
 use super::demand3::Pair;
 use std::collections::VecDeque;
@@ -7,8 +8,8 @@ use std::collections::VecDeque;
 /// The most handovers of a list: 64 entries of each of 7 logs, each read by 7 controllers.
 pub const MOST_HANDOVERS: usize = 64 * 7 * 7;
 
-/// An entry that waits: the pair for whose receiver, which runs, it is the next of the owner's log, and its place there,
-/// from 0.
+/// An entry that waits: the pair for whose receiver, which runs, it is the next of the owner's log, and its place
+/// there, from 0.
 pub type Waiting = (Pair, usize);
 
 /// A moment right before a handover of the dispatcher: how many it had made in the list, how many were made in all, and
@@ -101,8 +102,8 @@ impl Dispatched {
         self.moments.push_back(Moment { made: self.tally.made, handovers: self.handovers, waiting });
     }
 
-    /// The moment after it. Once n x n handovers were made since an earlier moment, all that waited there has been read.
-    /// `read` says how many entries of a pair's log its receiver has read by now.
+    /// The moment after it. Once n x n handovers were made since an earlier moment, all that waited there has been
+    /// read. `read` says how many entries of a pair's log its receiver has read by now.
     pub fn after(&mut self, pair: Pair, read: impl Fn(Pair) -> usize) -> Result<(), String> {
         self.tally.made += 1;
         self.last = Some(pair);
@@ -113,7 +114,8 @@ impl Dispatched {
         let unread = waiting.iter().find(|(pair, place)| read(*pair) <= *place);
         if let Some(((r, o), place)) = unread {
             return Err(format!(
-                "unfair: entry {} of log {o} waited for {r} before handover {} of the dispatcher, and waits after handover {}",
+                "unfair: entry {} of log {o} waited for {r} before handover {} of the dispatcher, \
+                 and waits after handover {}",
                 place + 1,
                 made + 1,
                 self.tally.made

@@ -1,5 +1,5 @@
 //! The calls of a case put to one engine, and its answers to the checker of demand 3. Wherever the ending speaks, looks
-//! and local reads are added.
+//! and local reads are added, and at the end of a list the dispatcher goes on alone.
 
 use super::demand3::{Figures, Ledger};
 use super::side::{numbers, register, set, sums, Lent, Side};
@@ -7,7 +7,7 @@ use crate::cases::records::local_read;
 use crate::cases::{Call, Case, Head};
 use crate::engines::Engine;
 use crate::reference::SCRATCH;
-use furnacejade::{DispatchAnswer, LookAnswer, RefusalNumber, Table};
+use furnacejade::{DispatchAnswer, LookAnswer, Pair, RefusalNumber, Table};
 
 /// The ledger and the table with which a list begins, if the head gives one.
 fn list_head(case: &Case, engine: &dyn Engine) -> Option<(Ledger, Table)> {
@@ -35,7 +35,7 @@ pub fn keeps_demand3(case: &Case, engine: &dyn Engine) -> Result<(), String> {
 }
 
 /// The ledger of a case over the answers of one engine, up to the first call that breaks demand 3. Wherever the ending
-/// speaks, looks and local reads are added to the list.
+/// speaks, looks and local reads are added to the list, and after it calls of the dispatcher.
 pub fn ledger_of(case: &Case, engine: &dyn Engine) -> Option<Ledger> {
     let (mut ledger, table) = list_head(case, engine)?;
     let mut side = Side { engine, table };
@@ -66,14 +66,37 @@ pub fn ledger_of(case: &Case, engine: &dyn Engine) -> Option<Ledger> {
                 let names = [asked.first, asked.second].map(|x| (x.sender as usize, x.number.0 as usize));
                 ledger.count(asked.controller, names, answer.refusal.0, answer.count);
             }
-            Some(Call::Dispatch { named, scratch }) => {
-                let DispatchAnswer { pair, answer } = side.dispatch(*named, *scratch).answer;
-                let figures = Figures { finished: answer.finished, sums: sums(answer.sums) };
-                let (named, enough) = (numbers(*named), *scratch >= SCRATCH);
-                ledger.dispatch(named, enough, answer.refusal.0, numbers(pair), &set(&answer), figures);
-            }
-            None => {}
+            Some(Call::Dispatch { named, scratch }) => _ = dispatch(&mut ledger, &mut side, *named, *scratch),
+            None => go_on(&mut ledger, &mut side, case),
         }
     }
     Some(ledger)
+}
+
+/// A call of the dispatcher. Answers the pair that it served.
+fn dispatch(ledger: &mut Ledger, side: &mut Side, named: Pair, scratch: usize) -> Pair {
+    let DispatchAnswer { pair, answer } = side.dispatch(named, scratch).answer;
+    let figures = Figures { finished: answer.finished, sums: sums(answer.sums) };
+    let enough = scratch >= SCRATCH;
+    ledger.dispatch(numbers(named), enough, answer.refusal.0, numbers(pair), &set(&answer), figures);
+    pair
+}
+
+/// A list with calls of the dispatcher goes on with two rounds of it alone, or to "none". Each call names the pair that
+/// the engine itself answered, which no case can say beforehand.
+fn go_on(ledger: &mut Ledger, side: &mut Side, case: &Case) {
+    let (calls, n) = (case.calls.len(), ledger.n());
+    if !case.calls.iter().any(|call| matches!(call, Call::Dispatch { .. })) {
+        return;
+    }
+    let mut last = Pair { receiver: n, owner: n };
+    for further in 1..=2 * n * n {
+        last = dispatch(ledger, side, last, SCRATCH);
+        if ledger.broken().is_some() {
+            return ledger.name_place(calls + further);
+        }
+        if last == Pair::BLANK {
+            return;
+        }
+    }
 }

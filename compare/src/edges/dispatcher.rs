@@ -192,8 +192,8 @@ fn drive(s: &mut Script, ledger: &mut Ledger, from: Pair) -> Result<usize, Strin
     }
 }
 
-/// The most handovers that there are: 64 reports of one sender before any handover, and the dispatcher alone. All panels
-/// then show all of them.
+/// The most handovers that there are: 64 reports of one sender before any handover, and the dispatcher alone. All
+/// panels then show all of them.
 fn most(engine: &dyn Engine) -> Result<(), String> {
     for (n, handovers) in [(1, 64), (2, 256), (3, 576), (7, MOST_HANDOVERS)] {
         let (mut s, mut ledger) = (Script::fresh(engine, 1, n), Ledger::new(1, n));

@@ -1,5 +1,5 @@
-//! Random cases with calls of the dispatcher: chains in which each names the pair of the one before it, with other calls
-//! in between; runs that it drives to "none", with stops and without; and calls that name anything.
+//! Random cases with calls of the dispatcher: chains in which each names the pair of the one before it, with other
+//! calls in between; runs that it drives to "none", with stops and without; and calls that name anything.
 
 use super::files::legal_file;
 use super::odd::{any_calls, any_pair, any_scratch, any_version, as_calls};

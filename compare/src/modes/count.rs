@@ -37,9 +37,9 @@ struct Counts {
     dispatched: dispatched::Tally,
 }
 
-/// How many calls of the dispatcher served a pair: that of a stopped owner, the one named, one that applies a set and one
-/// that finishes a sync; how many had to pass over a stopped receiver that has something unread, and how many said "none"
-/// with too little scratch.
+/// How many calls of the dispatcher served a pair: that of a stopped owner, the one named, one that applies a set and
+/// one that finishes a sync; how many had to pass over a stopped receiver that has something unread, and how many said
+/// "none" with too little scratch.
 #[derive(Default)]
 struct Served {
     all: usize,

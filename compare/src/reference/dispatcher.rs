@@ -1,5 +1,5 @@
-//! The dispatcher: it goes round all pairs of receiver and log owner, beginning after the pair that its caller names, and
-//! carries out the first handover that is left.
+//! The dispatcher: it goes round all pairs of receiver and log owner, beginning after the pair that its caller names,
+//! and carries out the first handover that is left.
 
 use super::*;
 
@@ -37,8 +37,8 @@ impl State {
         reader.running && reader.read[owner - 1] < owned.log.len()
     }
 
-    /// Question 8, put to both numbers of the pair named; then the pair that is served, if there is one; and question 15
-    /// only if there is.
+    /// Question 8, put to both numbers of the pair named; then the pair that is served, if there is one; and question
+    /// 15 only if there is.
     fn served(&self, named: Pair, scratch: usize) -> Result<Option<Pair>, u8> {
         let known = |c: usize| (1..=self.n).contains(&c);
         first_no(&[(8, known(named.receiver) && known(named.owner))])?;
