@@ -151,17 +151,14 @@ pub fn dispatch(t: Table, receiver: usize, owner: usize, scratch: &mut [u8]) -> 
     if r == 0 {
         return unserved(t, chosen.refusal);
     }
-    let to = r as u8;
-    let from = pair.owner as u8;
     let e = Event::Handover {
-        receiver: to,
-        owner: from,
+        receiver: r as u8,
+        owner: pair.owner as u8,
     };
     let p = effects::both(t, e);
     let x = p.subject;
     let y = p.owner;
-    let messages = t.messages;
-    let done = effects::hand_over(t.n, t.count, messages, x, y, to, from, scratch);
+    let done = effects::carry_out(t, x, y, e, scratch);
     let answer = done.answer;
     let controller = done.controller;
     let table = effects::stored(t, e, controller);

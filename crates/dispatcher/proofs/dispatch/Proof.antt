@@ -8,7 +8,6 @@ use denote.Ref.{now}
 use Rattle.turns.specs.Dispatcher.{pair}
 use Rattle.model.specs.WellFormed.{wellFormed}
 use Rattle.model.proofs.Tested.{facts}
-use Rattle.model.proofs.Owned.{table-sized}
 use Rattle.effects.specs.declared.Effect.{Effect}
 use Rattle.effects.specs.Effects.{effectOf}
 use Rattle.effects.proofs.Seats.{allowed-parties}
@@ -20,14 +19,11 @@ use Rattle.dispatcher.proofs.dispatch.Tie as tie
 abbrev answered : tie.After-stored → tie.After-answer
 answered c = c .before .before
 
-abbrev carried : tie.After-answer → tie.After-hand-over
+abbrev carried : tie.After-answer → tie.After-carry-out
 carried c = c .before .before .before
 
-abbrev messages : tie.After-hand-over → tie.After-messages
-messages c = c .before .before
-
-abbrev both : tie.After-messages → tie.After-both
-both c = c .before .before .before
+abbrev both : tie.After-carry-out → tie.After-both
+both c = c .before .before .before .before
 
 abbrev allowed : tie.After-both → tie.Else2
 allowed c = c .before .before
@@ -61,10 +57,9 @@ returns-3 : tie.Need-returns-3
 unfolding effectOf
 returns-3 c =
     let d = carried (answered c) in
-    let b = both (messages d) in
+    let b = both d in
     let k = picked (allowed b) in
-    let s = start (allowed b) in
-    let f = d .hand-over .ensures .effected (s .args .t) (table-sized (s .args .t) _ (s .good .0)) refl refl (allowed-parties _ _ (k .accepted) _ (b .both .ensures)) (k .roomy) in
+    let f = d .carry-out .ensures .effected (allowed-parties _ _ (k .accepted) _ (b .both .ensures)) (k .roomy) in
     served-answer _ _ _ _ k _ _ f _ (c .stored .ensures .stored (k .accepted, ap (λ (x : Effect). x .controller) (f .effect)))
 
 pub dispatch-spec : {M : Type 1} → statement M
