@@ -1,38 +1,36 @@
 -- What each call puts in a list is a course from the table that it gets to the one that it leaves: one law for each kind of call. Assumes
 -- nothing.
 use mathlib.Core.Path.{_≡_, refl}
-use mathlib.Core.Bool.{cond}
 use mathlib.Core.List.{List, [], _∷_, foldl}
 use lib.ListN.{length}
 use Rattle.model.specs.Events.{next}
-use Rattle.turns.specs.Dispatcher.{some?, handover, DispatchOutcome, served, unserved, dispatch}
-use Rattle.model.specs.declared.Pair.{Pair}
+use Rattle.model.specs.Calls.{answering}
+use Rattle.turns.specs.Dispatcher.{handover, Dispatched, DispatchOutcome, served, unserved, dispatch}
 use Rattle.model.specs.declared.Table.{Table}
 use Rattle.turns.proofs.Dispatching.{dispatch-case}
-use Rattle.consistency.specs.Entries.{Service, dispatching, serve, Call, singleEvent, observing, serving, handedOver, entriesOf, left, transcript}
+use Rattle.consistency.specs.Entries.{Service, dispatching, serve, madeBy, Call, singleEvent, observing, serving, handedOver, entriesOf, left, transcript}
 use Rattle.consistency.specs.Courses.{Course, told, Chooses, Gives, Allowed}
 use Rattle.consistency.proofs.Moments.{course-append}
 
 -- handovers that are allowed where they are made
-pub handovers-course : (s : Service) (t : Table) (ps : List Pair) (u : Table) → Allowed s t ps u → Course told Gives t (handedOver s t ps) u
-unfolding Course told Gives Allowed handedOver
+pub handovers-course : (s : Service) (t : Table) (xs : List Dispatched) (u : Table) → Allowed s t xs u → Course told Gives t (handedOver s xs) u
+unfolding Course told Allowed
 handovers-course s t [] u a = a
-handovers-course s t (p ∷ ps) u a = ((a .0, refl, a .1), handovers-course s (next t (handover p)) ps u (a .2))
+handovers-course s t (x ∷ xs) u a = (a .0, handovers-course s (next t (handover (x .pair))) xs u (a .1))
 
 -- a served call makes no others, and they lead to the table that it leaves: here each of them has its case
-serve-allowed : (t : Table) (s : Service) → Allowed s t (serve t s .handovers) (serve t s .table)
-unfolding serve served unserved Allowed Chooses
+serve-allowed : (t : Table) (s : Service) → Allowed s t (madeBy s (serve t s .answer)) (serve t s .table)
+unfolding serve madeBy served unserved answering Allowed Gives Chooses
 serve-allowed t (dispatching p w) =
     dispatch-case t p (length w)
-    (λ (o : DispatchOutcome). o .answer .pair ≡ dispatch t p (length w) .answer .pair
-    → let q = o .answer .pair in Allowed (dispatching p w) t (cond (some? q) (q ∷ []) []) (o .table))
-    (λ s e. rw (s .some) (s .allowed, e, refl)) (λ _ _. refl) refl
+    (λ (o : DispatchOutcome). o .answer .pair ≡ dispatch t p (length w) .answer .pair → Allowed (dispatching p w) t (madeBy (dispatching p w) (o .answer)) (o .table))
+    (λ s e. rw (s .some) ((s .allowed, refl, e), refl)) (λ _ _. refl) refl
 
 pub call-course : (t : Table) (c : Call) → Course told Gives t (entriesOf t c) (left t c)
 unfolding Course told Gives entriesOf left
 call-course t (singleEvent s w) = (refl, refl)
 call-course t (observing o) = (refl, refl)
-call-course t (serving s) = (refl, handovers-course s t (serve t s .handovers) (serve t s .table) (serve-allowed t s))
+call-course t (serving s) = (refl, handovers-course s t (madeBy s (serve t s .answer)) (serve t s .table) (serve-allowed t s))
 
 pub transcript-course : (t : Table) (cs : List Call) → Course told Gives t (transcript t cs) (foldl left t cs)
 unfolding Course transcript

@@ -3,7 +3,7 @@
 use mathlib.Core.Path.{_≡_, refl, sym, ap, subst, _∙_}
 use mathlib.Core.Logic.{inl, inr}
 use mathlib.Core.Bool.{Bool, true, false, not, _&&_, cond}
-use mathlib.Core.List.{List, [], _∷_, _++_, append-nil, flatMap, foldl}
+use mathlib.Core.List.{List, [], _∷_, _++_, append-nil, flatMap}
 use Prim.Native.Nat.{ℕ, zero, suc, _+_, _-_, _*_, _≤_, _<_}
 use native.Mathlib.Nat.{mul-le-mul}
 use native.Mathlib.Omega.{arith}
@@ -13,27 +13,26 @@ use lib.Seq.{take-length, take-append-seam, drop-append-seam}
 use lib.Dec.{leb}
 use borrow.Author.Tests.{ltb-false, leb-true}
 use Rattle.lists.specs.Below.{tally}
-use Rattle.lists.proofs.Tests.{and-left, and-right, decided, by-contradiction, or-false, refuted, both, contradiction}
+use Rattle.lists.proofs.Tests.{and-left, and-right, decided, refuted, both, contradiction}
 use Rattle.model.specs.Tables.{scratchSize, Among, at, place}
 use Rattle.model.specs.Records.{afterRecord}
 use Rattle.model.specs.Fair.{named}
 use Rattle.model.specs.Questions.{firstNo, unread}
-use Rattle.model.specs.Calls.{refused}
-use Rattle.turns.specs.Dispatcher.{pair, some?, waits, nextPair, dispatchQuestions, Dispatched, saysNone, DispatchOutcome, served, unserved, dispatch}
+use Rattle.model.specs.Calls.{answering, refused}
+use Rattle.turns.specs.Dispatcher.{pair, waits, nextPair, dispatchQuestions, Dispatched, saysNone, DispatchOutcome, served, unserved, dispatch}
 use Rattle.model.specs.declared.Pair.{Pair}
 use Rattle.model.specs.declared.Table.{Table}
 use Rattle.model.proofs.Tested.{tested, named-at}
 use Rattle.turns.specs.Claims.{InRange}
 use Rattle.turns.proofs.Dispatching.{distance, none-waits, Passed, passed-dispatch, dispatch-case, dispatch-refusal, none-said}
-use Rattle.broadcast.specs.State.{State, fresh as freshState}
-use Rattle.consistency.specs.Entries.{dispatching, serve, Call, singleEvent, observing, serving, Entry, handedOver, entriesOf, left, transcript, Step, carried, steps, did}
+use Rattle.broadcast.specs.State.{State}
+use Rattle.consistency.specs.Entries.{dispatching, serve, madeBy, Call, singleEvent, observing, serving, Entry, handedOver, entriesOf, left, transcript, Step, carried, steps, did}
 use Rattle.consistency.specs.Entries.{served as asked}
 use Rattle.consistency.specs.Ledger.{Ledger, ledger}
 use Rattle.consistency.specs.Lines.{recordEntries, fileEntries}
-use Rattle.consistency.specs.Dispatches.{isHandover, NoStop, handoverCount, dispatches, FollowOn, answerIn, dispatchAnswers, oneSaysNone}
+use Rattle.consistency.specs.Dispatches.{isHandover, NoStop, handoverCount, dispatches, FollowOn, answerIn, dispatchAnswers, notNone}
 use Rattle.consistency.specs.Demand3.{Head, request, file, Heads, version, controllers, opening, given, entries, moment, between, IsRunning, Waiting, LastSaysNone}
 use Rattle.consistency.specs.Courses.{told, Gives, tableAt}
-use Rattle.consistency.proofs.Bridge.{top}
 use Rattle.consistency.proofs.SlotNames.{length-log}
 use Rattle.consistency.proofs.Recorded.{Recorded}
 use Rattle.consistency.proofs.Moments.{course-end, flatMap-append, entries-version, did-append, entries-taken, Moment, moment-after}
@@ -72,49 +71,39 @@ all-read-out {n} {t} {l} k p room e r o on ho =
 
 -- CALLS THAT DO NOT SAY "NONE"
 
-unfoldable busy : List Dispatched → ℕ
-busy [] = 0
-busy (a ∷ rest) = tally (not (saysNone a)) (busy rest)
-
 tally-plus : (b : Bool) (x y : ℕ) → tally b (x + y) ≡ tally b x + y
 tally-plus true x y = omega arith
 tally-plus false x y = omega arith
 
-busy-append : (xs ys : List Dispatched) → busy (xs ++ ys) ≡ busy xs + busy ys
-unfolding busy
-busy-append [] ys = omega arith
-busy-append (a ∷ xs) ys = rw (busy-append xs ys) (tally-plus (not (saysNone a)) (busy xs) (busy ys))
+not-none-append : (xs ys : List Dispatched) → notNone (xs ++ ys) ≡ notNone xs + notNone ys
+unfolding notNone
+not-none-append [] ys = omega arith
+not-none-append (a ∷ xs) ys = rw (not-none-append xs ys) (tally-plus (not (saysNone a)) (notNone xs) (notNone ys))
 
-answers-append : (n : ℕ) (xs ys : List Entry) → busy (dispatchAnswers n (xs ++ ys)) ≡ busy (dispatchAnswers n xs) + busy (dispatchAnswers n ys)
-answers-append n xs ys = ap busy (flatMap-append (answerIn n) xs ys) ∙ busy-append (dispatchAnswers n xs) (dispatchAnswers n ys)
+answers-append : (n : ℕ) (xs ys : List Entry) → notNone (dispatchAnswers n (xs ++ ys)) ≡ notNone (dispatchAnswers n xs) + notNone (dispatchAnswers n ys)
+answers-append n xs ys = ap notNone (flatMap-append (answerIn n) xs ys) ∙ not-none-append (dispatchAnswers n xs) (dispatchAnswers n ys)
 
 handovers-append : (xs ys : List Step) → handoverCount (xs ++ ys) ≡ handoverCount xs + handoverCount ys
 unfolding handoverCount
 handovers-append [] ys = omega arith
 handovers-append (carried s e ms ∷ xs) ys = rw (handovers-append xs ys) (tally-plus (isHandover e) (handoverCount xs) (handoverCount ys))
 
-busy-all : (xs : List Dispatched) → oneSaysNone xs ≡ false → busy xs ≡ length xs
-unfolding busy oneSaysNone
-busy-all [] e = refl
-busy-all (a ∷ xs) e = let q = or-false (saysNone a) (oneSaysNone xs) e in rw (q .0, busy-all xs (q .1)) refl
-
 -- a call that does not say "none" makes a handover
-asked-busy : (b : Bool) (a : Dispatched) (k : ℕ) → (b ≡ true → saysNone a ≡ false → 0 < k) → busy (cond b (a ∷ []) [] ++ []) ≤ k
-unfolding busy
+asked-busy : (b : Bool) (a : Dispatched) (k : ℕ) → (b ≡ true → saysNone a ≡ false → 0 < k) → notNone (cond b (a ∷ []) [] ++ []) ≤ k
+unfolding notNone
 asked-busy false a k f = omega arith
 asked-busy true a k f = elim (decided (saysNone a)) [ inl e ↦ rw e (omega arith) | inr e ↦ rw e (f refl e) ]
 
 serving-busy : {n : ℕ} {t : Table} {l : Ledger} → Recorded n t l → (v : ℕ) (p : Pair) (w : List ℕ)
-    → let es = entriesOf t (serving (dispatching p w)) in busy (dispatchAnswers n es) ≤ handoverCount (did v es)
-unfolding entriesOf serve handedOver served unserved flatMap answerIn steps handoverCount isHandover saysNone refused
+    → let es = entriesOf t (serving (dispatching p w)) in notNone (dispatchAnswers n es) ≤ handoverCount (did v es)
+unfolding entriesOf serve madeBy served unserved answering flatMap answerIn steps handoverCount isHandover saysNone refused
 serving-busy {n} {t} k v p w =
     let room = length w in
     let q = nextPair (t .n) (t .controllers) p in
     let b = named n (p .receiver) && (named n (p .owner) && leb scratchSize room) in
     dispatch-case t p room
-    (λ (o : DispatchOutcome). let q = o .answer .pair in
-    let es = asked (dispatching p w) (o .answer) ∷ handedOver (dispatching p w) t (cond (some? q) (q ∷ []) []) in
-    busy (dispatchAnswers n es) ≤ handoverCount (did v es))
+    (λ (o : DispatchOutcome). let es = asked (dispatching p w) (o .answer) ∷ handedOver (dispatching p w) (madeBy (dispatching p w) (o .answer)) in
+    notNone (dispatchAnswers n es) ≤ handoverCount (did v es))
     (λ s. rw (s .some) (asked-busy b (served t q .answer) 1 (λ _ _. omega arith)))
     (λ _. asked-busy b (unserved t (firstNo (dispatchQuestions t p q room)) .answer) 0 (λ e f. contradiction (rw (passes e) refl) f))
   where
@@ -125,15 +114,15 @@ serving-busy {n} {t} k v p w =
         let is : (x : ℕ) → named n x ≡ true → Among n x = λ x y. rw (k .size) at (named-at t x (rw (k .size) y)) in
         passed-dispatch t p _ (length w) (call-passes k p _ (length w) (is (p .receiver) (and-left _ _ e)) (is (p .owner) (and-left _ _ c)) (leb-true scratchSize (length w) (and-right (named n (p .owner)) _ c)))
 
-call-busy : {n : ℕ} {t : Table} {l : Ledger} → Recorded n t l → (v : ℕ) (c : Call) → busy (dispatchAnswers n (entriesOf t c)) ≤ handoverCount (did v (entriesOf t c))
-unfolding entriesOf flatMap answerIn busy
+call-busy : {n : ℕ} {t : Table} {l : Ledger} → Recorded n t l → (v : ℕ) (c : Call) → notNone (dispatchAnswers n (entriesOf t c)) ≤ handoverCount (did v (entriesOf t c))
+unfolding entriesOf flatMap answerIn notNone
 call-busy k v (singleEvent s w) = omega arith
 call-busy k v (observing o) = omega arith
 call-busy k v (serving (dispatching p w)) = serving-busy k v p w
 
 calls-busy : {n v : ℕ} {s₀ : State} {t : Table} {l : Ledger} → Moment n s₀ t l → t .version ≡ v → (cs : List Call)
-    → busy (dispatchAnswers n (transcript t cs)) ≤ handoverCount (did v (transcript t cs))
-unfolding transcript flatMap busy
+    → notNone (dispatchAnswers n (transcript t cs)) ≤ handoverCount (did v (transcript t cs))
+unfolding transcript flatMap notNone
 calls-busy m q [] = omega arith
 calls-busy {n} {v} {t = t} m q (c ∷ cs) =
     let es = entriesOf t c in
@@ -215,30 +204,33 @@ module _ (h : Head) (heads : Heads h) (calls : List Call) where
 
   -- OF ANY 3,137 CALLS, one says "none": each of the others makes a handover
 
-  whole : busy (dispatchAnswers n (entries h calls)) ≤ handoverCount (did v (entries h calls))
-  unfolding entries busy
+  whole : notNone (dispatchAnswers n (entries h calls)) ≤ handoverCount (did v (entries h calls))
+  unfolding entries notNone
   whole =
       let es = transcript (given h) calls in
       omega (
         arith,
         answers-append n (opening h) es,
-        ap busy (opening-quiet n h),
+        ap notNone (opening-quiet n h),
         ap handoverCount (did-append v (opening h) es),
         handovers-append (did v (opening h)) (did v es),
         calls-busy (moment-end h heads []) (version-given h heads calls) calls,
       )
 
-  pub one-none : (i j : ℕ)
-      → let answers = dispatchAnswers n (between h calls i j) in
-      3136 < length answers → oneSaysNone answers ≡ true
-  one-none i j many = by-contradiction _ (λ e.
+  pub one-none : (i j : ℕ) → notNone (dispatchAnswers n (between h calls i j)) ≤ 3136
+  one-none i j =
       let es = entries h calls in
       let xs = between h calls i j in
       let rest = drop (j - i) (drop i es) in
       let parts : take i es ++ (xs ++ rest) ≡ es = ap (λ (ys : List Entry). take i es ++ ys) (take-append-drop (j - i) (drop i es)) ∙ take-append-drop i es in
-      let sum : busy (dispatchAnswers n es) ≡ busy (dispatchAnswers n (take i es)) + (busy (dispatchAnswers n xs) + busy (dispatchAnswers n rest))
-      = ap (λ (ys : List Entry). busy (dispatchAnswers n ys)) (sym parts) ∙ (answers-append n (take i es) (xs ++ rest) ∙ ap (λ k. busy (dispatchAnswers n (take i es)) + k) (answers-append n xs rest)) in
-      omega (arith, many, busy-all (dispatchAnswers n xs) e, sum, whole, few-in-all))
+      omega (
+        arith,
+        ap (λ (ys : List Entry). notNone (dispatchAnswers n ys)) parts,
+        answers-append n (take i es) (xs ++ rest),
+        answers-append n xs rest,
+        whole,
+        few-in-all,
+      )
     where
       few-in-all : handoverCount (did v (entries h calls)) ≤ 3136
       few-in-all =

@@ -29,7 +29,7 @@ use Rattle.consistency.specs.Courses.{Course, told, Chooses, Gives}
 use Rattle.consistency.proofs.SlotNames.{length-log}
 use Rattle.consistency.proofs.Recorded.{Recorded}
 use Rattle.consistency.proofs.Moments.{told-version, entry-taken, Moment, moment-after}
-use Rattle.consistency.proofs.Places.{put-here, places-grow, Since, read, waiting, steps-wait}
+use Rattle.consistency.proofs.Places.{put-here, places-grow, read, waiting, steps-wait}
 
 -- an entry that waits by the ledger is one that the dispatcher finds in the table
 ledger-waits : {n : ℕ} {t : Table} {l : Ledger} → Recorded n t l → (r o : ℕ) → Waiting n l r o → waits (t .controllers) (pair r o) ≡ true

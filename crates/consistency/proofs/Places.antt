@@ -1,6 +1,6 @@
 -- Read positions along a list: none falls, an entry waits until it is read if nobody stops, and each handover moves one position on by one.
 -- So a list has no more handovers than positions can move. Assumes nothing.
-use mathlib.Core.Path.{_≡_, refl, sym, ap, _∙_}
+use mathlib.Core.Path.{_≡_, refl, ap, _∙_}
 use mathlib.Core.Logic.{_≢_, _⊎_, inl, inr}
 use mathlib.Core.Bool.{Bool, true, false, cond, true≢false}
 use mathlib.Core.List.{List, [], _∷_, _++_, foldl}
@@ -10,7 +10,7 @@ use native.Mathlib.Omega.{arith}
 use lib.ListN.{length, getD, length-append}
 use Rattle.lists.specs.Below.{tally, sum}
 use Rattle.lists.proofs.Tests.{cond-case}
-use Rattle.lists.proofs.Below.{sum-ext, sum-bound, sum-raised}
+use Rattle.lists.proofs.Below.{sum-bound, sum-raised}
 use Rattle.model.specs.Tables.{seats, capacity, noName, Among}
 use Rattle.model.specs.declared.Name.{Name}
 use Rattle.model.specs.declared.Table.{Table}
@@ -20,9 +20,8 @@ use Rattle.broadcast.specs.State.{State}
 use Rattle.consistency.specs.Entries.{name, has, Step, carried}
 use Rattle.consistency.specs.Ledger.{Ledger, put, moved}
 use Rattle.consistency.specs.Dispatches.{isStop, isHandover, NoStop, handoverCount}
-use Rattle.consistency.specs.Demand3.{IsRunning, Waiting}
+use Rattle.consistency.specs.Demand3.{Waiting}
 use Rattle.consistency.specs.Courses.{Course}
-use Rattle.consistency.proofs.SlotNames.{length-log}
 use Rattle.consistency.proofs.Recorded.{Recorded}
 use Rattle.consistency.proofs.RecordedChanges.{put-case}
 use Rattle.consistency.proofs.Moments.{stepped, Takes, Moment, step-moment, moment-after}
@@ -138,10 +137,10 @@ moved-total {n} {t} {l} p (carried s (Handover (suc r) (suc o)) ms) a =
     let f = l .place (suc r) in
     let row = put f (suc o) (f (suc o) + 1) in
     let here : put (l .place) (suc r) row (suc r) ≡ row = put-here (l .place) (suc r) row in
-    sum-raised n (λ i. sum n (λ j. l .place (suc i) (suc j))) (λ i. sum n (λ j. put (l .place) (suc r) row (suc i) (suc j))) r (omega (arith, h .receiver .high, p .size))
-    (rw here (sum-raised n (λ j. f (suc j)) (λ j. row (suc j)) o (omega (arith, h .owner .high, p .size)) (put-here f (suc o) (f (suc o) + 1))
-    (λ j d. put-there f (suc o) (f (suc o) + 1) (suc j) (λ e. d (omega (arith, e))))))
-    (λ i d. ap (λ (g : ℕ → ℕ). sum n (λ j. g (suc j))) (put-there (l .place) (suc r) row (suc i) (λ e. d (omega (arith, e)))))
+    sum-raised n (λ i. sum n (λ j. l .place (suc i) (suc j))) (λ i. sum n (λ j. put (l .place) (suc r) row (suc i) (suc j))) r 1 (omega (arith, h .receiver .high, p .size))
+    (rw here (sum-raised n (λ j. f (suc j)) (λ j. row (suc j)) o 1 (omega (arith, h .owner .high, p .size)) (put-here f (suc o) (f (suc o) + 1))
+    (λ j _ d. put-there f (suc o) (f (suc o) + 1) (suc j) (λ e. d (omega (arith, e))))))
+    (λ i _ d. ap (λ (g : ℕ → ℕ). sum n (λ j. g (suc j))) (put-there (l .place) (suc r) row (suc i) (λ e. d (omega (arith, e)))))
 
 steps-total : {n : ℕ} {s₀ : State} {t : Table} {l : Ledger} → Moment n s₀ t l → (xs : List Step) (u : Table) → Course stepped Takes t xs u
     → total n (foldl moved l xs) ≡ total n l + handoverCount xs

@@ -9,7 +9,7 @@ use Rattle.model.specs.Events.{next, controllerOf, panelOf}
 use Rattle.model.specs.Records.{decode}
 use Rattle.model.specs.Questions.{firstNo, eventQuestions, commandQuestions}
 use Rattle.model.specs.Calls.{Outcome, answering, accepted, event}
-use Rattle.turns.specs.Dispatcher.{handover, dispatch}
+use Rattle.turns.specs.Dispatcher.{handover, Dispatched, dispatch}
 use Rattle.model.specs.declared.Name.{Name}
 use Rattle.model.specs.declared.Sums.{Sums}
 use Rattle.model.specs.declared.Pair.{Pair}
@@ -55,10 +55,10 @@ Gives t (served s a) = a ≡ serve t s .answer
 Gives t (handed s p a) = (firstNo (eventQuestions t (handover p)) ≡ 0) × (a ≡ answering t (Act (handover p)) []) × Chooses t s p
 Gives t (listed s x) = (firstNo (commandQuestions t (decode (t .version) s)) ≡ 0) × (x ≡ lineAfter (controllerOf (decode (t .version) s)) (accepted t s))
 
--- each of these handovers is allowed at the table where the call makes it, and the last leaves u
-unfoldable pub Allowed : Service → Table → List Pair → Table → Type 0
+-- each of these handovers is allowed at the table where the call makes it, and answers what the definitions give; the last leaves u
+unfoldable pub Allowed : Service → Table → List Dispatched → Table → Type 0
 Allowed s t [] u = t ≡ u
-Allowed s t (p ∷ ps) u = (firstNo (eventQuestions t (handover p)) ≡ 0) × Chooses t s p × Allowed s (next t (handover p)) ps u
+Allowed s t (x ∷ xs) u = Gives t (handed s (x .pair) (x .answer)) × Allowed s (next t (handover (x .pair))) xs u
 
 -- the fresh table that a list starts from, and the table at a moment of it
 abbrev pub freshOf : Head → Table

@@ -26,7 +26,7 @@ use Rattle.model.specs.declared.Pair.{Pair}
 use Rattle.consistency.specs.Entries.{name, has, Distinct, ownOf, panelLook, dispatching, Call, singleEvent, observing, Line, Entry, answered, observed, served, handed, listed, transcript, Said, Step, carried, steps, did}
 use Rattle.consistency.specs.Ledger.{Sent, Ledger, applied, writes, written, registerAt, ledger, sentNames, remaining, weights, showing, finishing}
 use Rattle.consistency.specs.Lines.{fileEntries}
-use Rattle.consistency.specs.Dispatches.{NoStop, handoverCount, dispatches, FollowOn, dispatchAnswers, oneSaysNone}
+use Rattle.consistency.specs.Dispatches.{NoStop, handoverCount, dispatches, FollowOn, dispatchAnswers, notNone}
 
 -- THE HEAD AND THE LIST
 
@@ -301,10 +301,8 @@ pub record Consistent (h : Head) (calls : List Call) : Type 0 where
   -- a call of the dispatcher that names controllers 1 to n, with enough scratch, is accepted
   pub accepts : (i : ℕ) (p : Pair) (w : List ℕ) (a : Dispatched) (after : List Entry) → drop i (entries h calls) ≡ served (dispatching p w) a ∷ after
       → Among (controllers h) (p .receiver) → Among (controllers h) (p .owner) → scratchSize ≤ length w → a .answer .refusal ≡ 0
-  -- and so of any 3,137 such calls one says "none"
-  pub one-none : (i j : ℕ)
-      → let answers = dispatchAnswers (controllers h) (between h calls i j) in
-      3136 < length answers → oneSaysNone answers ≡ true
+  -- and so of any 3,137 such calls one says "none": no more than 3,136 of them do not
+  pub one-none : (i j : ℕ) → notNone (dispatchAnswers (controllers h) (between h calls i j)) ≤ 3136
   -- "The ending promised between panels then applies wherever a majority runs": when a call of the dispatcher says "none"
   pub none-ends : (i : ℕ)
       → let now = take i calls in

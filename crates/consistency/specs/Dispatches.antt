@@ -1,7 +1,7 @@
 -- What is read of handovers and of the dispatcher from a part of a list (RULES.md, sections 20 and 30).
 use Prim.Native.Nat.{ℕ}
 use mathlib.Core.Path.{_≡_}
-use mathlib.Core.Bool.{Bool, true, false, _&&_, _||_, cond}
+use mathlib.Core.Bool.{Bool, true, false, not, _&&_, cond}
 use mathlib.Core.List.{List, [], _∷_, flatMap}
 use lib.ListN.{length}
 use lib.Dec.{leb}
@@ -70,7 +70,7 @@ answerIn n (listed s x) = []
 abbrev pub dispatchAnswers : ℕ → List Entry → List Dispatched
 dispatchAnswers n es = flatMap (answerIn n) es
 
--- whether one of them says "none"
-unfoldable pub oneSaysNone : List Dispatched → Bool
-oneSaysNone [] = false
-oneSaysNone (a ∷ rest) = saysNone a || oneSaysNone rest
+-- how many of them do not say "none"
+unfoldable pub notNone : List Dispatched → ℕ
+notNone [] = 0
+notNone (a ∷ rest) = tally (not (saysNone a)) (notNone rest)

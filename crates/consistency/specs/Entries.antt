@@ -3,14 +3,13 @@
 use Prim.Native.Nat.{ℕ}
 use mathlib.Core.Path.{_≡_}
 use mathlib.Core.Bool.{Bool, false, _&&_, _||_, cond}
-use mathlib.Core.List.{List, [], _∷_, _++_, flatMap}
+use mathlib.Core.List.{List, [], _∷_, _++_, map, flatMap}
 use lib.ListN.{length}
 use lib.IntN.{ℤ, pos, _-ℤ_}
 use lib.Dec.{eqb, ltb}
 use Rattle.model.specs.Tables.{reportKind, writeKind, messageNumber}
-use Rattle.model.specs.Events.{next}
 use Rattle.model.specs.Records.{byte, kind, word, long, decode}
-use Rattle.model.specs.Calls.{EventAnswer, answering, event, look, countBefore}
+use Rattle.model.specs.Calls.{EventAnswer, event, look, countBefore}
 use Rattle.turns.specs.Dispatcher.{some?, handover, Dispatched, dispatch}
 use Rattle.model.specs.declared.Name.{Name}
 use Rattle.model.specs.declared.Sums.{Sums}
@@ -74,18 +73,18 @@ pub data Service : Type 0 where
 abbrev pub Served : Service → Type 0
 Served (dispatching p w) = Dispatched
 
--- what it answers, the handovers that it makes, in order, and the table that it leaves. That these handovers lead to that table, each
--- allowed where it is made, is a law for each case (proofs/CallCourses.antt).
+-- what it answers, and the table that it leaves
 pub record ServiceOutcome (s : Service) : Type 0 where
   pub answer : Served s
-  pub handovers : List Pair
   pub table : Table
 
 unfoldable pub serve : Table → (s : Service) → ServiceOutcome s
-serve t (dispatching p w) =
-    let o = dispatch t p (length w) in
-    let q = o .answer .pair in
-    record { answer = o .answer; handovers = cond (some? q) (q ∷ []) []; table = o .table }
+serve t (dispatching p w) = let o = dispatch t p (length w) in record { answer = o .answer; table = o .table }
+
+-- The handovers that an answer says were made, in order, each with its pair and with what it answered. That they lead to the table that
+-- the call leaves, each allowed where it is made, is a law for each case (proofs/CallCourses.antt).
+unfoldable pub madeBy : (s : Service) → Served s → List Dispatched
+madeBy (dispatching p w) a = cond (some? (a .pair) && eqb (a .answer .refusal) 0) (a ∷ []) []
 
 -- "In the list stand the single-event call, with any bytes and any scratch, and the panel look at any number"; the count of "goes
 -- before", at any number and of any two names; and the dispatcher, with any pair and any scratch
@@ -110,16 +109,14 @@ pub data Entry : Type 0 where
   handed : Service → Pair → EventAnswer → Entry
   listed : (bytes : List ℕ) → Line → Entry
 
--- the handovers of a call, one after another, each at the table that the one before left
-unfoldable pub handedOver : Service → Table → List Pair → List Entry
-handedOver s t [] = []
-handedOver s t (p ∷ ps) = handed s p (answering t (Act (handover p)) []) ∷ handedOver s (next t (handover p)) ps
+abbrev pub handedOver : Service → List Dispatched → List Entry
+handedOver s xs = map (λ x. handed s (x .pair) (x .answer)) xs
 
--- what a call puts in the list: its own entry, and after that of a served call one for each handover that it made
+-- what a call puts in the list: its own entry, and after that of a served call one for each handover that its answer says was made
 unfoldable pub entriesOf : Table → Call → List Entry
 entriesOf t (singleEvent s w) = answered s w (event t s (length w) .answer) ∷ []
 entriesOf t (observing o) = observed o (observe t o) ∷ []
-entriesOf t (serving s) = served s (serve t s .answer) ∷ handedOver s t (serve t s .handovers)
+entriesOf t (serving s) = let a = serve t s .answer in served s a ∷ handedOver s (madeBy s a)
 
 -- the table that a call leaves
 unfoldable pub left : Table → Call → Table

@@ -4,6 +4,7 @@ ghost use Prim.Native.Nat.{_≤_};
 ghost use Rattle.model.specs.Tables.{seats, Among};
 ghost use Rattle.turns.specs.Dispatcher.{pair, following, nextPair};
 ghost use Rattle.dispatcher.specs.Handed.{choiceOf, unchanged, Dispatches};
+use model::Command;
 use model::Controller;
 use model::DispatchAnswer;
 use model::Event;
@@ -77,7 +78,7 @@ struct Choice {
 }
 
 // No pair is served.
-fn none(refusal: u8) -> Choice
+fn no_pair(refusal: u8) -> Choice
     ensures { λ r. ⌜ r ≡ record { refusal = refusal; pair = pair 0 0 } ⌝ }
 {
     Choice {
@@ -101,12 +102,12 @@ fn choose(
     ensures { λ r. ⌜ r ≡ choiceOf n controllers (pair receiver owner) room ⌝ }
 {
     if !(((0 < receiver) & (receiver <= n)) & ((0 < owner) & (owner <= n))) {
-        return none(refusal::CONTROLLER);
+        return no_pair(refusal::CONTROLLER);
     }
     let pair = next_pair(n, controllers, receiver, owner);
     let r = pair.receiver;
     if (0 < r) & (room < Table::SCRATCH) {
-        return none(refusal::SCRATCH);
+        return no_pair(refusal::SCRATCH);
     }
     Choice {
         refusal: refusal::ACCEPTED,
@@ -155,7 +156,7 @@ pub fn dispatch(t: Table, receiver: usize, owner: usize, scratch: &mut [u8]) -> 
         receiver: r as u8,
         owner: pair.owner as u8,
     };
-    let p = effects::both(t, e);
+    let p = effects::at_hand(controllers, Command::Act(e));
     let x = p.subject;
     let y = p.owner;
     let done = effects::carry_out(t, x, y, e, scratch);

@@ -13,7 +13,7 @@ use Rattle.model.specs.declared.Command.the-variants.{Act, Read}
 use Rattle.model.specs.Facts.{Among}
 use Rattle.effects.specs.declared.Parties.{Parties as Both}
 use Rattle.effects.specs.Conditions.{Accepted}
-use Rattle.effects.specs.Parties.{ownerOf, seatOf, indicesOf, handOf, partiesOf, Allowed}
+use Rattle.effects.specs.Parties.{ownerOf, seatOf, indicesOf, handOf, Allowed}
 use Rattle.effects.proofs.Room.{subject-seated, readable}
 
 pub seat-is : (c i : ℕ) → i ≡ seatOf c → Among seats c → i ≡ c - 1
@@ -53,10 +53,6 @@ module _ (t : Table) where
       subject-is = at-seat (subject e) i ei (subject-seated t e q);
       owner-is = at-seat (ownerOf e) j ej (owner-seated e q);
     }
-
-    pub allowed-parties : (p : Both) → p ≡ partiesOf t e → Allowed t e (p .subject) (p .owner)
-    unfolding partiesOf
-    allowed-parties p is = rw is (allowed-at _ _ refl refl)
 
     pub allowed-hand : (a : Command) → a ≡ Act e → (p : Both) → p ≡ handOf (t .controllers) a → Allowed t e (p .subject) (p .owner)
     unfolding handOf indicesOf

@@ -30,15 +30,9 @@ unfoldable pub indicesOf : Command → Places
 indicesOf (Act e) = record { subject = seatOf (subject e); owner = seatOf (ownerOf e) }
 indicesOf (Read c) = record { subject = seatOf c; owner = seatOf c }
 
--- what stands among the controllers C in these places, and in a table in those of an event
+-- what stands among the controllers C in these places
 unfoldable pub handOf : List Controller → Command → Both
 handOf C a = record { subject = getD C (indicesOf a .subject) noController; owner = getD C (indicesOf a .owner) noController }
-
-unfoldable pub partiesOf : Table → Event → Both
-partiesOf t e = record {
-  subject = getD (t .controllers) (seatOf (subject e)) noController;
-  owner = getD (t .controllers) (seatOf (ownerOf e)) noController;
-}
 
 -- no question refuses the event; its subject is x, and it reads the log of y
 pub record Allowed (t : Table) (e : Event) (x y : Controller) : Type 0 where

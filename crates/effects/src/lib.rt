@@ -8,7 +8,7 @@ ghost use Rattle.model.specs.Registers.{dateOf};
 ghost use Rattle.model.specs.Fair.{fairRegister};
 ghost use Rattle.model.specs.Events.{forward, received, deliver, subject, sums};
 ghost use Rattle.effects.specs.Conditions.{Receivable, Readable, Deliverable, Dated};
-ghost use Rattle.effects.specs.Parties.{ownerOf, seatOf, indicesOf, handOf, partiesOf};
+ghost use Rattle.effects.specs.Parties.{ownerOf, seatOf, indicesOf, handOf};
 ghost use Rattle.effects.specs.Effects.{withApplied, noSet, Quiet, Reads, HandsOver, CarriesOut, Sends, Adds, Stores};
 use model::Answer;
 use model::Command;
@@ -97,14 +97,6 @@ pub fn at_hand(controllers: [Controller; Table::CONTROLLERS], a: Command) -> Par
         subject: controllers[i],
         owner: controllers[j],
     }
-}
-
-// The two controllers that an event reads, out of a table.
-pub fn both(t: Table, e: Event) -> Parties
-    ensures { λ r. ⌜ r ≡ partiesOf t e ⌝ }
-{
-    let controllers = t.controllers;
-    at_hand(controllers, Command::Act(e))
 }
 
 // WHAT EACH KIND DOES

@@ -9,7 +9,7 @@ use Rattle.model.specs.declared.Answer.{Answer}
 use Rattle.lent.specs.Called.{Called}
 use Rattle.dispatcher.specs.declared.Handed.{Handed}
 use Rattle.dispatcher.specs.Handed.{handedOf, Dispatches}
-use Rattle.engine.specs.Called.{Counted, Dispatched}
+use Rattle.engine.specs.Called.{Counted, DispatchLeaves}
 
 module _ (t : Table) (s w : List ℕ) where
   pub counted : (h : Table) (g : Answer) (p z : List ℕ) → Called t s w h g p z → Counted t s w h g (length p) z
@@ -20,7 +20,7 @@ module _ (t : Table) (s w : List ℕ) where
     scratch-is = e .scratch-is;
   }
 
-pub dispatched : (t : Table) (p : Pair) (w : List ℕ) (r : Handed) (z : List ℕ) → Dispatches t p w r z → Dispatched t p w (r .table) (r .answer) z
+pub dispatched : (t : Table) (p : Pair) (w : List ℕ) (r : Handed) (z : List ℕ) → Dispatches t p w r z → DispatchLeaves t p w (r .table) (r .answer) z
 unfolding handedOf
 dispatched t p w r z e = record {
   table-is = ap (λ (x : Handed). x .table) (e .outcome);

@@ -23,7 +23,7 @@ pub record Counted (t : Table) (s w : List ℕ) (table : Table) (answer : Answer
   pub scratch-is : scratch ≡ scratchAfter (event t s (length w) .answer .refusal) w
 
 -- the next handover after that of the pair p on the table t, with the scratch area w
-pub record Dispatched (t : Table) (p : Pair) (w : List ℕ) (table : Table) (answer : DispatchAnswer) (scratch : List ℕ) : Type 0 where
+pub record DispatchLeaves (t : Table) (p : Pair) (w : List ℕ) (table : Table) (answer : DispatchAnswer) (scratch : List ℕ) : Type 0 where
   pub table-is : table ≡ dispatch t p (length w) .table
   pub answer-is : answer ≡ dispatchAnswerOf (dispatch t p (length w) .answer)
   pub scratch-is : scratch ≡ scratchServed (dispatch t p (length w) .answer .pair) w

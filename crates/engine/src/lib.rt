@@ -4,7 +4,7 @@ ghost use mathlib.Core.Path.{_≡_};
 ghost use Rattle.model.specs.Calls.{look, countBefore, freshTable};
 ghost use Rattle.turns.specs.Dispatcher.{pair};
 ghost use Rattle.files.specs.FileRun.{Runs};
-ghost use Rattle.engine.specs.Called.{Counted, Dispatched, interface};
+ghost use Rattle.engine.specs.Called.{Counted, DispatchLeaves, interface};
 
 // The state of the interface. It goes up whenever a struct, a constant, a refusal or a call changes that C or Rust see.
 const INTERFACE: usize = 2;
@@ -71,7 +71,7 @@ pub extern "C" fn furnacejade_dispatch(
     scratch: &mut [u8],
     answer: &mut model::DispatchAnswer,
 )
-    ensures { λ _. ⌜ Dispatched (now (t .entry)) (pair receiver owner) (now (scratch .entry)) (now (t .exit)) (now (answer .exit)) (now (scratch .exit)) ⌝ }
+    ensures { λ _. ⌜ DispatchLeaves (now (t .entry)) (pair receiver owner) (now (scratch .entry)) (now (t .exit)) (now (answer .exit)) (now (scratch .exit)) ⌝ }
 {
     let s = dispatcher::dispatch(*t, receiver, owner, scratch);
     *t = s.table;

@@ -13,7 +13,7 @@ use borrow.Rule.Slice.PartMut.{midOf, postOf, putMid, put-same}
 use Rattle.lists.specs.Build.{overlay}
 use Rattle.lists.proofs.Tests.{cond-true, cond-false, refuted}
 use Rattle.lists.proofs.Clipped.{any-none}
-use Rattle.model.specs.Tables.{seats, yes?, messagesOf}
+use Rattle.model.specs.Tables.{yes?, messagesOf}
 use Rattle.model.specs.Events.{subject, after, withSent, next, appliedBy, controllerOf, resulting, sums, panelOf, namesOf, finishes}
 use Rattle.model.specs.Records.{size, decode}
 use Rattle.model.specs.Sized.{Sized}
@@ -26,7 +26,6 @@ use Rattle.model.specs.declared.Controller.{Controller}
 use Rattle.model.specs.declared.Table.{Table}
 use Rattle.model.specs.declared.Event.{Event}
 use Rattle.model.specs.declared.Event.the-variants.{Send, Handover, Stop}
-use Rattle.model.specs.declared.Command.{Command}
 use Rattle.model.specs.declared.Command.the-variants.{Act, Read}
 use Rattle.model.proofs.Allowed.{no-no}
 use Rattle.model.proofs.Lengths.{none-named}

@@ -6,13 +6,12 @@ use mathlib.Core.Bool.{Bool, true, false, cond}
 use mathlib.Core.List.{List, [], _∷_}
 use Prim.Native.Nat.{ℕ, zero, suc, _+_, _-_, _*_, _≤_, _<_}
 use native.Mathlib.Omega.{arith}
-use native.Mathlib.Decide.{ℕ-discrete}
 use lib.ListN.{length, length-append, length-drop, getD, drop}
 use lib.Dec.{eqb, leb, ltb}
 use borrow.Author.Tests.{eqb-true, eq-eqb, ne-eqb, ltb-true, leb-true, le-leb}
 use Rattle.lists.specs.Below.{all, sum}
 use Rattle.lists.proofs.Tests.{cond-case, and-left, and-right}
-use Rattle.lists.proofs.Below.{all-at, sum-ext, sum-bound}
+use Rattle.lists.proofs.Below.{all-at, sum-bound, sum-raised}
 use Rattle.lists.specs.Every.{Every}
 use Rattle.model.specs.Tables.{at, message, applied, messagesOf}
 use Rattle.model.specs.Delivery.{Slots, has}
@@ -128,17 +127,11 @@ names-length (suc k) t S = go (has S k) (names-length k t S)
     go false e = omega (arith, e)
 
 -- the term of controller r raised by d
-sum-raised : (n : ℕ) (f g : ℕ → ℕ) (r d : ℕ) → Among n r → ((k : ℕ) → k < n → g k ≡ f k + cond (eqb (suc k) r) d 0) → sum n g ≡ sum n f + d
-unfolding sum
-sum-raised zero f g r d h e = absurd (omega (arith, h))
-sum-raised (suc n) f g r d h e =
-    go (ℕ-discrete (suc n) r) (λ l. sum-raised n f g r d (record { low = h .low; high = l }) (λ k m. e k (omega arith)))
-  where
-    go : Dec (suc n ≡ r) → (r ≤ n → sum n g ≡ sum n f + d) → sum n g + g n ≡ sum n f + f n + d
-    go (yes q) on =
-        let same = sum-ext n g f (λ k m. e k (omega arith) ∙ rw (ne-eqb (suc k) r (omega arith)) (omega arith)) in
-        omega (arith, same, rw (eq-eqb (suc n) r q) at (e n (omega arith)))
-    go (no q) on = omega (arith, on (omega (arith, h .high, q)), rw (ne-eqb (suc n) r q) at (e n (omega arith)))
+raised-at : (n : ℕ) (f g : ℕ → ℕ) (r d : ℕ) → Among n r → ((k : ℕ) → k < n → g k ≡ f k + cond (eqb (suc k) r) d 0) → sum n g ≡ sum n f + d
+raised-at n f g r d h e =
+    let q : suc (r - 1) ≡ r = omega (arith, h .low) in
+    sum-raised n f g (r - 1) d (omega (arith, h .low, h .high)) (e (r - 1) (omega (arith, h .low, h .high)) ∙ rw (eq-eqb (suc (r - 1)) r q) refl)
+    (λ k l n. e k l ∙ rw (ne-eqb (suc k) r (λ z. n (omega (arith, z)))) (omega arith))
 
 -- an event applies what it names
 deliveries-next : (t : Table) (e : Event) → Sized t → WellFormed t → firstNo (eventQuestions t e) ≡ 0
@@ -146,7 +139,7 @@ deliveries-next : (t : Table) (e : Event) → Sized t → WellFormed t → first
 unfolding deliveries namesOf weighSet
 deliveries-next t e z w q =
     ap (λ n. sum n (λ i. weigh (λ p. 1) (messagesOf (next t e)) (at (next t e) (suc i) .applied))) (next-n t e)
-    ∙ sum-raised (t .n) _ _ (subject e) _ (subject-allowed t e q) (λ i l. weigh-next t e z w q (λ p. 1) (suc i) (record { low = omega arith; high = l }))
+    ∙ raised-at (t .n) _ _ (subject e) _ (subject-allowed t e q) (λ i l. weigh-next t e z w q (λ p. 1) (suc i) (record { low = omega arith; high = l }))
     ∙ ap (λ k. deliveries t + k) (sym (names-length (t .count) t (appliedBy t e)))
 
 -- ONE RECORD

@@ -153,13 +153,13 @@ sum-bound (suc n) f b h = omega (arith, sum-bound n f b (λ k l. h k (omega arit
     suc-times : (n b : ℕ) → suc n * b ≡ n * b + b
     suc-times n b = native.Mathlib.Nat.suc-mul n b
 
--- one term is one more, the others are the same
-pub sum-raised : (n : ℕ) (f g : ℕ → ℕ) (i : ℕ) → i < n → g i ≡ f i + 1 → ((k : ℕ) → k ≢ i → g k ≡ f k) → sum n g ≡ sum n f + 1
+-- one term is d more, the others are the same
+pub sum-raised : (n : ℕ) (f g : ℕ → ℕ) (i d : ℕ) → i < n → g i ≡ f i + d → ((k : ℕ) → k < n → k ≢ i → g k ≡ f k) → sum n g ≡ sum n f + d
 unfolding sum
-sum-raised zero f g i l e h = absurd (not-suc-le-zero l)
-sum-raised (suc n) f g i l e h = elim (ℕ-discrete n i) [
-  | yes q ↦ omega (arith, sum-ext n g f (λ k b. h k (λ r. omega (arith, q, r, b))), subst (λ x. g x ≡ f x + 1) (sym q) e)
-  | no q ↦ omega (arith, sum-raised n f g i (omega (arith, l, q)) e h, h n q)
+sum-raised zero f g i d l e h = absurd (not-suc-le-zero l)
+sum-raised (suc n) f g i d l e h = elim (ℕ-discrete n i) [
+  | yes q ↦ omega (arith, sum-ext n g f (λ k b. h k (omega arith) (λ r. omega (arith, q, r, b))), subst (λ x. g x ≡ f x + d) (sym q) e)
+  | no q ↦ omega (arith, sum-raised n f g i d (omega (arith, l, q)) e (λ k b. h k (omega arith)), h n (omega arith) q)
 ]
 
 -- a last term of 0 adds nothing

@@ -1,16 +1,17 @@
 -- The cases of RULES.md, section 23 (Edges), that are marked P and are the dispatcher's; and for each two of its questions that can both be
--- no at once, a row in which both are and the first gives the number. One table, one theorem. Assumes nothing.
+-- no at once, a row in which both are and the first gives the number. One table; and the one theorem of this table and that of `model`.
+-- Assumes nothing.
 use mathlib.Core.Path.{_≡_, refl}
-use Prim.Native.Nat.{ℕ, zero, suc, _+_, _*_, _/_, _%_}
+use Prim.Native.Nat.{ℕ, _+_, _*_, _/_, _%_}
 use mathlib.Core.Bool.{Bool, true, false}
-use mathlib.Core.List.{List, [], _∷_, _++_, map}
+use mathlib.Core.List.{List, [], _∷_, map}
 use Rattle.model.specs.Tables.{noSums, fresh, at, withController, withRead}
 use Rattle.model.specs.Calls.{step}
 use Rattle.model.specs.declared.Name.{Name}
-use Rattle.model.specs.declared.Pair.{Pair}
 use Rattle.model.specs.declared.Sums.{Sums}
 use Rattle.model.specs.declared.Table.{Table}
 use Rattle.model.proofs.Computed.{computed}
+use Rattle.model.proofs.Cases.{AllCases, all-cases}
 use Rattle.turns.specs.Dispatcher.{pair, following, waits, firstWaiting, nextPair, pairQuestions, dispatchQuestions, Dispatched, saysNone, served, unserved, dispatch, scratchServed}
 
 -- RECORDS
@@ -136,7 +137,8 @@ table =
     ∷ row 2 [] (ask 1 ∷ ask 200 ∷ ask 302 ∷ ask 203 ∷ ask 808 ∷ []) (refuses 8 ∷ refuses 8 ∷ refuses 8 ∷ refuses 8 ∷ refuses 8 ∷ [])
     -- P: 4 before 8
     ∷ row 0 [] (lent 0 0 ∷ []) (refuses 4 ∷ [])
-    ∷ record { table = let t = fresh 1 2 in withController t 1 (withRead (at t 1) 1); asks = lent 202 0 ∷ []; gives = refuses 4 ∷ [] }
+    -- and before 15: a read position passes the end of an empty log, and an entry waits in the other
+    ∷ record { table = let t = played (fresh 1 2) (report 1 5 ∷ []) in withController t 2 (withRead (at t 2) 2); asks = lent 202 0 ∷ []; gives = refuses 4 ∷ [] }
     -- P: a handover that finishes a sync, with the sums over all that its receiver has then applied
     ∷ row 1 (report 1 5 ∷ []) (ask 101 ∷ []) (serves 101 (101 ∷ []) ∷ [])
     ∷ row 1 (report 1 5 ∷ handover 1 1 ∷ sync 1 ∷ []) (ask 101 ∷ []) (finishes 101 (102 ∷ []) 5 0 ∷ [])
@@ -152,9 +154,11 @@ expected : List Row → List (List Given)
 expected [] = []
 expected (r ∷ rs) = r .gives ∷ expected rs
 
-pub record DispatchCases : Type 0 where
-  hold : results table ≡ expected table
+-- all P cases: those of the dispatcher, and all others
+pub record EveryCase : Type 0 where
+  dispatcher : results table ≡ expected table
+  others : AllCases
 
-pub dispatch-cases : DispatchCases
+pub every-case : EveryCase
 unfolding computed results expected table called givenBy played report sync handover stop following waits firstWaiting nextPair pairQuestions dispatchQuestions saysNone served unserved dispatch scratchServed
-dispatch-cases = record { hold = refl }
+every-case = record { dispatcher = refl; others = all-cases }

@@ -3,18 +3,18 @@
 use mathlib.Core.Path.{_≡_, refl, sym, ap, subst, _∙_}
 use mathlib.Core.Logic.{_≢_}
 use mathlib.Core.Bool.{true, false}
-use mathlib.Core.List.{List, []}
+use mathlib.Core.List.{[]}
 use Prim.Native.Nat.{ℕ, _≤_}
 use native.Mathlib.Omega.{arith}
 use borrow.Author.Tests.{le-leb, eqb-true, not-true}
 use Rattle.lists.proofs.Tests.{and-left, and-right, cond-true, refuted, contradiction}
-use Rattle.model.specs.Tables.{scratchSize, noSums, yes?, at}
+use Rattle.model.specs.Tables.{scratchSize, yes?, at}
 use Rattle.model.specs.Events.{next, resulting}
 use Rattle.model.specs.Records.{sizeOf, afterRecord, decode}
 use Rattle.model.specs.WellFormed.{wellFormed}
 use Rattle.model.specs.Questions.{firstNo, unread, kindQuestions, recordQuestions, handoverQuestions, eventQuestions, commandQuestions, scratchRoom, stepQuestions}
 use Rattle.model.specs.Calls.{Outcome, answering, accepted, refused, event, scratchAfter}
-use Rattle.turns.specs.Dispatcher.{noPair, some?, handover, waits, nextPair, saysNone, DispatchOutcome, served, unserved, dispatch, scratchServed}
+use Rattle.turns.specs.Dispatcher.{some?, handover, waits, nextPair, saysNone, DispatchOutcome, served, unserved, dispatch, scratchServed}
 use Rattle.model.specs.declared.Pair.{Pair}
 use Rattle.model.specs.declared.Table.{Table}
 use Rattle.model.specs.declared.Command.the-variants.{Act}

@@ -1,9 +1,8 @@
 -- The dispatcher's round: every pair is some places after any other, and what is found is the nearest that waits. What is served is
 -- allowed, and where none is found none waits. Assumes nothing.
 use mathlib.Core.Path.{_≡_, refl, sym, ap, ap₂, _∙_}
-use mathlib.Core.Logic.{_≢_, _⊎_, inl, inr}
-use mathlib.Core.Bool.{Bool, true, false, not, _&&_, _||_, cond}
-use mathlib.Core.List.{List, [], _∷_, _++_}
+use mathlib.Core.Bool.{true, false, not, _&&_, _||_}
+use mathlib.Core.List.{List, []}
 use Prim.Native.Nat.{ℕ, zero, suc, _+_, _-_, _*_, _≤_, _<_}
 use native.Mathlib.Nat.{suc-mul, mul-le-mul}
 use native.Mathlib.Omega.{arith}
@@ -11,12 +10,12 @@ use native.Mathlib.Decide.{decLt}
 use lib.Dec.{eqb, leb, ltb}
 use borrow.Author.Tests.{lt-ltb, ltb-true, ltb-false, le-leb, leb-true, eqb-true, eq-eqb, not-true}
 use Rattle.lists.proofs.Tests.{and-left, and-right, both, implies-at, implies-of, cond-case, contradiction, refuted}
-use Rattle.model.specs.Tables.{Among, scratchSize, yes?, at, place}
+use Rattle.model.specs.Tables.{scratchSize, yes?, at, place}
 use Rattle.model.specs.Fair.{named}
 use Rattle.model.specs.WellFormed.{wellFormed}
 use Rattle.model.specs.Questions.{firstNo, lentTable, unread, handoverQuestions, eventQuestions}
 use Rattle.model.specs.Calls.{answering, refused}
-use Rattle.turns.specs.Dispatcher.{pair, noPair, some?, handover, following, waits, firstWaiting, nextPair, pairQuestions, dispatchQuestions, saysNone, DispatchOutcome, served, unserved, dispatch}
+use Rattle.turns.specs.Dispatcher.{pair, some?, handover, following, waits, firstWaiting, nextPair, pairQuestions, dispatchQuestions, saysNone, DispatchOutcome, served, unserved, dispatch}
 use Rattle.turns.specs.Claims.{InRange}
 use Rattle.model.specs.declared.Pair.{Pair}
 use Rattle.model.specs.declared.Controller.{Controller}
@@ -187,18 +186,6 @@ module _ (n : ℕ) (C : List Controller) where
   pub found : (p : Pair) → InRange n p → some? (nextPair n C p) ≡ true → InRange n (nextPair n C p) × (waits C (nextPair n C p) ≡ true)
   unfolding nextPair
   found = first-found (n * n)
-
-  first-none : (k : ℕ) (p : Pair) → some? (firstWaiting k n C p) ≡ false → InRange n p → firstWaiting k n C p ≡ noPair
-  unfolding firstWaiting
-  first-none zero p e i = refl
-  first-none (suc k) p e i =
-      let x = following n p in
-      cond-case (λ y. some? y ≡ false → y ≡ noPair) (waits C x) _ _
-      (λ _ f. contradiction (lt-ltb 0 _ (following-range n p i .receiver .low)) f) (λ _ f. first-none k x f (following-range n p i)) e
-
-  pub none-found : (p : Pair) → some? (nextPair n C p) ≡ false → InRange n p → nextPair n C p ≡ noPair
-  unfolding nextPair
-  none-found = first-none (n * n)
 
 -- THE CALL
 

@@ -7,7 +7,7 @@ use Rattle.dispatcher.proofs.choose.Statement.{statement}
 use Rattle.dispatcher.proofs.choose.Tie as tie
 
 returns : tie.Need-returns
-returns c = c .none .ensures ∙ pair-refuses _ _ _ _ (not-true _ (c .before .if1 .taken))
+returns c = c .no-pair .ensures ∙ pair-refuses _ _ _ _ (not-true _ (c .before .if1 .taken))
 
 next-pair-requires : tie.Need-next-pair-requires
 next-pair-requires c κs = let i = in-range _ _ (not-false _ (c .if1 .left)) in (c .before .pre, (i .receiver, i .owner))
@@ -15,7 +15,7 @@ next-pair-requires c κs = let i = in-range _ _ (not-false _ (c .if1 .left)) in 
 returns-2 : tie.Need-returns-2
 returns-2 c =
     let k = c .before .before in
-    c .none2 .ensures ∙ room-refuses _ _ _ _ (not-false _ (k .before .if1 .left)) _ (k .next-pair .ensures) (c .before .if2 .taken)
+    c .no-pair2 .ensures ∙ room-refuses _ _ _ _ (not-false _ (k .before .if1 .left)) _ (k .next-pair .ensures) (c .before .if2 .taken)
 
 returns-3 : tie.Need-returns-3
 returns-3 c =

@@ -10,7 +10,7 @@ use Rattle.model.specs.WellFormed.{wellFormed}
 use Rattle.model.proofs.Tested.{facts}
 use Rattle.effects.specs.declared.Effect.{Effect}
 use Rattle.effects.specs.Effects.{effectOf}
-use Rattle.effects.proofs.Seats.{allowed-parties}
+use Rattle.effects.proofs.Seats.{allowed-hand}
 use Rattle.dispatcher.proofs.DispatchAnswers.{table-refused, Chosen, unserved-answer, chosen, served-answer}
 use Rattle.dispatcher.proofs.dispatch.Statement.{statement}
 use Rattle.dispatcher.proofs.dispatch.Tie as tie
@@ -22,10 +22,10 @@ answered c = c .before .before
 abbrev carried : tie.After-answer → tie.After-carry-out
 carried c = c .before .before .before
 
-abbrev both : tie.After-carry-out → tie.After-both
-both c = c .before .before .before .before
+abbrev hand : tie.After-carry-out → tie.After-at-hand
+hand c = c .before .before .before .before
 
-abbrev allowed : tie.After-both → tie.Else2
+abbrev allowed : tie.After-at-hand → tie.Else2
 allowed c = c .before .before
 
 abbrev choice : tie.Else2 → tie.After-choose
@@ -57,9 +57,9 @@ returns-3 : tie.Need-returns-3
 unfolding effectOf
 returns-3 c =
     let d = carried (answered c) in
-    let b = both d in
+    let b = hand d in
     let k = picked (allowed b) in
-    let f = d .carry-out .ensures .effected (allowed-parties _ _ (k .accepted) _ (b .both .ensures)) (k .roomy) in
+    let f = d .carry-out .ensures .effected (allowed-hand _ _ (k .accepted) _ refl _ (b .at-hand .ensures)) (k .roomy) in
     served-answer _ _ _ _ k _ _ f _ (c .stored .ensures .stored (k .accepted, ap (λ (x : Effect). x .controller) (f .effect)))
 
 pub dispatch-spec : {M : Type 1} → statement M

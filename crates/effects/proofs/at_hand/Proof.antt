@@ -1,5 +1,5 @@
 -- `at_hand` are the controllers in the places of a record's. Assumes nothing.
-use mathlib.Core.Path.{_≡_, refl}
+use mathlib.Core.Path.{refl}
 use Prim.Native.Nat.{_<_}
 use native.Mathlib.Omega.{arith}
 use Rattle.model.specs.Tables.{seats}
