@@ -64,7 +64,6 @@ dispatch-is-record t p room e =
     let r = waiting-event t _ (s .range) room f (allowed-waits t _ (s .allowed) .1) (s .passed .enough (s .some)) in
     rw (d .1) (record {
       answer = ap (λ (o : Outcome). o .answer) r;
-      rest = ap (λ (o : Outcome). o .answer .rest) r;
       table = ap (λ (o : Outcome). o .table) r;
       scratch = λ w. rw r (sym (cond-true {b = some? (nextPair (t .n) (t .controllers) p)} _ _ (s .some)));
     })

@@ -21,7 +21,6 @@ handoverRecord p = 3 ∷ 3 ∷ p .receiver ∷ p .owner ∷ []
 -- an outcome is that of the event call for the record of its pair
 pub record IsRecord (t : Table) (room : ℕ) (o : DispatchOutcome) : Type 0 where
   pub answer : event t (handoverRecord (o .answer .pair)) room .answer ≡ o .answer .answer
-  pub rest : event t (handoverRecord (o .answer .pair)) room .answer .rest ≡ []
   pub table : event t (handoverRecord (o .answer .pair)) room .table ≡ o .table
   pub scratch : (w : List ℕ) → scratchAfter (event t (handoverRecord (o .answer .pair)) room .answer .refusal) w ≡ scratchServed (o .answer .pair) w
 
