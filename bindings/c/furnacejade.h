@@ -603,7 +603,7 @@ static inline unsigned furnacejade_play(furnacejade_table *t, furnacejade_record
  * pairs without an unread entry. (A log owner may have stopped.) The first handover that is left is carried out, and the
  * answer has its pair and what furnacejade_event answers of it. If no handover is left it says "none": refusal 0 and the pair
  * 0 and 0. Questions 4 and 8 are put, 8 to both numbers of the pair named; then it may say "none"; then 15 is put. A handover
- * leaves table and scratch as the same event does. "None" and a refusal leave them as they were. Takes STACK of stack.
+ * leaves table and scratch as the same event does. "None" and a refusal leave them as they were. Takes 23 KB of stack.
  *
  * Where each call names the pair that the call before it served, and nobody stops, an entry that is next for a running receiver
  * is read within n x n handovers of the dispatcher, whatever other calls are made in between. A run has at most 3,136 accepted
