@@ -607,7 +607,8 @@ static inline unsigned furnacejade_play(furnacejade_table *t, furnacejade_record
  *
  * Where each call names the pair that the call before it served, and nobody stops, an entry that is next for a running receiver
  * is read within n x n handovers of the dispatcher, whatever other calls are made in between. A run has at most 3,136 accepted
- * handovers in all, so this loop comes to an end. If that is "none", every running controller has read every log to its end.
+ * handovers in all, so this loop comes to an end. If it ends with "none", every running controller has read every log to its
+ * end.
  *
  *     furnacejade_dispatch_answer next;
  *     next.pair.receiver = next.pair.owner = table->n;

@@ -139,7 +139,7 @@
 //!     assert_eq!(machine.look(controller)?.sums, Sums { added: 30, withdrawn: 0 });
 //! }
 //!
-//! // Who does not ask what each handover did has one call for all of them.
+//! // If you need no answers, one call makes all handovers.
 //! machine.play(Record::Report { sender: 3, amount: -2 })?;
 //! assert_eq!(machine.dispatch_to_end(), 9);
 //! # Ok(())

@@ -77,8 +77,8 @@ impl Machine {
     /// controller has then read every log to its end. If more than half of all controllers run, each of those that run
     /// has applied all that was sent, less what was cut off.
     ///
-    /// The answers of syncs that are finished on the way are not told. Who waits for one calls
-    /// [`dispatch`](Machine::dispatch).
+    /// The answers of syncs that are finished on the way are not returned. To get them, call
+    /// [`dispatch`](Machine::dispatch) in a loop.
     pub fn dispatch_to_end(&mut self) -> usize {
         let (mut last, mut handovers) = (self.end_of_round(), 0);
         // The table is well formed, the pair is one of its own and the scratch is long enough: nothing is refused.

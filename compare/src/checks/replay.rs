@@ -39,17 +39,8 @@ pub fn keeps_demand3(case: &Case, engine: &dyn Engine) -> Result<(), String> {
 pub fn ledger_of(case: &Case, engine: &dyn Engine) -> Option<Ledger> {
     let (mut ledger, table) = list_head(case, engine)?;
     let mut side = Side { engine, table };
-    let look = |ledger: &mut Ledger, t: &Table, c: usize| {
-        let LookAnswer { refusal, panel } = engine.look(t, c);
-        let (classes, registers) = (panel.classes.map(sums), panel.registers.map(register));
-        ledger.look(c, refusal.0, sums(panel.sums), classes, registers);
-    };
     for step in 0..=case.calls.len() {
-        for c in ledger.ended() {
-            look(&mut ledger, &side.table, c);
-            let answer = side.event(&local_read(c), SCRATCH).answer;
-            ledger.ending_read(c, answer.refusal.0, sums(answer.sums));
-        }
+        at_ending(&mut ledger, &mut side);
         if ledger.broken().is_some() {
             ledger.name_place(step);
             break;
@@ -60,7 +51,7 @@ pub fn ledger_of(case: &Case, engine: &dyn Engine) -> Option<Ledger> {
                 let figures = Figures { finished: answer.finished, sums: sums(answer.sums) };
                 ledger.event(bytes, answer.refusal.0, &set(&answer), Some(figures));
             }
-            Some(Call::Look(c)) => look(&mut ledger, &side.table, *c),
+            Some(Call::Look(c)) => look(&mut ledger, &side, *c),
             Some(Call::CountBefore(asked)) => {
                 let answer = &engine.counts_before(&mut side.table, &[*asked])[0];
                 let names = [asked.first, asked.second].map(|x| (x.sender as usize, x.number.0 as usize));
@@ -73,6 +64,21 @@ pub fn ledger_of(case: &Case, engine: &dyn Engine) -> Option<Ledger> {
     Some(ledger)
 }
 
+fn look(ledger: &mut Ledger, side: &Side, c: usize) {
+    let LookAnswer { refusal, panel } = side.engine.look(&side.table, c);
+    let (classes, registers) = (panel.classes.map(sums), panel.registers.map(register));
+    ledger.look(c, refusal.0, sums(panel.sums), classes, registers);
+}
+
+/// A look and a local read of each controller at which the ending speaks of this moment.
+fn at_ending(ledger: &mut Ledger, side: &mut Side) {
+    for c in ledger.ended() {
+        look(ledger, side, c);
+        let answer = side.event(&local_read(c), SCRATCH).answer;
+        ledger.ending_read(c, answer.refusal.0, sums(answer.sums));
+    }
+}
+
 /// A call of the dispatcher. Answers the pair that it served.
 fn dispatch(ledger: &mut Ledger, side: &mut Side, named: Pair, scratch: usize) -> Pair {
     let DispatchAnswer { pair, answer } = side.dispatch(named, scratch).answer;
@@ -83,7 +89,8 @@ fn dispatch(ledger: &mut Ledger, side: &mut Side, named: Pair, scratch: usize) -
 }
 
 /// A list with calls of the dispatcher goes on with two rounds of it alone, or to "none". Each call names the pair that
-/// the engine itself answered, which no case can say beforehand.
+/// the engine itself answered, which no case can say beforehand. Where the ending speaks on the way, and so at "none" if
+/// a majority runs, looks and local reads are added as they are before.
 fn go_on(ledger: &mut Ledger, side: &mut Side, case: &Case) {
     let (calls, n) = (case.calls.len(), ledger.n());
     if !case.calls.iter().any(|call| matches!(call, Call::Dispatch { .. })) {
@@ -92,6 +99,7 @@ fn go_on(ledger: &mut Ledger, side: &mut Side, case: &Case) {
     let mut last = Pair { receiver: n, owner: n };
     for further in 1..=2 * n * n {
         last = dispatch(ledger, side, last, SCRATCH);
+        at_ending(ledger, side);
         if ledger.broken().is_some() {
             return ledger.name_place(calls + further);
         }

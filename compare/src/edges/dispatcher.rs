@@ -1,5 +1,6 @@
 //! The edges of the dispatcher: its round from every pair, its questions, what it passes over, the most handovers that
-//! there are, the entry that is read by the last of n x n, and what the checker of lists says of all this.
+//! there are, the entry that is read by the last of n x n, and what the checker of lists says of all this. The run of
+//! docs/RULES.md, section 30, stands with its answers in `cases/answers/lists.txt`.
 
 use super::script::{expect, sums, Script};
 use crate::cases::records::{handover, local_read, report, stop};

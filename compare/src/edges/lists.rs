@@ -45,6 +45,17 @@ struct Shown {
     registers: [Register; 8],
 }
 
+/// The runs of docs/RULES.md that stand among the lists, each by its name there and how many handovers of the
+/// dispatcher it has.
+const OF_RULES: [(&str, usize); 6] = [
+    ("the worked run", 0),
+    ("the run with classes", 0),
+    ("the run with reports under way", 0),
+    ("the run with a set point", 0),
+    ("a finished report is found by another's sync, and not by its local read before", 0),
+    ("the run of the dispatcher", 18),
+];
+
 fn numbers(text: &str) -> Vec<i64> {
     text.split_whitespace().filter_map(|word| word.parse().ok()).collect()
 }
@@ -232,9 +243,15 @@ fn gives(script: &mut Script, call: &Said) -> bool {
 }
 
 pub fn check(engine: &dyn Engine) -> Result<(), String> {
-    for list in List::all_of(include_str!("../../cases/answers/lists.txt")) {
+    let right = List::all_of(include_str!("../../cases/answers/lists.txt"));
+    for list in &right {
         list.check_given(engine)?;
         list.check_told()?;
+    }
+    for (what, handovers) in OF_RULES {
+        let served = |call: &&Said| matches!(call, Said::Dispatch(dispatch) if dispatch.pair.0 > 0);
+        let made = |list: &List| list.calls.iter().filter(served).count() == handovers;
+        expect(right.iter().any(|list| list.what == what && made(list)), &format!("{what}, of docs/RULES.md"))?;
     }
     let wrong = List::all_of(include_str!("../../cases/answers/wrong-lists.txt"));
     expect(wrong.iter().all(|list| list.wrong.is_some()), "a list that no engine gives names what is wrong with it")?;
