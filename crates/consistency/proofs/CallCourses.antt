@@ -5,7 +5,7 @@ use mathlib.Core.List.{List, [], _∷_, foldl}
 use lib.ListN.{length}
 use Rattle.model.specs.Events.{next}
 use Rattle.model.specs.Calls.{answering}
-use Rattle.turns.specs.Dispatcher.{handover, Dispatched, DispatchOutcome, served, unserved, dispatch}
+use Rattle.turns.specs.Dispatcher.{handover, Dispatched, DispatchOutcome, withHandover, withNone, dispatch}
 use Rattle.model.specs.declared.Table.{Table}
 use Rattle.turns.proofs.Dispatching.{dispatch-case}
 use Rattle.consistency.specs.Entries.{Service, dispatching, serve, madeBy, Call, singleEvent, observing, serving, handedOver, entriesOf, left, transcript}
@@ -20,7 +20,7 @@ handovers-course s t (x ∷ xs) u a = (a .0, handovers-course s (next t (handove
 
 -- a served call makes no others, and they lead to the table that it leaves: here each of them has its case
 serve-allowed : (t : Table) (s : Service) → Allowed s t (madeBy s (serve t s .answer)) (serve t s .table)
-unfolding serve madeBy served unserved answering Allowed Gives Chooses
+unfolding serve madeBy withHandover withNone answering Allowed Gives Chooses
 serve-allowed t (dispatching p w) =
     dispatch-case t p (length w)
     (λ (o : DispatchOutcome). o .answer .pair ≡ dispatch t p (length w) .answer .pair → Allowed (dispatching p w) t (madeBy (dispatching p w) (o .answer)) (o .table))

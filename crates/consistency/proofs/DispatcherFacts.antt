@@ -19,15 +19,14 @@ use Rattle.model.specs.Records.{afterRecord}
 use Rattle.model.specs.Fair.{named}
 use Rattle.model.specs.Questions.{firstNo, unread}
 use Rattle.model.specs.Calls.{answering, refused}
-use Rattle.turns.specs.Dispatcher.{pair, waits, nextPair, dispatchQuestions, Dispatched, saysNone, DispatchOutcome, served, unserved, dispatch}
+use Rattle.turns.specs.Dispatcher.{pair, waits, nextPair, dispatchQuestions, Dispatched, saysNone, DispatchOutcome, withHandover, withNone, dispatch}
 use Rattle.model.specs.declared.Pair.{Pair}
 use Rattle.model.specs.declared.Table.{Table}
 use Rattle.model.proofs.Tested.{tested, named-at}
 use Rattle.turns.specs.Claims.{InRange}
 use Rattle.turns.proofs.Dispatching.{distance, none-waits, Passed, passed-dispatch, dispatch-case, dispatch-refusal, none-said}
 use Rattle.broadcast.specs.State.{State}
-use Rattle.consistency.specs.Entries.{dispatching, serve, madeBy, Call, singleEvent, observing, serving, Entry, handedOver, entriesOf, left, transcript, Step, carried, steps, did}
-use Rattle.consistency.specs.Entries.{served as asked}
+use Rattle.consistency.specs.Entries.{dispatching, serve, madeBy, Call, singleEvent, observing, serving, Entry, served, handedOver, entriesOf, left, transcript, Step, carried, steps, did}
 use Rattle.consistency.specs.Ledger.{Ledger, ledger}
 use Rattle.consistency.specs.Lines.{recordEntries, fileEntries}
 use Rattle.consistency.specs.Dispatches.{isHandover, NoStop, handoverCount, dispatches, FollowOn, answerIn, dispatchAnswers, notNone}
@@ -96,16 +95,16 @@ asked-busy true a k f = elim (decided (saysNone a)) [ inl e ↦ rw e (omega arit
 
 serving-busy : {n : ℕ} {t : Table} {l : Ledger} → Recorded n t l → (v : ℕ) (p : Pair) (w : List ℕ)
     → let es = entriesOf t (serving (dispatching p w)) in notNone (dispatchAnswers n es) ≤ handoverCount (did v es)
-unfolding entriesOf serve madeBy served unserved answering flatMap answerIn steps handoverCount isHandover saysNone refused
+unfolding entriesOf serve madeBy withHandover withNone answering flatMap answerIn steps handoverCount isHandover saysNone refused
 serving-busy {n} {t} k v p w =
     let room = length w in
     let q = nextPair (t .n) (t .controllers) p in
     let b = named n (p .receiver) && (named n (p .owner) && leb scratchSize room) in
     dispatch-case t p room
-    (λ (o : DispatchOutcome). let es = asked (dispatching p w) (o .answer) ∷ handedOver (dispatching p w) (madeBy (dispatching p w) (o .answer)) in
+    (λ (o : DispatchOutcome). let es = served (dispatching p w) (o .answer) ∷ handedOver (dispatching p w) (madeBy (dispatching p w) (o .answer)) in
     notNone (dispatchAnswers n es) ≤ handoverCount (did v es))
-    (λ s. rw (s .some) (asked-busy b (served t q .answer) 1 (λ _ _. omega arith)))
-    (λ _. asked-busy b (unserved t (firstNo (dispatchQuestions t p q room)) .answer) 0 (λ e f. contradiction (rw (passes e) refl) f))
+    (λ s. rw (s .some) (asked-busy b (withHandover t q .answer) 1 (λ _ _. omega arith)))
+    (λ _. asked-busy b (withNone t (firstNo (dispatchQuestions t p q room)) .answer) 0 (λ e f. contradiction (rw (passes e) refl) f))
   where
     passes : (named n (p .receiver) && (named n (p .owner) && leb scratchSize (length w))) ≡ true
         → firstNo (dispatchQuestions t p (nextPair (t .n) (t .controllers) p) (length w)) ≡ 0
@@ -181,12 +180,12 @@ module _ (h : Head) (heads : Heads h) (calls : List Call) where
   pub bounded : (i j : ℕ) → handoverCount (did v (between h calls i j)) ≤ 3136
   bounded i j = few-handovers (moment-at h heads calls i) (did v (between h calls i j)) _ (between-steps h heads calls i (j - i))
 
-  pub accepts : (i : ℕ) (p : Pair) (w : List ℕ) (a : Dispatched) (after : List Entry) → drop i (entries h calls) ≡ asked (dispatching p w) a ∷ after
+  pub accepts : (i : ℕ) (p : Pair) (w : List ℕ) (a : Dispatched) (after : List Entry) → drop i (entries h calls) ≡ served (dispatching p w) a ∷ after
       → Among n (p .receiver) → Among n (p .owner) → scratchSize ≤ length w → a .answer .refusal ≡ 0
   unfolding Gives serve
   accepts i p w a after q r o enough =
       let t = tableAt h calls i in
-      ap (λ (x : Dispatched). x .answer .refusal) (gives-at h heads calls i (asked (dispatching p w) a) after q)
+      ap (λ (x : Dispatched). x .answer .refusal) (gives-at h heads calls i (served (dispatching p w) a) after q)
       ∙ (dispatch-refusal t p (length w) ∙ passed-dispatch t p _ (length w) (call-passes (recorded i) p _ (length w) r o enough))
 
   pub none-reads : LastSaysNone h calls → (r o : ℕ)
@@ -195,7 +194,7 @@ module _ (h : Head) (heads : Heads h) (calls : List Call) where
   unfolding Gives serve steps flatMap
   none-reads s =
       let i = length (s .before) in
-      let x = asked (dispatching (s .named) (s .scratch)) (s .answer) in
+      let x = served (dispatching (s .named) (s .scratch)) (s .answer) in
       let g = gives-at h heads calls i x [] (ap (drop i) (s .last) ∙ drop-append-seam (s .before) (x ∷ [])) in
       let same : moment h calls i ≡ ledger (did v (entries h calls))
       = ap (λ (es : List Entry). ledger (did v es)) (ap (take i) (s .last) ∙ take-append-seam (s .before) (x ∷ []))

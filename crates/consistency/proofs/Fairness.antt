@@ -12,7 +12,7 @@ use Rattle.lists.proofs.Tests.{both}
 use Rattle.model.specs.Tables.{at, place}
 use Rattle.model.specs.Questions.{unread}
 use Rattle.model.specs.Calls.{EventAnswer}
-use Rattle.turns.specs.Dispatcher.{pair, some?, handover, waits, nextPair, DispatchOutcome, served, dispatch}
+use Rattle.turns.specs.Dispatcher.{pair, some?, handover, waits, nextPair, DispatchOutcome, withHandover, dispatch}
 use Rattle.model.specs.declared.Name.{Name}
 use Rattle.model.specs.declared.Pair.{Pair}
 use Rattle.model.specs.declared.Table.{Table}
@@ -20,8 +20,7 @@ use Rattle.model.proofs.Allowed.{handover-allowed}
 use Rattle.turns.specs.Claims.{InRange}
 use Rattle.turns.proofs.Dispatching.{after, Distance, Nearer, nearer, dispatch-some}
 use Rattle.broadcast.specs.State.{State}
-use Rattle.consistency.specs.Entries.{dispatching, Entry, answered, observed, handed, listed, nothingSaid, Step, carried, steps, did}
-use Rattle.consistency.specs.Entries.{served as asked}
+use Rattle.consistency.specs.Entries.{dispatching, Entry, answered, observed, served, handed, listed, nothingSaid, Step, carried, steps, did}
 use Rattle.consistency.specs.Ledger.{Ledger, put, moved}
 use Rattle.consistency.specs.Dispatches.{NoStop, dispatchIn, dispatches, FollowOn}
 use Rattle.consistency.specs.Demand3.{Waiting}
@@ -65,7 +64,7 @@ module _ (n v r o : ℕ) where
   -- a handover of the dispatcher's: what waits is fewer places after the pair served than it was after the pair named
   served-nearer : {s₀ : State} {t : Table} {l : Ledger} → Moment n s₀ t l → (d : ℕ) (p q : Pair) (w : List ℕ) (a : EventAnswer) → d ≤ n * n
       → Gives t (handed (dispatching p w) q a) → Waiting n l r o → (InRange n p → Distance n d p (pair r o)) → Nearer n d (t .controllers) (pair r o) q
-  unfolding Gives Chooses served
+  unfolding Gives Chooses withHandover
   served-nearer {t = t} m d p q w a le g wt near =
       let some : some? (dispatch t p (length w) .answer .pair) ≡ true
       = rw (← g .2) (lt-ltb 0 (q .receiver) (handover-allowed t (q .receiver) (q .owner) (g .0) .receiver .low)) in
@@ -117,8 +116,8 @@ module _ (n v r o : ℕ) where
   fair-course {t = t} {l} m q (observed x a ∷ es) u c d p z le =
       let e = observed x a in
       passed l e es refl (fair-course (entry-moment m q e (c .0)) (told-version t e ∙ q) es u (c .1) d p z le)
-  fair-course {t = t} {l} m q (asked s a ∷ es) u c d p z le =
-      let e = asked s a in
+  fair-course {t = t} {l} m q (served s a ∷ es) u c d p z le =
+      let e = served s a in
       passed l e es refl (fair-course (entry-moment m q e (c .0)) (told-version t e ∙ q) es u (c .1) d p z le)
   fair-course {t = t} {l} m q (handed (dispatching x w) y a ∷ es) u c d p z le =
       let e = handed (dispatching x w) y a in

@@ -3,10 +3,9 @@ use mathlib.Core.Path.{_≡_, sym, ap, _∙_}
 use mathlib.Core.Logic.{_≢_, inl, inr, ⊎-swap}
 use mathlib.Core.Bool.{true}
 use mathlib.Core.List.{List, [], _∷_, _++_, foldl, append-nil, append-assoc, cons-ne-nil}
-use Prim.Native.Nat.{ℕ, suc, _*_, _<_}
+use Prim.Native.Nat.{ℕ, suc}
 use native.Mathlib.Omega.{arith}
 use lib.ListN.{length, take, drop}
-use Rattle.lists.specs.Below.{count}
 use Rattle.model.specs.Tables.{at, Among, messagesOf}
 use Rattle.model.specs.Events.{weigh}
 use Rattle.model.specs.WellFormed.{wellFormed}
@@ -19,7 +18,7 @@ use Rattle.model.proofs.Steps.{step-first-no, event-is-step}
 use Rattle.invariant.proofs.Refusals.{step-refusals}
 use Rattle.consistency.specs.Entries.{observe, panelLook, Call, singleEvent, observing, Entry, answered, listed, entriesOf, left, transcript, did}
 use Rattle.consistency.specs.Ledger.{Sent, applied, ledger, remaining, weights, showing}
-use Rattle.consistency.specs.Demand3.{Head, Heads, version, controllers, opening, given, entries, moment, IsRunning, ReadOut, LookShows, readRecord, Consistent}
+use Rattle.consistency.specs.Demand3.{Head, Heads, version, controllers, opening, given, entries, moment, IsRunning, MajorityRuns, ReadOut, LookShows, readRecord, Consistent}
 use Rattle.consistency.specs.Courses.{tableAt}
 use Rattle.consistency.proofs.Recorded.{distinct-sent}
 use Rattle.consistency.proofs.LedgerRegisters.{stamps-differ}
@@ -93,7 +92,7 @@ demand-3 h heads calls = record {
       let now = take i calls in
       let l = ledger (did (version h) (entries h now)) in
       let read = none-reads h heads now s in
-      let out : controllers h < 2 * count (controllers h) (λ j. l .runs (suc j)) → ReadOut (controllers h) l = λ most. record { majority = most; to-end = read } in
+      let out : MajorityRuns (controllers h) l → ReadOut (controllers h) l = λ most. record { majority = most; to-end = read } in
       record {
         read = read;
         applies = λ most r on. moment-ending (moment-end h heads now) (out most) r on;

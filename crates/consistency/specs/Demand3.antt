@@ -85,9 +85,13 @@ pub record IsRunning (n : ℕ) (l : Ledger) (r : ℕ) : Type 0 where
   pub named : Among n r
   pub running : l .runs r ≡ true
 
--- more than half of all controllers run, and each of these has read each of the n logs to its end
+-- more than half of all controllers run
+abbrev pub MajorityRuns : ℕ → Ledger → Type 0
+MajorityRuns n l = n < 2 * count n (λ i. l .runs (suc i))
+
+-- and each of these has read each of the n logs to its end
 pub record ReadOut (n : ℕ) (l : Ledger) : Type 0 where
-  pub majority : n < 2 * count n (λ i. l .runs (suc i))
+  pub majority : MajorityRuns n l
   -- "A log is read to its end when the reader's place equals its length."
   pub to-end : (r o : ℕ) → IsRunning n l r → Among n o → l .place r o ≡ length (l .log o)
 
@@ -146,9 +150,8 @@ pub record LastSaysNone (h : Head) (calls : List Call) : Type 0 where
 -- these has applied exactly the messages sent, less those cut off, and a look at it shows that
 pub record AtTheEnd (h : Head) (calls : List Call) (l : Ledger) : Type 0 where
   pub read : (r o : ℕ) → IsRunning (controllers h) l r → Among (controllers h) o → l .place r o ≡ length (l .log o)
-  pub applies : controllers h < 2 * count (controllers h) (λ i. l .runs (suc i)) → (r : ℕ) → IsRunning (controllers h) l r → Exactly (applied l r) (remaining l)
-  pub shows : controllers h < 2 * count (controllers h) (λ i. l .runs (suc i)) → (r : ℕ) → IsRunning (controllers h) l r
-      → LookShows h calls r (showing (l .sent) (remaining l))
+  pub applies : MajorityRuns (controllers h) l → (r : ℕ) → IsRunning (controllers h) l r → Exactly (applied l r) (remaining l)
+  pub shows : MajorityRuns (controllers h) l → (r : ℕ) → IsRunning (controllers h) l r → LookShows h calls r (showing (l .sent) (remaining l))
 
 -- BEGUN AND FINISHED are positions in the list: entry i, counted from 0, stands between moments i and i + 1
 

@@ -15,7 +15,7 @@ use Rattle.model.specs.Fair.{named}
 use Rattle.model.specs.WellFormed.{wellFormed}
 use Rattle.model.specs.Questions.{firstNo, lentTable}
 use Rattle.model.specs.Calls.{answering, refused}
-use Rattle.turns.specs.Dispatcher.{noPair, some?, handover, nextPair, pairQuestions, dispatchQuestions, DispatchOutcome, served, unserved, dispatch, scratchServed, dispatchAnswerOf}
+use Rattle.turns.specs.Dispatcher.{noPair, some?, handover, nextPair, pairQuestions, dispatchQuestions, DispatchOutcome, withHandover, withNone, dispatch, scratchServed, dispatchAnswerOf}
 use Rattle.model.specs.declared.Pair.{Pair}
 use Rattle.model.specs.declared.Controller.{Controller}
 use Rattle.model.specs.declared.Table.{Table}
@@ -72,11 +72,11 @@ pub record Chosen (t : Table) (p q : Pair) (w : List ℕ) : Type 0 where
   pub some : some? q ≡ true
   pub accepted : Accepted t (handover q)
   pub roomy : scratchSize ≤ length w
-  pub outcome : dispatch t p (length w) ≡ served t q
+  pub outcome : dispatch t p (length w) ≡ withHandover t q
 
 -- a table that is not well formed is refused by 4
 pub table-refused : (t : Table) (p : Pair) (w : List ℕ) → wellFormed t ≡ false → (r : Handed) → r ≡ unchanged t 4 → Dispatches t p w r w
-unfolding dispatch handedOf dispatchAnswerOf unserved unchanged refused noSet scratchServed firstNo dispatchQuestions lentTable
+unfolding dispatch handedOf dispatchAnswerOf withNone unchanged refused noSet scratchServed firstNo dispatchQuestions lentTable
 table-refused t p w f r e = record { outcome = rw f e; clear = rw f refl }
 
 module _ (t : Table) (p : Pair) (w : List ℕ) (formed : wellFormed t ≡ true) (c : Choice) (ec : c ≡ choiceOf (t .n) (t .controllers) p (length w)) where
@@ -104,7 +104,7 @@ module _ (t : Table) (p : Pair) (w : List ℕ) (formed : wellFormed t ≡ true) 
 
   -- no pair was chosen: none is served
   none-changed : c .pair .receiver ≡ 0 → handedOf (dispatch t p (length w)) ≡ unchanged t (c .refusal) × (scratchServed (dispatch t p (length w) .answer .pair) w ≡ w)
-  unfolding handedOf dispatchAnswerOf unserved unchanged refused noSet scratchServed
+  unfolding handedOf dispatchAnswerOf withNone unchanged refused noSet scratchServed
   none-changed z =
       dispatch-case t p (length w) (λ (o : DispatchOutcome). (handedOf o ≡ unchanged t (c .refusal)) × (scratchServed (o .answer .pair) w ≡ w))
       (λ s. absurd (omega (arith, ltb-true 0 (q .receiver) (s .some), z, ap (λ (x : Pair). x .receiver) (served-pair s))))
@@ -114,9 +114,9 @@ module _ (t : Table) (p : Pair) (w : List ℕ) (formed : wellFormed t ≡ true) 
   unserved-answer z r e = let u = none-changed z in record { outcome = e ∙ sym (u .0); clear = sym (u .1) }
 
   -- a pair was chosen: it is the next, and is served
-  serving : c .pair .receiver ≢ 0 → Serves t p (length w) × (dispatch t p (length w) ≡ served t q)
+  serving : c .pair .receiver ≢ 0 → Serves t p (length w) × (dispatch t p (length w) ≡ withHandover t q)
   serving n =
-      dispatch-case t p (length w) (λ (o : DispatchOutcome). Serves t p (length w) × (o ≡ served t q)) (λ s. (s, refl))
+      dispatch-case t p (length w) (λ (o : DispatchOutcome). Serves t p (length w) × (o ≡ withHandover t q)) (λ s. (s, refl))
       (λ f. absurd (n (ap (λ (x : Pair). x .receiver) pair-is ∙ cond-case (λ (x : Pair). x .receiver ≡ 0) (eqb k 0) _ _
       (λ y. omega (arith, ltb-false 0 (q .receiver) (f (eqb-true k 0 y)))) (λ _. refl))))
 
@@ -135,7 +135,7 @@ module _ (t : Table) (p : Pair) (w : List ℕ) (formed : wellFormed t ≡ true) 
 -- the handover of a chosen pair
 pub served-answer : (t : Table) (p q : Pair) (w : List ℕ) → Chosen t p q w → (d : Effect) (v : List ℕ) → Effected t (handover q) w d v
     → (x : Table) → x ≡ next t (handover q) → Dispatches t p w (record { answer = record { pair = q; answer = d .answer }; table = x }) v
-unfolding handedOf dispatchAnswerOf served answering effectOf scratchServed
+unfolding handedOf dispatchAnswerOf withHandover answering effectOf scratchServed
 served-answer t p q w c d v a x ex = record {
   outcome = rw (c .outcome, a .effect, ex) refl;
   clear = rw (c .outcome) (a .clear ∙ sym (cond-true {b = some? q} _ _ (c .some)));

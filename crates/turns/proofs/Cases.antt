@@ -12,7 +12,7 @@ use Rattle.model.specs.declared.Sums.{Sums}
 use Rattle.model.specs.declared.Table.{Table}
 use Rattle.model.proofs.Computed.{computed}
 use Rattle.model.proofs.Cases.{AllCases, all-cases}
-use Rattle.turns.specs.Dispatcher.{pair, following, waits, firstWaiting, nextPair, pairQuestions, dispatchQuestions, Dispatched, saysNone, served, unserved, dispatch, scratchServed}
+use Rattle.turns.specs.Dispatcher.{pair, following, waits, firstWaiting, nextPair, pairQuestions, dispatchQuestions, Dispatched, saysNone, withHandover, withNone, dispatch, scratchServed}
 
 -- RECORDS
 
@@ -160,5 +160,5 @@ pub record EveryCase : Type 0 where
   others : AllCases
 
 pub every-case : EveryCase
-unfolding computed results expected table called givenBy played report sync handover stop following waits firstWaiting nextPair pairQuestions dispatchQuestions saysNone served unserved dispatch scratchServed
+unfolding computed results expected table called givenBy played report sync handover stop following waits firstWaiting nextPair pairQuestions dispatchQuestions saysNone withHandover withNone dispatch scratchServed
 every-case = record { dispatcher = refl; others = all-cases }

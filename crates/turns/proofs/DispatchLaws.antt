@@ -14,7 +14,7 @@ use Rattle.model.specs.Records.{sizeOf, afterRecord, decode}
 use Rattle.model.specs.WellFormed.{wellFormed}
 use Rattle.model.specs.Questions.{firstNo, unread, kindQuestions, recordQuestions, handoverQuestions, eventQuestions, commandQuestions, scratchRoom, stepQuestions}
 use Rattle.model.specs.Calls.{Outcome, answering, accepted, refused, event, scratchAfter}
-use Rattle.turns.specs.Dispatcher.{some?, handover, waits, nextPair, saysNone, DispatchOutcome, served, unserved, dispatch, scratchServed}
+use Rattle.turns.specs.Dispatcher.{some?, handover, waits, nextPair, saysNone, DispatchOutcome, withHandover, withNone, dispatch, scratchServed}
 use Rattle.model.specs.declared.Pair.{Pair}
 use Rattle.model.specs.declared.Table.{Table}
 use Rattle.model.specs.declared.Command.the-variants.{Act}
@@ -56,7 +56,7 @@ module _ (t : Table) (q : Pair) (i : InRange (t .n) q) (room : ℕ) where
 -- WHAT IS SERVED
 
 pub dispatch-is-record : (t : Table) (p : Pair) (room : ℕ) → some? (dispatch t p room .answer .pair) ≡ true → IsRecord t room (dispatch t p room)
-unfolding served answering scratchAfter scratchServed
+unfolding withHandover answering scratchAfter scratchServed
 dispatch-is-record t p room e =
     let d = dispatch-some t p room e in
     let s = d .0 in
@@ -90,20 +90,20 @@ module _ (t : Table) (p : Pair) (room : ℕ) (f : wellFormed t ≡ true) (i : In
 
 -- WHERE NO PAIR IS SERVED
 
-unserved-unchanged : (t : Table) (k : ℕ) → Unchanged t k (unserved t k)
-unfolding unserved refused scratchServed
+unserved-unchanged : (t : Table) (k : ℕ) → Unchanged t k (withNone t k)
+unfolding withNone refused scratchServed
 unserved-unchanged t k = record { pair = refl; answer = refl; table = refl; scratch = λ w. refl }
 
 module _ (t : Table) (p : Pair) (room : ℕ) where
   pub dispatch-refused : dispatch t p room .answer .answer .refusal ≢ 0 → Unchanged t (dispatch t p room .answer .answer .refusal) (dispatch t p room)
-  unfolding served unserved answering refused
+  unfolding withHandover withNone answering refused
   dispatch-refused =
       dispatch-case t p room (λ (o : DispatchOutcome). o .answer .answer .refusal ≢ 0 → Unchanged t (o .answer .answer .refusal) o)
       (λ _ n. absurd (n refl)) (λ _ _. unserved-unchanged t _)
 
   pub dispatch-none : saysNone (dispatch t p room .answer) ≡ true → Unchanged t 0 (dispatch t p room)
-  unfolding served unserved saysNone refused answering
+  unfolding withHandover withNone saysNone refused answering
   dispatch-none =
       dispatch-case t p room (λ (o : DispatchOutcome). saysNone (o .answer) ≡ true → Unchanged t 0 o)
       (λ s e. contradiction (s .some) (not-true _ e))
-      (λ _ e. subst (λ k. Unchanged t 0 (unserved t k)) (sym (eqb-true _ 0 (and-left _ _ e))) (unserved-unchanged t 0))
+      (λ _ e. subst (λ k. Unchanged t 0 (withNone t k)) (sym (eqb-true _ 0 (and-left _ _ e))) (unserved-unchanged t 0))

@@ -15,7 +15,7 @@ use Rattle.model.specs.Fair.{named}
 use Rattle.model.specs.WellFormed.{wellFormed}
 use Rattle.model.specs.Questions.{firstNo, lentTable, unread, handoverQuestions, eventQuestions}
 use Rattle.model.specs.Calls.{answering, refused}
-use Rattle.turns.specs.Dispatcher.{pair, some?, handover, following, waits, firstWaiting, nextPair, pairQuestions, dispatchQuestions, saysNone, DispatchOutcome, served, unserved, dispatch}
+use Rattle.turns.specs.Dispatcher.{pair, some?, handover, following, waits, firstWaiting, nextPair, pairQuestions, dispatchQuestions, saysNone, DispatchOutcome, withHandover, withNone, dispatch}
 use Rattle.turns.specs.Claims.{InRange}
 use Rattle.model.specs.declared.Pair.{Pair}
 use Rattle.model.specs.declared.Controller.{Controller}
@@ -252,31 +252,31 @@ module _ (t : Table) (p : Pair) (room : ℕ) where
       let f = found (t .n) (t .controllers) p (a .named) z in
       record { asked = e; passed = a; range = f .0; some = z; allowed = waits-allowed t q (f .0) (f .1) }
 
-  pub dispatch-case : (P : DispatchOutcome → Type 0) → (Serves → P (served t q)) → ((k ≡ 0 → some? q ≡ false) → P (unserved t k)) → P (dispatch t p room)
+  pub dispatch-case : (P : DispatchOutcome → Type 0) → (Serves → P (withHandover t q)) → ((k ≡ 0 → some? q ≡ false) → P (withNone t k)) → P (dispatch t p room)
   unfolding dispatch
   dispatch-case P f g =
       cond-case P (eqb k 0 && some? q) _ _ (λ e. f (serves (eqb-true k 0 (and-left _ _ e)) (and-right (eqb k 0) _ e)))
       (λ e. g (λ z. refuted (some? q) (λ y. contradiction (both (eq-eqb k 0 z) y) e)))
 
   pub dispatch-refusal : dispatch t p room .answer .answer .refusal ≡ k
-  unfolding served unserved refused answering
+  unfolding withHandover withNone refused answering
   dispatch-refusal = dispatch-case (λ (o : DispatchOutcome). o .answer .answer .refusal ≡ k) (λ s. sym (s .asked)) (λ _. refl)
 
   -- a pair that is answered is the next, and served
-  pub dispatch-some : some? (dispatch t p room .answer .pair) ≡ true → Serves × (dispatch t p room ≡ served t q)
-  unfolding served unserved
+  pub dispatch-some : some? (dispatch t p room .answer .pair) ≡ true → Serves × (dispatch t p room ≡ withHandover t q)
+  unfolding withHandover withNone
   dispatch-some =
-      dispatch-case (λ (o : DispatchOutcome). some? (o .answer .pair) ≡ true → Serves × (o ≡ served t q)) (λ s _. (s, refl)) (λ _ e. contradiction e refl)
+      dispatch-case (λ (o : DispatchOutcome). some? (o .answer .pair) ≡ true → Serves × (o ≡ withHandover t q)) (λ s _. (s, refl)) (λ _ e. contradiction e refl)
 
   -- "none": nothing waits
   pub none-said : saysNone (dispatch t p room .answer) ≡ true → Passed t p q room × (some? q ≡ false)
-  unfolding served unserved saysNone refused answering
+  unfolding withHandover withNone saysNone refused answering
   none-said =
       dispatch-case (λ (o : DispatchOutcome). saysNone (o .answer) ≡ true → Passed t p q room × (some? q ≡ false))
       (λ s e. contradiction (s .some) (not-true (some? q) e))
       (λ f e. let z = eqb-true k 0 (and-left _ _ e) in (dispatch-passed t p q room z, f z))
 
   pub says-none : Passed t p q room → some? q ≡ false → saysNone (dispatch t p room .answer) ≡ true
-  unfolding served unserved saysNone refused
+  unfolding withHandover withNone saysNone refused
   says-none a e =
       dispatch-case (λ (o : DispatchOutcome). saysNone (o .answer) ≡ true) (λ s. contradiction (s .some) e) (λ _. rw (passed-dispatch t p q room a) refl)

@@ -85,19 +85,19 @@ pub record DispatchOutcome : Type 0 where
   pub table : Table
 
 -- the handover of q
-unfoldable pub served : Table → Pair → DispatchOutcome
-served t q = record { answer = record { pair = q; answer = answering t (Act (handover q)) [] }; table = next t (handover q) }
+unfoldable pub withHandover : Table → Pair → DispatchOutcome
+withHandover t q = record { answer = record { pair = q; answer = answering t (Act (handover q)) [] }; table = next t (handover q) }
 
 -- a refusal by k; with 0 for k it is "none"
-unfoldable pub unserved : Table → ℕ → DispatchOutcome
-unserved t k = record { answer = record { pair = noPair; answer = refused t [] k .answer }; table = t }
+unfoldable pub withNone : Table → ℕ → DispatchOutcome
+withNone t k = record { answer = record { pair = noPair; answer = refused t [] k .answer }; table = t }
 
 unfoldable pub dispatch : Table → Pair → ℕ → DispatchOutcome
 dispatch t p room =
     let q = nextPair (t .n) (t .controllers) p in
     let k = firstNo (dispatchQuestions t p q room) in
-    let s = served t q in
-    cond (eqb k 0 && some? q) s (unserved t k)
+    let s = withHandover t q in
+    cond (eqb k 0 && some? q) s (withNone t k)
 
 -- the scratch area after a call that answers the pair q: "nothing lent changed" where that is none
 unfoldable pub scratchServed : Pair → List ℕ → List ℕ
