@@ -15,7 +15,7 @@ use Rattle.model.specs.declared.Sums.{Sums}
 use Rattle.model.specs.declared.Pair.{Pair}
 use Rattle.model.specs.declared.Table.{Table}
 use Rattle.model.specs.declared.Command.the-variants.{Act}
-use Rattle.consistency.specs.Entries.{observe, Service, dispatching, serve, Call, Line, Entry, answered, observed, served, handed, listed}
+use Rattle.consistency.specs.Entries.{observe, Service, dispatching, committing, serve, Call, Line, Entry, answered, observed, served, handed, listed}
 use Rattle.consistency.specs.Lines.{noLine}
 use Rattle.consistency.specs.Demand3.{Head, version, controllers, entries}
 
@@ -42,9 +42,10 @@ lineSaying z (m ∷ ms) = record { set = m ∷ ms; sums = z }
 abbrev pub lineAfter : ℕ → Outcome → Line
 lineAfter c o = lineSaying (panelOf (o .table) c .sums) (o .answer .names)
 
--- a call makes this handover at t: the dispatcher makes that of the pair that it answers there
+-- a call makes this handover at t: the dispatcher that of the pair that it answers there, commit that of the pair that it is asked
 unfoldable pub Chooses : Table → Service → Pair → Type 0
 Chooses t (dispatching p w) q = q ≡ dispatch t p (length w) .answer .pair
+Chooses t (committing p k w) q = q ≡ p
 
 -- what the definitions of the calls answer; of a handover that a served call made, that no question refuses it and that the call makes
 -- it there; of a file, a record that no question refuses, and what its line says

@@ -13,6 +13,7 @@ use Rattle.model.specs.Registers.{exceeds}
 use Rattle.model.specs.Questions.{firstNo, fileQuestions}
 use Rattle.model.specs.Calls.{EventAnswer, freshTable}
 use Rattle.turns.specs.Dispatcher.{Dispatched, saysNone}
+use Rattle.previews.specs.Previews.{Preview}
 use Rattle.model.specs.Runs.{fileRun}
 use Rattle.model.specs.declared.Name.{Name}
 use Rattle.model.specs.declared.Sums.{Sums}
@@ -23,10 +24,10 @@ use Rattle.model.specs.declared.Event.{Event}
 use Rattle.model.specs.declared.Event.the-variants.{Handover}
 use Rattle.model.specs.declared.LookAnswer.{LookAnswer}
 use Rattle.model.specs.declared.Pair.{Pair}
-use Rattle.consistency.specs.Entries.{name, has, Distinct, ownOf, panelLook, dispatching, Call, singleEvent, observing, Line, Entry, answered, observed, served, handed, listed, transcript, Said, Step, carried, steps, did}
+use Rattle.consistency.specs.Entries.{name, has, Distinct, ownOf, panelLook, asking, dispatching, committing, Call, singleEvent, observing, Line, Entry, answered, observed, served, handed, listed, transcript, Said, Step, carried, steps, did}
 use Rattle.consistency.specs.Ledger.{Sent, Ledger, applied, writes, written, registerAt, ledger, sentNames, remaining, weights, showing, finishing}
 use Rattle.consistency.specs.Lines.{fileEntries}
-use Rattle.consistency.specs.Dispatches.{NoStop, handoverCount, dispatches, FollowOn, dispatchAnswers, notNone}
+use Rattle.consistency.specs.Dispatches.{NoStop, handoverCount, actsIn, CutAway, dispatches, FollowOn, dispatchAnswers, notNone}
 
 -- THE HEAD AND THE LIST
 
@@ -152,6 +153,20 @@ pub record AtTheEnd (h : Head) (calls : List Call) (l : Ledger) : Type 0 where
   pub read : (r o : ℕ) → IsRunning (controllers h) l r → Among (controllers h) o → l .place r o ≡ length (l .log o)
   pub applies : MajorityRuns (controllers h) l → (r : ℕ) → IsRunning (controllers h) l r → Exactly (applied l r) (remaining l)
   pub shows : MajorityRuns (controllers h) l → (r : ℕ) → IsRunning (controllers h) l r → LookShows h calls r (showing (l .sent) (remaining l))
+
+-- ASK AND COMMIT
+
+-- entry i is an accepted ask of p, which answers a
+pub record Asked (h : Head) (calls : List Call) (i : ℕ) (p : Pair) (a : Preview) : Type 0 where
+  pub scratch : List ℕ
+  pub after : List Entry
+  pub there : drop i (entries h calls) ≡ observed (asking p scratch) a ∷ after
+  pub accepted : a .refusal ≡ 0
+
+-- entry j is a commit of p with an act count, lent the scratch area w, which answers b
+pub record Committed (h : Head) (calls : List Call) (j : ℕ) (p : Pair) (acts : ℕ) (w : List ℕ) (b : EventAnswer) : Type 0 where
+  pub after : List Entry
+  pub there : drop j (entries h calls) ≡ served (committing p acts w) b ∷ after
 
 -- BEGUN AND FINISHED are positions in the list: entry i, counted from 0, stands between moments i and i + 1
 
@@ -310,3 +325,15 @@ pub record Consistent (h : Head) (calls : List Call) : Type 0 where
   pub none-ends : (i : ℕ)
       → let now = take i calls in
       LastSaysNone h now → AtTheEnd h now (ledger (did (version h) (entries h now)))
+  -- "the receiver's act count (accepted events in which it sent a message, was the receiver of a handover or stopped)": of the steps before
+  -- an accepted ask
+  pub acts : (i : ℕ) (p : Pair) (a : Preview) → Asked h calls i p a → a .acts ≡ actsIn (p .receiver) (did (version h) (take i (entries h calls)))
+  -- "If accepted, its set is the one shown, though others may have acted in between": of a later commit with that count
+  pub as-shown : (i j : ℕ) (p : Pair) (a : Preview) (w : List ℕ) (b : EventAnswer)
+      → Asked h calls i p a → i < j → Committed h calls j p (a .acts) w b → b .refusal ≡ 0 → b .names ≡ a .names
+  -- "an entry cut away in between gives 13": where the receiver has not acted since the ask, a commit with enough scratch is accepted, or a
+  -- stop in between has cut the entry away and it is refused by 13
+  pub taken : (i j : ℕ) (p : Pair) (a : Preview) (w : List ℕ) (b : EventAnswer)
+      → let xs = did (version h) (between h calls i j) in
+      Asked h calls i p a → i < j → Committed h calls j p (a .acts) w b → scratchSize ≤ length w → actsIn (p .receiver) xs ≡ 0
+      → (b .refusal ≡ 0) ⊎ ((b .refusal ≡ 13) × CutAway xs (p .owner) (moment h calls i .place (p .receiver) (p .owner)))

@@ -1,18 +1,20 @@
--- What is read of handovers and of the dispatcher from a part of a list (RULES.md, sections 20 and 30).
-use Prim.Native.Nat.{ℕ}
+-- What is read of handovers, of a controller's acts and of the dispatcher from a part of a list (RULES.md, sections 20, 30 and 31).
+use Prim.Native.Nat.{ℕ, _≤_}
 use mathlib.Core.Path.{_≡_}
 use mathlib.Core.Bool.{Bool, true, false, not, _&&_, cond}
-use mathlib.Core.List.{List, [], _∷_, flatMap}
+use mathlib.Core.List.{List, [], _∷_, _++_, flatMap}
 use lib.ListN.{length}
-use lib.Dec.{leb}
+use lib.Dec.{eqb, leb}
 use Rattle.lists.specs.Below.{tally}
 use Rattle.model.specs.Tables.{scratchSize}
+use Rattle.model.specs.Events.{subject}
 use Rattle.model.specs.Fair.{named}
 use Rattle.turns.specs.Dispatcher.{Dispatched, saysNone}
+use Rattle.model.specs.declared.Name.{Name}
 use Rattle.model.specs.declared.Pair.{Pair}
 use Rattle.model.specs.declared.Event.{Event}
 use Rattle.model.specs.declared.Event.the-variants.{Send, Handover, Stop}
-use Rattle.consistency.specs.Entries.{dispatching, Entry, answered, observed, served, handed, listed, Step, carried}
+use Rattle.consistency.specs.Entries.{dispatching, committing, Entry, answered, observed, served, handed, listed, Said, Step, carried}
 
 -- STEPS
 
@@ -36,6 +38,21 @@ unfoldable pub handoverCount : List Step → ℕ
 handoverCount [] = 0
 handoverCount (carried r e ms ∷ xs) = tally (isHandover e) (handoverCount xs)
 
+-- how often controller c acts: "it sent a message, was the receiver of a handover or stopped"
+unfoldable pub actsIn : ℕ → List Step → ℕ
+actsIn c [] = 0
+actsIn c (carried r e ms ∷ xs) = tally (eqb (subject e) c) (actsIn c xs)
+
+-- the log of o is cut to no more than k entries
+pub record CutAway (xs : List Step) (o k : ℕ) : Type 0 where
+  pub before : List Step
+  pub after : List Step
+  pub said : Said
+  pub kept : ℕ
+  pub set : List Name
+  pub stop : xs ≡ before ++ (carried said (Stop o kept) set ∷ after)
+  pub few : kept ≤ k
+
 -- THE DISPATCHER'S HANDOVERS
 
 -- the pair that a call named, and the pair that it served
@@ -48,6 +65,7 @@ dispatchIn (answered s w a) = []
 dispatchIn (observed o a) = []
 dispatchIn (served s a) = []
 dispatchIn (handed (dispatching p w) q a) = record { named = p; served = q } ∷ []
+dispatchIn (handed (committing p k w) q a) = []
 dispatchIn (listed s x) = []
 
 abbrev pub dispatches : List Entry → List Dispatch
@@ -64,6 +82,7 @@ unfoldable pub answerIn : ℕ → Entry → List Dispatched
 answerIn n (answered s w a) = []
 answerIn n (observed o a) = []
 answerIn n (served (dispatching p w) a) = cond (named n (p .receiver) && (named n (p .owner) && leb scratchSize (length w))) (a ∷ []) []
+answerIn n (served (committing p k w) a) = []
 answerIn n (handed s p a) = []
 answerIn n (listed s x) = []
 

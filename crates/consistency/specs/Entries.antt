@@ -11,6 +11,7 @@ use Rattle.model.specs.Tables.{reportKind, writeKind, messageNumber}
 use Rattle.model.specs.Records.{byte, kind, word, long, decode}
 use Rattle.model.specs.Calls.{EventAnswer, event, look, countBefore}
 use Rattle.turns.specs.Dispatcher.{some?, handover, Dispatched, dispatch}
+use Rattle.previews.specs.Previews.{Preview, preview, commit}
 use Rattle.model.specs.declared.Name.{Name}
 use Rattle.model.specs.declared.Sums.{Sums}
 use Rattle.model.specs.declared.Table.{Table}
@@ -50,28 +51,34 @@ less (x ∷ xs) ys = cond (has x ys) (less xs ys) (x ∷ less xs ys)
 
 -- THE CALLS are of three kinds: a single event, a call that observes, and a call that is served
 
--- A call that observes changes no table, whatever it answers: the panel look, and the count of "goes before". What it is asked:
+-- A call that observes changes no table, whatever it answers: the panel look, the count of "goes before", and ask. What it is asked, and
+-- the scratch area that it is lent:
 pub data Observation : Type 0 where
   panelLook : (controller : ℕ) → Observation
   goesBeforeCount : (controller : ℕ) (first second : Name) → Observation
+  asking : (pair : Pair) (scratch : List ℕ) → Observation
 
 -- the form of its answer, and what it answers
 abbrev pub Observed : Observation → Type 0
 Observed (panelLook c) = LookAnswer
 Observed (goesBeforeCount c a b) = CountAnswer
+Observed (asking p w) = Preview
 
 unfoldable pub observe : Table → (o : Observation) → Observed o
 observe t (panelLook c) = look t c
 observe t (goesBeforeCount c a b) = countBefore t c a b
+observe t (asking p w) = preview t p (length w)
 
--- A call that is served makes handovers, none, one or several: the dispatcher. What it is asked: the pair that it served last, and the
--- scratch area that it is lent
+-- A call that is served makes handovers, none, one or several: the dispatcher, and commit. What it is asked: the pair that it served last,
+-- or the pair whose handover it makes and the act count given back; and the scratch area that it is lent
 pub data Service : Type 0 where
   dispatching : (named : Pair) (scratch : List ℕ) → Service
+  committing : (pair : Pair) (acts : ℕ) (scratch : List ℕ) → Service
 
 -- the form of its answer
 abbrev pub Served : Service → Type 0
 Served (dispatching p w) = Dispatched
+Served (committing p k w) = EventAnswer
 
 -- what it answers, and the table that it leaves
 pub record ServiceOutcome (s : Service) : Type 0 where
@@ -80,14 +87,16 @@ pub record ServiceOutcome (s : Service) : Type 0 where
 
 unfoldable pub serve : Table → (s : Service) → ServiceOutcome s
 serve t (dispatching p w) = let o = dispatch t p (length w) in record { answer = o .answer; table = o .table }
+serve t (committing p k w) = let o = commit t p k (length w) in record { answer = o .answer; table = o .table }
 
 -- The handovers that an answer says were made, in order, each with its pair and with what it answered. That they lead to the table that
 -- the call leaves, each allowed where it is made, is a law for each case (proofs/CallCourses.antt).
 unfoldable pub madeBy : (s : Service) → Served s → List Dispatched
 madeBy (dispatching p w) a = cond (some? (a .pair) && eqb (a .answer .refusal) 0) (a ∷ []) []
+madeBy (committing p k w) a = cond (eqb (a .refusal) 0) (record { pair = p; answer = a } ∷ []) []
 
 -- "In the list stand the single-event call, with any bytes and any scratch, and the panel look at any number"; the count of "goes
--- before", at any number and of any two names; and the dispatcher, with any pair and any scratch
+-- before", at any number and of any two names; and the dispatcher, ask and commit, with any pair, any count and any scratch
 pub data Call : Type 0 where
   singleEvent : (bytes scratch : List ℕ) → Call
   observing : Observation → Call

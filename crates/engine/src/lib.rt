@@ -4,10 +4,11 @@ ghost use mathlib.Core.Path.{_≡_};
 ghost use Rattle.model.specs.Calls.{look, countBefore, freshTable};
 ghost use Rattle.turns.specs.Dispatcher.{pair};
 ghost use Rattle.files.specs.FileRun.{Runs};
-ghost use Rattle.engine.specs.Called.{Counted, DispatchLeaves, interface};
+ghost use Rattle.supervisor.specs.Supervised.{Asks};
+ghost use Rattle.engine.specs.Called.{Counted, DispatchLeaves, CommitLeaves, interface};
 
 // The state of the interface. It goes up whenever a struct, a constant, a refusal or a call changes that C or Rust see.
-const INTERFACE: usize = 2;
+const INTERFACE: usize = 3;
 
 // The number of the interface, by which a caller sees that its header is this library's.
 #[no_mangle]
@@ -74,6 +75,37 @@ pub extern "C" fn furnacejade_dispatch(
     ensures { λ _. ⌜ DispatchLeaves (now (t .entry)) (pair receiver owner) (now (scratch .entry)) (now (t .exit)) (now (answer .exit)) (now (scratch .exit)) ⌝ }
 {
     let s = dispatcher::dispatch(*t, receiver, owner, scratch);
+    *t = s.table;
+    *answer = s.answer;
+}
+
+// What the handover to a receiver from the log of an owner would apply, and the receiver's act count.
+#[no_mangle]
+pub extern "C" fn furnacejade_ask(
+    t: &model::Table,
+    receiver: usize,
+    owner: usize,
+    scratch: &mut [u8],
+    answer: &mut model::AskAnswer,
+)
+    ensures { λ _. ⌜ Asks (now (t .entry)) (pair receiver owner) (now (scratch .entry)) (now (answer .exit)) (now (scratch .exit)) ⌝ }
+{
+    *answer = supervisor::ask(*t, receiver, owner, scratch);
+}
+
+// That handover, made if the receiver's act count is the one given.
+#[no_mangle]
+pub extern "C" fn furnacejade_commit(
+    t: &mut model::Table,
+    receiver: usize,
+    owner: usize,
+    acts: usize,
+    scratch: &mut [u8],
+    answer: &mut model::Answer,
+)
+    ensures { λ _. ⌜ CommitLeaves (now (t .entry)) (pair receiver owner) acts (now (scratch .entry)) (now (t .exit)) (now (answer .exit)) (now (scratch .exit)) ⌝ }
+{
+    let s = supervisor::commit(*t, receiver, owner, acts, scratch);
     *t = s.table;
     *answer = s.answer;
 }

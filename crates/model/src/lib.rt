@@ -137,6 +137,16 @@ pub struct DispatchAnswer {
     pub answer: Answer,
 }
 
+// What an ask answers: the refusal number, 0 if accepted; how many acts of the receiver there were; how many messages are in the set
+// that the handover would apply, and their names, zeros after them.
+#[repr(C)]
+pub struct AskAnswer {
+    pub refusal: u8,
+    pub acts: usize,
+    pub size: usize,
+    pub names: [Name; Table::MESSAGES],
+}
+
 // What a request for a fresh table answers.
 #[repr(C)]
 pub struct FreshAnswer {

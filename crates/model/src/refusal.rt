@@ -62,3 +62,6 @@ pub const REGISTER: u8 = 19;
 
 // Is the latest message of a write's sender a sync that it has applied?
 pub const NOT_SYNCED: u8 = 20;
+
+// Is the act count of a commit its receiver's?
+pub const ACT_COUNT: u8 = 21;

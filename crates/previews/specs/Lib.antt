@@ -1,0 +1,2 @@
+pub mod Previews
+pub mod Claims

@@ -1,0 +1,1 @@
+// Theorems only: the definitions of ask and commit, their fixed cases, and their laws.
