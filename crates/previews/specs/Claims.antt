@@ -2,22 +2,22 @@
 use Prim.Native.Nat.{ℕ}
 use mathlib.Core.Path.{_≡_}
 use mathlib.Core.Bool.{_||_, cond}
+use mathlib.Core.List.{List}
 use lib.Dec.{eqb}
-use Rattle.model.specs.Calls.{Outcome, event, answerOf}
-use Rattle.turns.specs.Claims.{handoverRecord}
-use Rattle.model.specs.declared.Pair.{Pair}
-use Rattle.model.specs.declared.Table.{Table}
+use Rattle.model.specs.Calls.{Outcome, scratchAfter, answerOf}
 use Rattle.previews.specs.Previews.{Preview}
 
--- an ask answers the number and the set that the event call answers to the record of the handover; scratch goes by the number
-pub record ShowsRecord (t : Table) (p : Pair) (room : ℕ) (a : Preview) : Type 0 where
-  pub refusal : a .refusal ≡ event t (handoverRecord p) room .answer .refusal
-  pub names : a .names ≡ event t (handoverRecord p) room .answer .names
+-- an ask answers the number and the set of an event call, and leaves scratch as it does
+pub record Shows (a : Preview) (o : Outcome) : Type 0 where
+  pub refusal : a .refusal ≡ o .answer .refusal
+  pub names : a .names ≡ o .answer .names
+  pub scratch : (w : List ℕ) → scratchAfter (a .refusal) w ≡ scratchAfter (o .answer .refusal) w
 
--- a commit answers what a caller of the event call gets of that record, and leaves the table that it does; scratch goes by the number
-pub record TakesRecord (t : Table) (p : Pair) (room : ℕ) (o : Outcome) : Type 0 where
-  pub answer : answerOf (o .answer) ≡ answerOf (event t (handoverRecord p) room .answer)
-  pub table : o .table ≡ event t (handoverRecord p) room .table
+-- a commit answers what the caller of an event call gets, and leaves the table and scratch as it does
+pub record Matches (q o : Outcome) : Type 0 where
+  pub answer : answerOf (q .answer) ≡ answerOf (o .answer)
+  pub table : q .table ≡ o .table
+  pub scratch : (w : List ℕ) → scratchAfter (q .answer .refusal) w ≡ scratchAfter (o .answer .refusal) w
 
 -- the number of a commit whose act count is not the receiver's, where an ask is answered k
 unfoldable pub staleNumber : ℕ → ℕ
