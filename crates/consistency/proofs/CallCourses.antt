@@ -3,12 +3,15 @@
 use mathlib.Core.Path.{_≡_, refl}
 use mathlib.Core.List.{List, [], _∷_, foldl}
 use lib.ListN.{length}
+use borrow.Author.Tests.{ne-eqb}
 use Rattle.model.specs.Events.{next}
-use Rattle.model.specs.Calls.{answering}
+use Rattle.model.specs.Calls.{Outcome, answering, refused}
 use Rattle.turns.specs.Dispatcher.{handover, Dispatched, DispatchOutcome, withHandover, withNone, dispatch}
+use Rattle.previews.specs.Previews.{taking}
 use Rattle.model.specs.declared.Table.{Table}
 use Rattle.turns.proofs.Dispatching.{dispatch-case}
-use Rattle.consistency.specs.Entries.{Service, dispatching, serve, madeBy, Call, singleEvent, observing, serving, handedOver, entriesOf, left, transcript}
+use Rattle.previews.proofs.AcceptedCalls.{commit-case, commit-asked}
+use Rattle.consistency.specs.Entries.{Service, dispatching, committing, serve, madeBy, Call, singleEvent, observing, serving, handedOver, entriesOf, left, transcript}
 use Rattle.consistency.specs.Courses.{Course, told, Chooses, Gives, Allowed}
 use Rattle.consistency.proofs.Moments.{course-append}
 
@@ -20,11 +23,14 @@ handovers-course s t (x ∷ xs) u a = (a .0, handovers-course s (next t (handove
 
 -- a served call makes no others, and they lead to the table that it leaves: here each of them has its case
 serve-allowed : (t : Table) (s : Service) → Allowed s t (madeBy s (serve t s .answer)) (serve t s .table)
-unfolding serve madeBy withHandover withNone answering Allowed Gives Chooses
+unfolding serve madeBy withHandover withNone taking answering refused Allowed Gives Chooses
 serve-allowed t (dispatching p w) =
     dispatch-case t p (length w)
     (λ (o : DispatchOutcome). o .answer .pair ≡ dispatch t p (length w) .answer .pair → Allowed (dispatching p w) t (madeBy (dispatching p w) (o .answer)) (o .table))
     (λ s e. rw (s .some) ((s .allowed, refl, e), refl)) (λ _ _. refl) refl
+serve-allowed t (committing p k w) =
+    commit-case t p (length w) k (λ (o : Outcome). Allowed (committing p k w) t (madeBy (committing p k w) (o .answer)) (o .table))
+    (λ e. ((commit-asked t p (length w) k e .1, refl, refl), refl)) (λ d. rw (ne-eqb _ 0 d) refl)
 
 pub call-course : (t : Table) (c : Call) → Course told Gives t (entriesOf t c) (left t c)
 unfolding Course told Gives entriesOf left

@@ -26,7 +26,7 @@ use Rattle.model.proofs.Tested.{tested, named-at}
 use Rattle.turns.specs.Claims.{InRange}
 use Rattle.turns.proofs.Dispatching.{distance, none-waits, Passed, passed-dispatch, dispatch-case, dispatch-refusal, none-said}
 use Rattle.broadcast.specs.State.{State}
-use Rattle.consistency.specs.Entries.{dispatching, serve, madeBy, Call, singleEvent, observing, serving, Entry, served, handedOver, entriesOf, left, transcript, Step, carried, steps, did}
+use Rattle.consistency.specs.Entries.{Service, dispatching, committing, serve, madeBy, Call, singleEvent, observing, serving, Entry, served, handedOver, entriesOf, left, transcript, Step, carried, steps, did}
 use Rattle.consistency.specs.Ledger.{Ledger, ledger}
 use Rattle.consistency.specs.Lines.{recordEntries, fileEntries}
 use Rattle.consistency.specs.Dispatches.{isHandover, NoStop, handoverCount, dispatches, FollowOn, answerIn, dispatchAnswers, notNone}
@@ -113,11 +113,18 @@ serving-busy {n} {t} k v p w =
         let is : (x : ℕ) → named n x ≡ true → Among n x = λ x y. rw (k .size) at (named-at t x (rw (k .size) y)) in
         passed-dispatch t p _ (length w) (call-passes k p _ (length w) (is (p .receiver) (and-left _ _ e)) (is (p .owner) (and-left _ _ c)) (leb-true scratchSize (length w) (and-right (named n (p .owner)) _ c)))
 
+-- handovers are no answers of the dispatcher
+made-quiet : (n : ℕ) (s : Service) (xs : List Dispatched) → dispatchAnswers n (handedOver s xs) ≡ []
+unfolding flatMap answerIn
+made-quiet n s [] = refl
+made-quiet n s (x ∷ xs) = made-quiet n s xs
+
 call-busy : {n : ℕ} {t : Table} {l : Ledger} → Recorded n t l → (v : ℕ) (c : Call) → notNone (dispatchAnswers n (entriesOf t c)) ≤ handoverCount (did v (entriesOf t c))
 unfolding entriesOf flatMap answerIn notNone
 call-busy k v (singleEvent s w) = omega arith
 call-busy k v (observing o) = omega arith
 call-busy k v (serving (dispatching p w)) = serving-busy k v p w
+call-busy {n} {t} k v (serving (committing p a w)) = rw (made-quiet n _ (madeBy (committing p a w) (serve t (committing p a w) .answer))) (omega arith)
 
 calls-busy : {n v : ℕ} {s₀ : State} {t : Table} {l : Ledger} → Moment n s₀ t l → t .version ≡ v → (cs : List Call)
     → notNone (dispatchAnswers n (transcript t cs)) ≤ handoverCount (did v (transcript t cs))

@@ -20,7 +20,7 @@ use Rattle.model.proofs.Allowed.{handover-allowed}
 use Rattle.turns.specs.Claims.{InRange}
 use Rattle.turns.proofs.Dispatching.{after, Distance, Nearer, nearer, dispatch-some}
 use Rattle.broadcast.specs.State.{State}
-use Rattle.consistency.specs.Entries.{dispatching, Entry, answered, observed, served, handed, listed, nothingSaid, Step, carried, steps, did}
+use Rattle.consistency.specs.Entries.{dispatching, committing, Entry, answered, observed, served, handed, listed, nothingSaid, Step, carried, steps, did}
 use Rattle.consistency.specs.Ledger.{Ledger, put, moved}
 use Rattle.consistency.specs.Dispatches.{NoStop, dispatchIn, dispatches, FollowOn}
 use Rattle.consistency.specs.Demand3.{Waiting}
@@ -103,25 +103,37 @@ module _ (n v r o : ℕ) where
       away zero e k = absurd (omega (arith, k, own-read l q (a .names) e))
       away (suc j) e k = omega arith
 
-  entry-moment : {s₀ : State} {t : Table} {l : Ledger} → Moment n s₀ t l → t .version ≡ v → (e : Entry) → Gives t e → Moment n s₀ (told t e) (foldl moved l (steps v e))
-  entry-moment {t = t} m q e g = moment-after m (steps v e) (rw (← q) (entry-taken t e g))
+  -- the moment after an entry
+  abbrev After : State → Table → Ledger → Entry → Type 0
+  After s₀ t l e = Moment n s₀ (told t e) (foldl moved l (steps v e)) × (told t e .version ≡ v)
+
+  past : {s₀ : State} {t : Table} {l : Ledger} → Moment n s₀ t l → t .version ≡ v → (e : Entry) → Gives t e → After s₀ t l e
+  past {t = t} m q e g = (moment-after m (steps v e) (rw (← q) (entry-taken t e g)), told-version t e ∙ q)
 
   pub fair-course : {s₀ : State} {t : Table} {l : Ledger} → Moment n s₀ t l → t .version ≡ v → (es : List Entry) (u : Table) → Course told Gives t es u
       → (d : ℕ) (p : Pair) → 0 < d → d ≤ n * n → Read d p l es
   unfolding Course flatMap dispatchIn steps
   fair-course m q [] u c d p z le = λ _ _ _ _. inr z
-  fair-course {t = t} {l} m q (answered s w a ∷ es) u c d p z le =
+  fair-course {l = l} m q (answered s w a ∷ es) u c d p z le =
       let e = answered s w a in
-      passed l e es refl (fair-course (entry-moment m q e (c .0)) (told-version t e ∙ q) es u (c .1) d p z le)
-  fair-course {t = t} {l} m q (observed x a ∷ es) u c d p z le =
+      let f = past m q e (c .0) in
+      passed l e es refl (fair-course (f .0) (f .1) es u (c .1) d p z le)
+  fair-course {l = l} m q (observed x a ∷ es) u c d p z le =
       let e = observed x a in
-      passed l e es refl (fair-course (entry-moment m q e (c .0)) (told-version t e ∙ q) es u (c .1) d p z le)
-  fair-course {t = t} {l} m q (served s a ∷ es) u c d p z le =
+      let f = past m q e (c .0) in
+      passed l e es refl (fair-course (f .0) (f .1) es u (c .1) d p z le)
+  fair-course {l = l} m q (served s a ∷ es) u c d p z le =
       let e = served s a in
-      passed l e es refl (fair-course (entry-moment m q e (c .0)) (told-version t e ∙ q) es u (c .1) d p z le)
-  fair-course {t = t} {l} m q (handed (dispatching x w) y a ∷ es) u c d p z le =
-      let e = handed (dispatching x w) y a in
-      dispatched m d p x y w a es le (c .0) (λ k z le. fair-course (entry-moment m q e (c .0)) (told-version t e ∙ q) es u (c .1) k y z le)
-  fair-course {t = t} {l} m q (listed s x ∷ es) u c d p z le =
+      let f = past m q e (c .0) in
+      passed l e es refl (fair-course (f .0) (f .1) es u (c .1) d p z le)
+  fair-course {l = l} m q (handed (committing x k w) y a ∷ es) u c d p z le =
+      let e = handed (committing x k w) y a in
+      let f = past m q e (c .0) in
+      passed l e es refl (fair-course (f .0) (f .1) es u (c .1) d p z le)
+  fair-course {l = l} m q (listed s x ∷ es) u c d p z le =
       let e = listed s x in
-      passed l e es refl (fair-course (entry-moment m q e (c .0)) (told-version t e ∙ q) es u (c .1) d p z le)
+      let f = past m q e (c .0) in
+      passed l e es refl (fair-course (f .0) (f .1) es u (c .1) d p z le)
+  fair-course m q (handed (dispatching x w) y a ∷ es) u c d p z le =
+      let f = past m q (handed (dispatching x w) y a) (c .0) in
+      dispatched m d p x y w a es le (c .0) (λ k z le. fair-course (f .0) (f .1) es u (c .1) k y z le)

@@ -30,6 +30,7 @@ pub mod FileRuns
 pub mod Heads
 pub mod CallLists
 pub mod Places
+pub mod Acts
 pub mod Fairness
 pub mod DispatcherFacts
 pub mod NeverStale

@@ -29,10 +29,10 @@ use Rattle.consistency.proofs.Moments.{stepped, Takes, Moment, step-mom
 pub put-here : {A : Type 0} (f : ℕ → A) (x : ℕ) (v : A) → put f x v x ≡ v
 put-here f x v = put-case (λ z. z ≡ v) f x v x (λ _. refl) (λ n. absurd (n refl))
 
-put-there : {A : Type 0} (f : ℕ → A) (x : ℕ) (v : A) (y : ℕ) → y ≢ x → put f x v y ≡ f y
+pub put-there : {A : Type 0} (f : ℕ → A) (x : ℕ) (v : A) (y : ℕ) → y ≢ x → put f x v y ≡ f y
 put-there f x v y n = put-case (λ z. z ≡ f y) f x v y (λ e. absurd (n e)) (λ _. refl)
 
-tally-one : (b : Bool) (k : ℕ) → tally b k ≡ tally b 0 + k
+pub tally-one : (b : Bool) (k : ℕ) → tally b k ≡ tally b 0 + k
 tally-one true k = omega arith
 tally-one false k = omega arith
 

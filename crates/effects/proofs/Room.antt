@@ -3,12 +3,10 @@ use mathlib.Core.Path.{_≡_, refl, _∙_}
 use mathlib.Core.Bool.{true, false}
 use Prim.Native.Nat.{ℕ, _<_}
 use native.Mathlib.Omega.{arith}
-use native.Mathlib.Decide.{decLt}
-use lib.ListN.{length, getD, List·getD-eq-default}
+use lib.ListN.{length}
 use lib.Dec.{leb}
-use Rattle.lists.proofs.Tests.{contradiction}
 use Rattle.model.specs.Tables.{seats, capacity, at, message, held, highest, messagesOf}
-use Rattle.model.specs.Events.{handoverSet, subject}
+use Rattle.model.specs.Events.{subject}
 use Rattle.model.specs.Sized.{Sized}
 use Rattle.model.specs.Fair.{fairRegister}
 use Rattle.model.specs.declared.Payload.{Payload}
@@ -17,12 +15,11 @@ use Rattle.model.specs.declared.Event.{Event}
 use Rattle.model.specs.declared.Event.the-variants.{Send, Handover}
 use Rattle.model.specs.Facts.{Among, WellFormed}
 use Rattle.model.proofs.Tested.{facts}
-use Rattle.model.proofs.Largest.{applicable-largest}
 use Rattle.model.proofs.Allowed.{HandoverAllowed, send-allowed, handover-allowed, subject-allowed}
-use Rattle.model.proofs.Handovers.{nextAt, receivedAt, setAt}
+use Rattle.model.proofs.Handovers.{nextAt, setAt}
 use Rattle.invariant.proofs.Stores.{seated}
 use Rattle.invariant.proofs.Logs.{log-within, log-shorter}
-use Rattle.invariant.proofs.Receiving.{above-unapplied, next-slot-run, received-good, applied-held}
+use Rattle.invariant.proofs.Receiving.{above-unapplied, next-slot-run, set-of-run}
 use Rattle.effects.specs.Conditions.{Accepted, Readable, Deliverable}
 
 -- the subject of an accepted event has a seat
@@ -79,21 +76,10 @@ module _ (t : Table) (r o : ℕ) (q : Accepted t (Handover r o)) where
 
   -- the set that it applies is of messages of the run
   pub deliverable : Sized t → Deliverable (messagesOf t) (setAt t r o)
-  deliverable z = record {
-    fits = w .fitting;
-    senders = λ s h. seated (w .few) (w .senders s h);
-    of-run = λ s m. of-run s m (decLt s (t .count)) (decLt s capacity);
-  }
-    where
-      w : WellFormed t
-      w = facts t (q .0)
-
-      size : length (setAt t r o) ≡ capacity
-      size = unfold handoverSet in (applicable-largest (t .n) (receivedAt t r o .pending) .size)
-
-      of-run : (s : ℕ) → getD (setAt t r o) s false ≡ true → Dec (s < t .count) → Dec (s < capacity) → s < t .count
-      of-run s m (yes h) d = h
-      of-run s m (no h) (yes l) =
-          let a = handover-allowed t r o (q .1) in
-          contradiction (applied-held t w z r o a s l m) (received-good t w z r o a .outside s l (omega arith) .0)
-      of-run s m (no h) (no l) = contradiction m (List·getD-eq-default (setAt t r o) false (omega (arith, size)))
+  deliverable z =
+      let w = facts t (q .0) in
+      record {
+        fits = w .fitting;
+        senders = λ s h. seated (w .few) (w .senders s h);
+        of-run = set-of-run t w z r o (handover-allowed t r o (q .1));
+      }

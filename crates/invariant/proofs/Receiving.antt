@@ -4,10 +4,11 @@ use mathlib.Core.Path.{_≡_, refl, _∙_}
 use mathlib.Core.Bool.{true, false, _||_, cond}
 use Prim.Native.Nat.{ℕ, _+_, _≤_, _<_}
 use native.Mathlib.Omega.{arith}
-use native.Mathlib.Decide.{ℕ-discrete}
+use native.Mathlib.Decide.{decLt, ℕ-discrete}
+use lib.ListN.{length, List·getD-eq-default}
 use lib.Dec.{leb}
 use borrow.Author.Tests.{leb-false, eq-eqb}
-use Rattle.lists.proofs.Tests.{refuted}
+use Rattle.lists.proofs.Tests.{refuted, contradiction}
 use Rattle.lists.proofs.Below.{greatest-ge}
 use Rattle.model.specs.Tables.{capacity, yes?, at, message, place, entry, held, applied, highest, unheld, withEntry, withRead, withController, messagesOf}
 use Rattle.model.specs.Delivery.{has}
@@ -18,7 +19,7 @@ use Rattle.model.specs.declared.Message.{Message}
 use Rattle.model.specs.declared.Controller.{Controller}
 use Rattle.model.specs.declared.Table.{Table}
 use Rattle.model.proofs.Allowed.{HandoverAllowed}
-use Rattle.model.proofs.Largest.{applicable-held}
+use Rattle.model.proofs.Largest.{applicable-largest, applicable-held}
 use Rattle.model.proofs.Handovers.{nextAt, receivedAt, setAt}
 use Rattle.invariant.proofs.Stores.{seated, at-sized, read-place, read-place-other, marked-known, forward-case}
 use Rattle.invariant.proofs.Sizes.{read-sized, entered-sized}
@@ -109,6 +110,18 @@ module _ (t : Table) (w : WellFormed t) (z : Sized t) (r o : ℕ) (a : HandoverA
   pub applied-held : (s : ℕ) → s < capacity → has (setAt t r o) s ≡ true → held (receivedAt t r o) s ≡ true
   unfolding handoverSet
   applied-held s h e = applicable-held (t .n) (receivedAt t r o .pending) s h e
+
+  -- and is of messages of the run
+  pub set-of-run : (s : ℕ) → has (setAt t r o) s ≡ true → s < t .count
+  set-of-run s m = of-run (decLt s (t .count)) (decLt s capacity)
+    where
+      size : length (setAt t r o) ≡ capacity
+      size = unfold handoverSet in (applicable-largest (t .n) (receivedAt t r o .pending) .size)
+
+      of-run : Dec (s < t .count) → Dec (s < capacity) → s < t .count
+      of-run (yes h) d = h
+      of-run (no h) (yes l) = contradiction (applied-held s l m) (received-good .outside s l (omega arith) .0)
+      of-run (no h) (no l) = contradiction m (List·getD-eq-default (setAt t r o) false (omega (arith, size)))
 
   pub receiver-good : GoodController t r (deliver (messagesOf t) (receivedAt t r o) (setAt t r o))
   receiver-good = delivered-good t r (receivedAt t r o) received-good (w .few) (w .fitting) (setAt t r o) applied-held

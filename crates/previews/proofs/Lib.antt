@@ -1,1 +1,2 @@
+pub mod AcceptedCalls
 pub mod PreviewLaws

@@ -1,24 +1,22 @@
 -- Ask and commit beside the event call, on every table: an ask shows what the handover's record would answer, a commit with the receiver's
 -- act count does what that record would, and one with another count is refused. Assumes nothing.
-use mathlib.Core.Path.{_≡_, refl, sym, ap, subst, _∙_}
+use mathlib.Core.Path.{_≡_, refl, sym, ap, subst}
 use mathlib.Core.Logic.{_≢_}
 use mathlib.Core.Bool.{Bool, true, false, cond}
 use mathlib.Core.List.{[], _∷_}
 use Prim.Native.Nat.{ℕ}
 use lib.Dec.{eqb}
-use borrow.Author.Tests.{eq-eqb, ne-eqb, eqb-true}
-use Rattle.lists.proofs.Tests.{cond-case}
-use Rattle.model.specs.Tables.{yes?, at}
+use borrow.Author.Tests.{eq-eqb, ne-eqb}
 use Rattle.model.specs.Events.{resulting}
 use Rattle.model.specs.Records.{sizeOf, afterRecord, decode}
 use Rattle.model.specs.Questions.{ask, firstNo, lentTable, kindQuestions, recordQuestions, handoverQuestions, eventQuestions, commandQuestions, scratchRoom, stepQuestions}
-use Rattle.model.specs.Calls.{Outcome, answering, accepted, refused, settled, event, scratchAfter, answerOf}
+use Rattle.model.specs.Calls.{Outcome, answering, accepted, refused, settled, event, answerOf}
 use Rattle.model.proofs.Steps.{settled-case}
-use Rattle.turns.specs.Dispatcher.{handover}
 use Rattle.turns.specs.Claims.{handoverRecord}
 use Rattle.model.specs.declared.Pair.{Pair}
 use Rattle.model.specs.declared.Table.{Table}
-use Rattle.previews.specs.Previews.{actsOf, askQuestions, showing, Preview, preview, commitQuestions, taking, commit}
+use Rattle.previews.specs.Previews.{actsOf, askQuestions, showing, preview, commitQuestions, taking, commit}
+use Rattle.previews.proofs.AcceptedCalls.{preview-refusal, commit-case}
 use Rattle.previews.specs.Claims.{Shows, Matches, staleNumber}
 
 -- where 21 is a no, the questions before it decide as they do without it
@@ -49,10 +47,6 @@ module _ (t : Table) (p : Pair) (room : ℕ) where
 
   -- ASK
 
-  pub preview-refusal : preview t p room .refusal ≡ asked
-  unfolding preview showing
-  preview-refusal = cond-case (λ (a : Preview). a .refusal ≡ asked) (eqb asked 0) _ _ (λ e. sym (eqb-true asked 0 e)) (λ _. refl)
-
   pub ask-is-record : Shows (preview t p room) (event t (handoverRecord p) room)
   unfolding preview showing accepted refused answering decode
   ask-is-record =
@@ -74,16 +68,12 @@ module _ (t : Table) (p : Pair) (room : ℕ) where
       (λ n. rw (own-asked, ne-eqb asked 0 n) (record { answer = refl; table = refl; scratch = λ w. refl })))
 
   module _ (acts : ℕ) where
-    abbrev number : ℕ
-    number = firstNo (commitQuestions t p acts room)
-
     -- a refusal is its number, and nothing else
     pub commit-refused : commit t p acts room .answer .refusal ≢ 0 → commit t p acts room ≡ refused t [] (commit t p acts room .answer .refusal)
-    unfolding commit taking answering refused
-    commit-refused =
-        cond-case (λ (o : Outcome). o .answer .refusal ≢ 0 → o ≡ refused t [] (o .answer .refusal)) (eqb number 0) _ _ (λ _ n. absurd (n refl)) (λ _ _. refl)
+    unfolding taking answering refused
+    commit-refused = commit-case t p room acts (λ (o : Outcome). o .answer .refusal ≢ 0 → o ≡ refused t [] (o .answer .refusal)) (λ _ n. absurd (n refl)) (λ _ _. refl)
 
     -- with another count
     pub commit-stale : acts ≢ actsOf t (p .receiver) → commit t p acts room ≡ refused t [] (staleNumber (preview t p room .refusal))
     unfolding commit commitQuestions askQuestions eventQuestions handoverQuestions lentTable scratchRoom
-    commit-stale n = rw (preview-refusal, ne-eqb acts (actsOf t (p .receiver)) n) (outdated t (taking t p) _ _ _ _ _)
+    commit-stale n = rw (preview-refusal t p room, ne-eqb acts (actsOf t (p .receiver)) n) (outdated t (taking t p) _ _ _ _ _)

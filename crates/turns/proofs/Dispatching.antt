@@ -10,7 +10,7 @@ use native.Mathlib.Decide.{decLt}
 use lib.Dec.{eqb, leb, ltb}
 use borrow.Author.Tests.{lt-ltb, ltb-true, ltb-false, le-leb, leb-true, eqb-true, eq-eqb, not-true}
 use Rattle.lists.proofs.Tests.{and-left, and-right, both, implies-at, implies-of, cond-case, contradiction, refuted}
-use Rattle.model.specs.Tables.{scratchSize, yes?, at, place}
+use Rattle.model.specs.Tables.{scratchSize, yes?, at}
 use Rattle.model.specs.Fair.{named}
 use Rattle.model.specs.WellFormed.{wellFormed}
 use Rattle.model.specs.Questions.{firstNo, lentTable, unread, handoverQuestions, eventQuestions}
