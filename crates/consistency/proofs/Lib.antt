@@ -31,6 +31,7 @@ pub mod Heads
 pub mod CallLists
 pub mod Places
 pub mod Acts
+pub mod AsShown
 pub mod Fairness
 pub mod DispatcherFacts
 pub mod NeverStale
