@@ -1,9 +1,8 @@
 -- The act count of a table is the number of the steps so far in which its controller acted. Assumes nothing.
 use mathlib.Core.Path.{_≡_, refl, sym, ap, _∙_}
-use mathlib.Core.Logic.{_≢_}
 use mathlib.Core.Bool.{Bool, true, false, cond}
 use mathlib.Core.List.{List, [], _∷_, _++_, foldl}
-use Prim.Native.Nat.{ℕ, zero, suc, _+_, _-_, _≤_, _<_}
+use Prim.Native.Nat.{ℕ, zero, suc, _+_, _-_}
 use native.Mathlib.Omega.{arith}
 use lib.ListN.{length, getD}
 use lib.Dec.{eqb}
@@ -12,7 +11,7 @@ use Rattle.lists.specs.Below.{tally, count, sum}
 use Rattle.lists.specs.Build.{tabulate, tabulateFrom}
 use Rattle.lists.proofs.Below.{sum-ext, sum-bound, sum-raised}
 use Rattle.lists.proofs.Grow.{tabulate-suc}
-use Rattle.model.specs.Tables.{Among, at, messagesOf, messageIn, yes?}
+use Rattle.model.specs.Tables.{Among, at, messageIn}
 use Rattle.model.specs.Events.{subject}
 use Rattle.previews.specs.Previews.{sendsBy, readsBy, actCount, actsOf}
 use Rattle.model.specs.declared.Table.{Table}

@@ -1,8 +1,8 @@
 -- What others do between an ask and its commit: the receiver stays as it is, and the entry stands as it was unless a stop cuts it away. So
 -- the handover applies the set that was shown. Assumes nothing.
-use mathlib.Core.Path.{_≡_, refl, sym, ap, subst, _∙_}
+use mathlib.Core.Path.{_≡_, refl, sym, ap, _∙_}
 use mathlib.Core.Logic.{_≢_}
-use mathlib.Core.Bool.{true, false, cond, true≢false}
+use mathlib.Core.Bool.{true, false}
 use mathlib.Core.List.{List, [], _∷_, _++_, append-assoc, foldl}
 use Prim.Native.Nat.{ℕ, zero, suc, _+_, _-_, _≤_, _<_}
 use native.Mathlib.Omega.{arith}
@@ -10,7 +10,7 @@ use native.Mathlib.Decide.{decLt, ℕ-discrete}
 use lib.ListN.{length, getD, take, length-append, List·getD-append}
 use lib.Seq.{length-take-le, getD-take}
 use lib.Dec.{eqb}
-use borrow.Author.Tests.{eqb-false, eq-eqb, ne-eqb}
+use borrow.Author.Tests.{eq-eqb, ne-eqb}
 use Rattle.lists.specs.Below.{tally}
 use Rattle.lists.proofs.Tests.{refuted, contradiction, cond-case}
 use Rattle.model.specs.Tables.{Messages, Among, yes?, noName, at, message, messagesOf, messageIn, withController, withMessage, place, slotAt}
@@ -30,7 +30,7 @@ use Rattle.invariant.proofs.Sizes.{next-other}
 use Rattle.invariant.proofs.Receiving.{next-slot-run, set-of-run}
 use Rattle.broadcast.specs.State.{State}
 use Rattle.consistency.specs.Entries.{name, has, Said, Step, carried}
-use Rattle.consistency.specs.Ledger.{Ledger, put, moved}
+use Rattle.consistency.specs.Ledger.{Ledger, moved}
 use Rattle.consistency.specs.Dispatches.{actsIn, CutAway}
 use Rattle.consistency.specs.Courses.{Course}
 use Rattle.consistency.proofs.Names.{same-self}

@@ -1,5 +1,5 @@
 -- A list of calls is legal steps one after another from a fresh table, and each of its moments is one that they reach. Assumes nothing.
-use mathlib.Core.Path.{_≡_, refl, sym, ap, _∙_}
+use mathlib.Core.Path.{_≡_, refl, sym, ap, subst, _∙_}
 use mathlib.Core.List.{List, [], _∷_, _++_, flatMap, foldl, foldl-append, append-nil}
 use Prim.Native.Nat.{ℕ, suc, _+_, _-_, _≤_}
 use native.Mathlib.Numerals.{add-one}
@@ -17,7 +17,7 @@ use Rattle.model.specs.declared.LookAnswer.{LookAnswer}
 use Rattle.broadcast.specs.State.{fresh as freshState}
 use Rattle.consistency.specs.Entries.{panelLook, observe, Call, Entry, answered, observed, left, Said, Step, carried, steps, did}
 use Rattle.consistency.specs.Ledger.{Ledger, start, moved, ledger, sentNames}
-use Rattle.consistency.specs.Demand3.{Head, Heads, version, controllers, opening, given, entries, moment, Contains}
+use Rattle.consistency.specs.Demand3.{Head, Heads, version, controllers, opening, given, entries, moment, between, Contains}
 use Rattle.consistency.specs.Courses.{Course, told, Gives, freshOf, tableAt}
 use Rattle.consistency.proofs.Bridge.{top}
 use Rattle.consistency.proofs.Recorded.{names-sent}
@@ -82,11 +82,17 @@ module _ (h : Head) (heads : Heads h) (calls : List Call) where
 
   -- ITS MOMENTS
 
+  pub first : Moment n (freshState top) (freshOf h) start
+  first = first-moment (b .allowed)
+
   reached : {u : Table} (xs : List Step) → Course stepped Takes (freshOf h) xs u → Moment n (freshState top) u (ledger xs)
-  reached = moment-after (first-moment (b .allowed))
+  reached = moment-after first
+
+  pub steps-until : (i : ℕ) → Course stepped Takes (freshOf h) (did v (take i es)) (tableAt h calls i)
+  steps-until i = entries-taken (freshOf h) (fresh-version h) (take i es) (tableAt h calls i) (until i)
 
   pub moment-at : (i : ℕ) → Moment n (freshState top) (tableAt h calls i) (moment h calls i)
-  moment-at i = reached (did v (take i es)) (entries-taken (freshOf h) (fresh-version h) (take i es) (tableAt h calls i) (until i))
+  moment-at i = reached (did v (take i es)) (steps-until i)
 
   pub moment-end : Moment n (freshState top) end (ledger (did v es))
   moment-end = reached (did v es) taken
@@ -113,6 +119,13 @@ module _ (h : Head) (heads : Heads h) (calls : List Call) where
 
   pub between-steps : (i k : ℕ) → Course stepped Takes (tableAt h calls i) (did v (take k (drop i es))) (foldl told (tableAt h calls i) (take k (drop i es)))
   between-steps i k = entries-taken (tableAt h calls i) (version-at i) (take k (drop i es)) _ (between-course i k)
+
+  pub steps-between : (i j : ℕ) → i ≤ j → Course stepped Takes (tableAt h calls i) (did v (between h calls i j)) (tableAt h calls j)
+  steps-between i j le =
+      let q : i + (j - i) ≡ j = omega (arith, le) in
+      let there : tableAt h calls (i + (j - i)) ≡ foldl told (tableAt h calls i) (between h calls i j)
+      = ap (foldl told (freshOf h)) (take-add i (j - i) es) ∙ foldl-append told (freshOf h) (take i es) (between h calls i j) in
+      subst (Course stepped Takes (tableAt h calls i) (did v (between h calls i j))) (sym there ∙ ap (tableAt h calls) q) (between-steps i (j - i))
 
   pub moment-after-steps : (i k : ℕ) → moment h calls (i + k) ≡ foldl moved (moment h calls i) (did v (take k (drop i es)))
   moment-after-steps i k =

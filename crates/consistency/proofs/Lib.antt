@@ -34,5 +34,6 @@ pub mod Acts
 pub mod AsShown
 pub mod Fairness
 pub mod DispatcherFacts
+pub mod PreviewFacts
 pub mod NeverStale
 pub mod Theorem

@@ -27,6 +27,7 @@ use Rattle.consistency.proofs.MomentFacts.{Comparable, comparable, InOr
 use Rattle.consistency.proofs.HandoverFacts.{line-sums}
 use Rattle.consistency.proofs.CallLists.{version-at, gives-at, event-at, look-at, moment-at, moment-end, moment-past, any-two, sent}
 use Rattle.consistency.proofs.DispatcherFacts.{fair, bounded, accepts, one-none, none-reads}
+use Rattle.consistency.proofs.PreviewFacts.{acts, as-shown, taken}
 use Rattle.consistency.proofs.NeverStale.{applied-then, syncs, never-stale, included, answered-so, bears}
 
 -- one call more
@@ -98,6 +99,9 @@ demand-3 h heads calls = record {
         applies = λ most r on. moment-ending (moment-end h heads now) (out most) r on;
         shows = λ most r on. ending-look h heads now r (out most) on;
       };
+  acts = acts h heads calls;
+  as-shown = as-shown h heads calls;
+  taken = taken h heads calls;
 }
 
 -- OF THE SAME LISTS
