@@ -232,8 +232,10 @@ since {n} {t = t} {l} m xs u c r o a z =
     let hr : Among n r = rw (p .size) at (a .receiver) in
     let ho : Among n o = rw (p .size) at (a .owner) in
     let b = others-leave m xs u c r hr z in
-    let size : length (foldl moved l xs .log o) ≡ at u o .length = ap length (q .logs o ho) ∙ length-log u (at u o) in
-    (b .same, elim (fate m xs u c o ho (place (at t r) o) (omega (arith, a .unread, ap length (p .logs o ho), length-log t (at t o)))) [
-      | stands h e ↦ let h : place (at t r) o < at u o .length = omega (arith, h, size) in shown (rw (b .same) h) (same-names p q r o a b (same-entry p q r o a b e h))
-      | gone y h _ ↦ cut y (rw (b .same) (omega (arith, h, size)))
-    ])
+    let size : length (foldl moved l xs .log o) ≡ at u o .length = ap length (q .logs o ho) ∙ length-log u (at u o) in (
+      b .same,
+      elim (fate m xs u c o ho (place (at t r) o) (omega (arith, a .unread, ap length (p .logs o ho), length-log t (at t o)))) [
+        | stands h e ↦ let h : place (at t r) o < at u o .length = omega (arith, h, size) in shown (rw (b .same) h) (same-names p q r o a b (same-entry p q r o a b e h))
+        | gone y h _ ↦ cut y (rw (b .same) (omega (arith, h, size)))
+      ],
+    )

@@ -16,16 +16,16 @@ use Rattle.turns.specs.Dispatcher.{pair, following, waits, firstWaiting,
 
 -- RECORDS
 
-report : ℕ → ℕ → List ℕ
+unfoldable pub report : ℕ → ℕ → List ℕ
 report c x = 4 ∷ 1 ∷ c ∷ x / 256 ∷ x % 256 ∷ []
 
-sync : ℕ → List ℕ
+unfoldable pub sync : ℕ → List ℕ
 sync c = 2 ∷ 2 ∷ c ∷ []
 
-handover : ℕ → ℕ → List ℕ
+unfoldable pub handover : ℕ → ℕ → List ℕ
 handover r o = 3 ∷ 3 ∷ r ∷ o ∷ []
 
-stop : ℕ → ℕ → List ℕ
+unfoldable pub stop : ℕ → ℕ → List ℕ
 stop c k = 4 ∷ 4 ∷ c ∷ 0 ∷ k ∷ []
 
 -- CASES: n controllers, the records of accepted events, and calls of the dispatcher, each on the table that the last one left
@@ -46,7 +46,7 @@ record Given : Type 0 where
   none : Bool
   scratch : List ℕ
 
-abbrev coded : Name → ℕ
+abbrev pub coded : Name → ℕ
 coded m = m .sender * 100 + m .number .0
 
 givenBy : Dispatched → Given
@@ -69,7 +69,7 @@ called t (a ∷ more) =
     let o = dispatch t (pair (a .named / 100) (a .named % 100)) (a .room) in
     givenBy (o .answer) ∷ called (o .table) more
 
-played : Table → List (List ℕ) → Table
+unfoldable pub played : Table → List (List ℕ) → Table
 played t [] = t
 played t (r ∷ rs) = played (step t r 4096 .table) rs
 
