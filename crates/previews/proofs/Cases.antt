@@ -12,7 +12,7 @@ use Rattle.model.specs.declared.Table.{Table}
 use Rattle.model.proofs.Computed.{computed}
 use Rattle.turns.specs.Dispatcher.{pair}
 use Rattle.turns.proofs.Cases.{report, sync, handover, stop, coded, played, EveryCase as Others, every-case as others}
-use Rattle.previews.specs.Previews.{sendsBy, readsBy, actCount, askQuestions, Preview, showing, preview, commitQuestions, taking, commit}
+use Rattle.previews.specs.Previews.{sendsBy, readsBy, actCount, actsOf, askQuestions, Preview, showing, preview, commitQuestions, taking, commit}
 
 -- CASES: n controllers, the records of accepted events, and calls, each on the table that the last one left
 
@@ -99,9 +99,13 @@ table =
     -- P: 8 with 0 and n + 1 in each place, before all that follows
     ∷ row 2 (report 1 5 ∷ stop 2 0 ∷ []) (asks 1 0 ∷ asks 100 0 ∷ asks 301 0 ∷ asks 103 0 ∷ asks 203 0 ∷ commits 1 9 0 ∷ commits 100 9 0 ∷ commits 301 9 0 ∷ commits 103 9 0 ∷ commits 203 9 0 ∷ [])
     (refuses 8 ∷ refuses 8 ∷ refuses 8 ∷ refuses 8 ∷ refuses 8 ∷ refuses 8 ∷ refuses 8 ∷ refuses 8 ∷ refuses 8 ∷ refuses 8 ∷ [])
-    -- P: 4 before 8, and before 10, 13 and 21: a read position passes the end of an empty log
+    -- P: 4 before 8; and before all others, where a stopped receiver's read position passes the end of an empty log
     ∷ row 0 [] (asks 0 0 ∷ commits 0 0 0 ∷ []) (refuses 4 ∷ refuses 4 ∷ [])
-    ∷ record { table = let t = played (fresh 1 2) (report 1 5 ∷ []) in withController t 2 (withRead (at t 2) 2); calls = ask 201 ∷ take 201 1 ∷ commits 102 7 0 ∷ []; gives = refuses 4 ∷ refuses 4 ∷ refuses 4 ∷ [] }
+    ∷ record {
+      table = let t = played (fresh 1 2) (report 1 5 ∷ stop 2 0 ∷ []) in withController t 2 (withRead (at t 2) 2);
+      calls = asks 202 0 ∷ commits 202 9 0 ∷ asks 201 4096 ∷ [];
+      gives = refuses 4 ∷ refuses 4 ∷ refuses 4 ∷ [];
+    }
     -- P: an entry that a stop cuts away gives 13, the count unchanged; one that it keeps is taken
     ∷ row 2 (report 2 5 ∷ []) (ask 102 ∷ sends (stop 2 0) ∷ take 102 0 ∷ []) (shows [] 0 ∷ applies [] ∷ refuses 13 ∷ [])
     ∷ row 2 (report 2 5 ∷ []) (ask 102 ∷ sends (stop 2 1) ∷ take 102 0 ∷ []) (shows [] 0 ∷ applies [] ∷ applies [] ∷ [])
@@ -125,11 +129,16 @@ expected : List Row → List (List Given)
 expected [] = []
 expected (r ∷ rs) = r .gives ∷ expected rs
 
+-- the act count of one that has stopped, which no call shows: two messages, of which one is cut off, an entry read, and the stop
+stopped : Table
+stopped = played (fresh 1 2) (report 1 5 ∷ report 1 6 ∷ handover 1 1 ∷ handover 2 1 ∷ stop 1 1 ∷ [])
+
 -- all P cases: those of ask and commit, and all others
 pub record EveryCase : Type 0 where
   previews : results table ≡ expected table
+  act-counts : (actsOf stopped 1 ≡ 4) × (actsOf stopped 2 ≡ 1)
   others : Others
 
 pub every-case : EveryCase
-unfolding computed results expected table called answered previewed played report sync handover stop read sendsBy readsBy actCount askQuestions showing preview commitQuestions taking commit
-every-case = record { previews = refl; others = others }
+unfolding computed results expected table stopped called answered previewed played report sync handover stop read sendsBy readsBy actCount askQuestions showing preview commitQuestions taking commit
+every-case = record { previews = refl; act-counts = (refl, refl); others = others }
