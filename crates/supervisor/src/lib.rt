@@ -122,9 +122,10 @@ pub fn ask(t: Table, receiver: usize, owner: usize, scratch: &mut [u8]) -> AskAn
         return no_preview(first);
     }
     let r = receiver as u8;
+    let o = owner as u8;
     let e = Event::Handover {
         receiver: r,
-        owner: owner as u8,
+        owner: o,
     };
     let controllers = t.controllers;
     let p = effects::at_hand(controllers, Command::Act(e));
@@ -174,9 +175,10 @@ pub fn commit(t: Table, receiver: usize, owner: usize, acts: usize, scratch: &mu
         return refused(t, first);
     }
     let r = receiver as u8;
+    let o = owner as u8;
     let e = Event::Handover {
         receiver: r,
-        owner: owner as u8,
+        owner: o,
     };
     let controllers = t.controllers;
     let p = effects::at_hand(controllers, Command::Act(e));
