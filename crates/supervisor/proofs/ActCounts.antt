@@ -1,17 +1,27 @@
--- The parts of an act count: how great each can be, and that they are added up in the code's order. Assumes nothing.
+-- The parts of an act count: how great each can be, and their sum as the code makes it. Assumes nothing.
 use mathlib.Core.Path.{_≡_}
 use mathlib.Core.Logic.{_≢_}
 use mathlib.Core.List.{List}
-use Prim.Native.Nat.{ℕ, _+_, _*_, _≤_}
+use Prim.Native.Nat.{ℕ, suc, _+_, _-_, _*_, _≤_}
 use native.Mathlib.Omega.{arith}
 use lib.Dec.{eqb}
 use lib.ListN.{getD}
 use borrow.Author.Tests.{lt-ltb}
 use Rattle.lists.proofs.Below.{count-bound, sum-bound}
-use Rattle.model.specs.Tables.{Messages, seats, capacity, messageIn}
+use Rattle.model.specs.Tables.{Messages, seats, capacity, Among, at, messageIn, place}
+use Rattle.model.specs.Facts.{WellFormed}
 use Rattle.model.specs.declared.Controller.{Controller}
+use Rattle.model.specs.declared.Table.{Table}
 use Rattle.previews.specs.Previews.{sendsBy, readsBy, actCount}
 use Rattle.supervisor.specs.Supervised.{Bounded}
+
+-- no read position of a well-formed table is beyond the longest log
+pub reads-bounded : (t : Table) → WellFormed t → (c : ℕ) → Among (t .n) c → Bounded (t .n) (at t c .read)
+reads-bounded t w c a o h =
+    let b : Among (t .n) (suc o) = record { low = omega arith; high = omega (arith, h) } in
+    let z : suc o - 1 ≡ o = omega arith in
+    let l : place (at t c) (suc o) ≤ capacity = omega (arith, w .controllers c a .places (suc o) b, w .controllers (suc o) b .log-room) in
+    rw z at l
 
 sends-few : (M : Messages) (c : ℕ) → M .count ≤ capacity → sendsBy M c ≤ capacity
 unfolding sendsBy

@@ -3,13 +3,12 @@ use mathlib.Core.Path.{_≡_, refl, sym, _∙_}
 use mathlib.Core.Logic.{_≢_}
 use mathlib.Core.Bool.{Bool, true, false, _&&_, cond}
 use mathlib.Core.List.{List, [], _∷_, _++_}
-use Prim.Native.Nat.{ℕ, suc, _-_, _≤_}
-use native.Mathlib.Omega.{arith}
+use Prim.Native.Nat.{ℕ, _≤_}
 use lib.Dec.{eqb, leb}
 use lib.ListN.{length}
 use borrow.Author.Tests.{leb-true, ne-eqb}
 use Rattle.lists.proofs.Tests.{and-left, and-right}
-use Rattle.model.specs.Tables.{seats, capacity, scratchSize, Among, yes?, at, place, messagesOf}
+use Rattle.model.specs.Tables.{seats, capacity, scratchSize, Among, yes?, at, messagesOf}
 use Rattle.model.specs.Events.{next, subject}
 use Rattle.model.specs.Fair.{named}
 use Rattle.model.specs.WellFormed.{wellFormed}
@@ -32,6 +31,7 @@ use Rattle.effects.specs.Effects.{noSet, effectOf, Effected}
 use Rattle.effects.proofs.Seats.{at-seat}
 use Rattle.supervisor.specs.declared.Committed.{Committed}
 use Rattle.supervisor.specs.Supervised.{Bounded, firstQuestions, otherQuestions, noPreview, unchanged, committedOf, Asks, Commits}
+use Rattle.supervisor.proofs.ActCounts.{reads-bounded}
 
 module _ (t : Table) (p : Pair) where
   -- PAST QUESTIONS 4 AND 8
@@ -55,21 +55,12 @@ module _ (t : Table) (p : Pair) where
         both-named = q8;
         receiver = seated (w .few) r;
         owner = seated (w .few) (named-at t (p .owner) (and-right (named (t .n) (p .receiver)) _ q8));
-        countable = (
-          w .few,
-          (
-            w .fitting,
-            λ o h.
-                let c : Among (t .n) (suc o) = record { low = omega arith; high = omega (arith, h) } in
-                let z : suc o - 1 ≡ o = omega arith in
-                let l : place (at t (p .receiver)) (suc o) ≤ capacity = omega (arith, w .controllers (p .receiver) r .places (suc o) c, w .controllers (suc o) c .log-room) in
-                rw z at l,
-          ),
-        );
+        countable = (w .few, (w .fitting, reads-bounded t w (p .receiver) r));
       }
 
-  -- the two controllers that are taken out of the table are the pair's
+  -- and the two controllers that are then taken out of the table
   pub record InHand (h : Parties) : Type 0 where
+    pub past : Named
     pub subject-is : h .subject ≡ at t (p .receiver)
     pub owner-is : h .owner ≡ at t (p .owner)
     pub countable : (t .n ≤ seats) × ((t .count ≤ capacity) × Bounded (t .n) (h .subject .read))
@@ -80,6 +71,7 @@ module _ (t : Table) (p : Pair) where
   in-hand n h e =
       let x : h .subject ≡ at t (p .receiver) = rw e (at-seat t (p .receiver) _ refl (n .receiver)) in
       record {
+        past = n;
         subject-is = x;
         owner-is = rw e (at-seat t (p .owner) _ refl (n .owner));
         countable = rw x (n .countable);
@@ -95,7 +87,7 @@ module _ (t : Table) (p : Pair) where
     abbrev pub number : ℕ
     number = firstNo (firstQuestions t p ++ otherQuestions (at t (p .receiver)) (at t (p .owner)) (p .owner) current room)
 
-    -- k refuses
+    -- k is the number of a refusal
     pub record Refuses (k : ℕ) : Type 0 where
       pub first-no : number ≡ k
       pub some : k ≢ 0
@@ -115,14 +107,14 @@ module _ (t : Table) (p : Pair) where
         go true false m = refl
         go false b m = refl
 
-    -- past questions 4 and 8, with the pair's controllers at hand
-    module _ (n : Named) (h : Parties) (i : InHand h) (k : ℕ) (e : k ≡ firstNo (otherQuestions (h .subject) (h .owner) (p .owner) current room)) where
+    -- past questions 4 and 8
+    module _ (h : Parties) (i : InHand h) (k : ℕ) (e : k ≡ firstNo (otherQuestions (h .subject) (h .owner) (p .owner) current room)) where
       asked : k ≡ others
       asked = rw (← i .subject-is, ← i .owner-is) e
 
       number-is : number ≡ k
       unfolding firstNo firstQuestions lentTable
-      number-is = rw (n .formed, n .both-named) (sym asked)
+      number-is = rw (i .past .formed, i .past .both-named) (sym asked)
 
       pub other-refuses : k ≢ 0 → Refuses k
       other-refuses m = record { first-no = number-is; some = m }
@@ -137,7 +129,7 @@ module _ (t : Table) (p : Pair) where
           let e13 = no-no 12 (unread x (at t (p .owner)) (p .owner)) (scratchRoom room ∷ []) (e21 .1) in
           record {
             first-no = number-is ∙ z;
-            accepted = (n .formed, rw (n .both-named, e10 .0, e13 .0) refl);
+            accepted = (i .past .formed, rw (i .past .both-named, e10 .0, e13 .0) refl);
             roomy = leb-true scratchSize room (no-no 14 (leb scratchSize room) [] (e13 .1) .0);
           }
 

@@ -26,7 +26,7 @@ tested c = c .before .before
 abbrev start : tie.Else1 → tie.Start
 start c = c .before .before .before
 
--- past questions 4 and 8, and with the controllers at hand
+-- past questions 4 and 8; and then with the controllers at hand
 both : (c : tie.Else1) → let a = start c .args in Named (a .t) (pair (a .receiver) (a .owner))
 both c = named-first _ _ (sym (c .before .first-refusal .ensures) ∙ c .if1 .left)
 
@@ -40,11 +40,11 @@ returns-2 : tie.Need-returns-2
 returns-2 c =
     let q = c .before .before in
     let h = hand (q .before) in
-    ask-refused _ _ _ _ (other-refuses _ _ _ _ (both (tested h)) _ (held h) _ (q .other-refusal .ensures) (c .before .if2 .taken)) _ (c .no-preview2 .ensures)
+    ask-refused _ _ _ _ (other-refuses _ _ _ _ _ (held h) _ (q .other-refusal .ensures) (c .before .if2 .taken)) _ (c .no-preview2 .ensures)
 
 -- no question refuses
 free : (c : tie.Else2) → let a = start (tested (hand (c .before .before))) .args in Granted (a .t) (pair (a .receiver) (a .owner)) true (length (now (a .scratch)))
-free c = let h = hand (c .before .before) in granted _ _ _ _ (both (tested h)) _ (held h) _ (c .before .other-refusal .ensures) (c .if2 .left)
+free c = let h = hand (c .before .before) in granted _ _ _ _ _ (held h) _ (c .before .other-refusal .ensures) (c .if2 .left)
 
 returns-3 : tie.Need-returns-3
 returns-3 c =

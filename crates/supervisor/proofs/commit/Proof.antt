@@ -31,7 +31,7 @@ tested c = c .before .before
 abbrev start : tie.Else1 → tie.Start
 start c = c .before .before .before
 
--- past questions 4 and 8, and with the controllers at hand
+-- past questions 4 and 8; and then with the controllers at hand
 both : (c : tie.Else1) → let a = start c .args in Named (a .t) (pair (a .receiver) (a .owner))
 both c = named-first _ _ (sym (c .before .first-refusal .ensures) ∙ c .if1 .left)
 
@@ -47,11 +47,11 @@ returns-2 c =
     let n = q .before in
     let h = hand n in
     commit-refused _ _ _ _ _ (held h .counted _ (n .act-count .ensures)) _
-    (other-refuses _ _ _ _ (both (tested h)) _ (held h) _ (q .other-refusal .ensures) (c .before .if2 .taken)) _ (c .refused2 .ensures)
+    (other-refuses _ _ _ _ _ (held h) _ (q .other-refusal .ensures) (c .before .if2 .taken)) _ (c .refused2 .ensures)
 
 -- no question refuses
 free : (c : tie.Else2) → let n = c .before .before in let a = start (tested (hand n)) .args in Granted (a .t) (pair (a .receiver) (a .owner)) (eqb (a .acts) (n .act-count .result)) (length (now (a .scratch)))
-free c = let h = hand (c .before .before) in granted _ _ _ _ (both (tested h)) _ (held h) _ (c .before .other-refusal .ensures) (c .if2 .left)
+free c = let h = hand (c .before .before) in granted _ _ _ _ _ (held h) _ (c .before .other-refusal .ensures) (c .if2 .left)
 
 returns-3 : tie.Need-returns-3
 unfolding effectOf
