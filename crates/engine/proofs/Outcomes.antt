@@ -1,4 +1,4 @@
--- What the event call and the dispatcher hand back is what their exported forms say. Assumes nothing.
+-- What the event call, the dispatcher and a commit hand back is what their exported forms say. Assumes nothing.
 use mathlib.Core.Path.{ap}
 use mathlib.Core.List.{List}
 use Prim.Native.Nat.{ℕ}
@@ -9,7 +9,9 @@ use Rattle.model.specs.declared.Answer.{Answer}
 use Rattle.lent.specs.Called.{Called}
 use Rattle.dispatcher.specs.declared.Handed.{Handed}
 use Rattle.dispatcher.specs.Handed.{handedOf, Dispatches}
-use Rattle.engine.specs.Called.{Counted, DispatchLeaves}
+use Rattle.supervisor.specs.declared.Committed.{Committed}
+use Rattle.supervisor.specs.Supervised.{committedOf, Commits}
+use Rattle.engine.specs.Called.{Counted, DispatchLeaves, CommitLeaves}
 
 module _ (t : Table) (s w : List ℕ) where
   pub counted : (h : Table) (g : Answer) (p z : List ℕ) → Called t s w h g p z → Counted t s w h g (length p) z
@@ -25,5 +27,13 @@ unfolding handedOf
 dispatched t p w r z e = record {
   table-is = ap (λ (x : Handed). x .table) (e .outcome);
   answer-is = ap (λ (x : Handed). x .answer) (e .outcome);
+  scratch-is = e .clear;
+}
+
+pub taken : (t : Table) (p : Pair) (acts : ℕ) (w : List ℕ) (r : Committed) (z : List ℕ) → Commits t p acts w r z → CommitLeaves t p acts w (r .table) (r .answer) z
+unfolding committedOf
+taken t p acts w r z e = record {
+  table-is = ap (λ (x : Committed). x .table) (e .outcome);
+  answer-is = ap (λ (x : Committed). x .answer) (e .outcome);
   scratch-is = e .clear;
 }

@@ -20,13 +20,14 @@ use model::refusal;
 // THE ACT COUNT
 
 // How many of the first messages c sent.
-fn sends_by(count: usize, messages: [Message; Table::MESSAGES], c: usize) -> usize
+fn sends_by(count: usize, messages: [Message; Table::MESSAGES], c: u8) -> usize
     requires { ⌜ count ≤ capacity ⌝ }
     ensures { λ r. ⌜ r ≡ sendsBy (firstOf count messages) c ⌝ }
 {
     let mut sends: usize = 0;
     for s in 0..count {
-        if messages[s].sender as usize == c {
+        let sender = messages[s].sender;
+        if sender == c {
             sends += 1;
         }
     }
@@ -46,7 +47,7 @@ fn reads_by(n: usize, read: [usize; Table::CONTROLLERS]) -> usize
 }
 
 // How often controller c, which is x, has acted: it sent a message, was the receiver of a handover or stopped.
-fn act_count(t: Table, x: Controller, c: usize) -> usize
+fn act_count(t: Table, x: Controller, c: u8) -> usize
     requires { ⌜ (t .n ≤ seats) × ((t .count ≤ capacity) × Bounded (t .n) (x .read)) ⌝ }
     ensures { λ r. ⌜ r ≡ actCount (t .n) (messagesOf t) x c ⌝ }
 {
@@ -120,9 +121,11 @@ pub fn ask(t: Table, receiver: usize, owner: usize, scratch: &mut [u8]) -> AskAn
     if first != 0 {
         return no_preview(first);
     }
+    let r = receiver as u8;
+    let o = owner as u8;
     let e = Event::Handover {
-        receiver: receiver as u8,
-        owner: owner as u8,
+        receiver: r,
+        owner: o,
     };
     let controllers = t.controllers;
     let p = effects::at_hand(controllers, Command::Act(e));
@@ -132,7 +135,7 @@ pub fn ask(t: Table, receiver: usize, owner: usize, scratch: &mut [u8]) -> AskAn
     if other != 0 {
         return no_preview(other);
     }
-    let acts = act_count(t, x, receiver);
+    let acts = act_count(t, x, r);
     let done = effects::carry_out(t, x, y, e, scratch);
     let answer = done.answer;
     let names = answer.names;
@@ -171,15 +174,17 @@ pub fn commit(t: Table, receiver: usize, owner: usize, acts: usize, scratch: &mu
     if first != 0 {
         return refused(t, first);
     }
+    let r = receiver as u8;
+    let o = owner as u8;
     let e = Event::Handover {
-        receiver: receiver as u8,
-        owner: owner as u8,
+        receiver: r,
+        owner: o,
     };
     let controllers = t.controllers;
     let p = effects::at_hand(controllers, Command::Act(e));
     let x = p.subject;
     let y = p.owner;
-    let own = act_count(t, x, receiver);
+    let own = act_count(t, x, r);
     let other = other_refusal(x, y, owner, acts == own, scratch.len());
     if other != 0 {
         return refused(t, other);

@@ -1,0 +1,2 @@
+pub mod ActCounts
+pub mod SupervisedAnswers
