@@ -636,13 +636,13 @@ void furnacejade_dispatch(furnacejade_table *t, size_t receiver, size_t owner, u
  * receiver's act count. The act count is how often the receiver has acted in the run: how many messages it has sent, those that
  * were cut off among them, and how many handovers it was the receiver of. Local reads, looks, counts and asks are no acts.
  * Questions 4, 8, 10, 13 and 15 are put, 8 to receiver and owner. The table stays as it is. An accepted ask leaves scratch as an
- * event does, a refused one as it was. */
+ * event does, a refused one as it was. Takes 22 KB of stack. */
 void furnacejade_ask(const furnacejade_table *t, size_t receiver, size_t owner, uint8_t *scratch, size_t scratch_length, furnacejade_ask_answer *answer);
 
 /* A commit: the handover to a receiver from the log of an owner, made only if the receiver has acted as often as acts says.
  * It is given what an ask of the same receiver and owner answered as acts. Questions 4, 8, 10, 21, 13 and 15 are put, in this
  * order, 8 to receiver and owner; 21 is no if acts is not the receiver's act count. An accepted commit answers and leaves, table
- * and scratch, what the handover's record does. A refused one leaves both as they were.
+ * and scratch, what the handover's record does. A refused one leaves both as they were. Takes 23 KB of stack.
  *
  * The set applied is the one that the ask showed, whatever other controllers did in between. As long as the receiver has not
  * acted since the ask, the commit is accepted, unless a stop of the owner has cut the entry away, and then 13 refuses it.
