@@ -146,6 +146,33 @@
 //! # }
 //! ```
 //!
+//! # Look at a set, then take it
+//!
+//! [`Machine::ask`] shows the set that a handover would apply, without making it. [`Machine::commit`] makes the handover,
+//! as long as its receiver has not acted in between, and applies the set that was shown. What others do in between
+//! changes nothing:
+//!
+//! ```
+//! use furnacejade::{Asked, Machine, Name, Pair, Record, Refusal};
+//!
+//! # fn main() -> Result<(), Refusal> {
+//! let mut machine = Machine::new(1, 3)?;
+//! machine.play(Record::Report { sender: 1, amount: 30 })?;
+//! machine.play(Record::Handover { receiver: 2, owner: 1 })?;
+//! let shown = machine.ask(Pair::new(1, 2))?;
+//! assert_eq!(shown.set(), [Name::new(1, 1)]);
+//!
+//! machine.play(Record::Report { sender: 2, amount: 12 })?; // another controller acts
+//! let answer = machine.commit(shown.asked)?;
+//! assert_eq!(answer.applied(), shown.set());
+//!
+//! // Now 1 has acted, so what was asked before is old. Plain numbers do as well: 1 has acted twice.
+//! assert_eq!(machine.commit(shown.asked), Err(Refusal::ActCount));
+//! machine.commit(Asked::new(1, 2, 2))?;
+//! # Ok(())
+//! # }
+//! ```
+//!
 //! # Follow a message
 //!
 //! A table says the name of the message that a controller has just sent, where it has arrived, and what is left to
@@ -195,8 +222,8 @@
 //!
 //! # Lend your own memory
 //!
-//! [`fresh`], [`event`], [`dispatch`], [`look`] and [`count_before`] are the same calls over a table and scratch of the
-//! caller's:
+//! [`fresh`], [`event`], [`dispatch`], [`ask`], [`commit`], [`look`] and [`count_before`] are the same calls over a
+//! table and scratch of the caller's:
 //!
 //! ```
 //! use furnacejade::{event, fresh, look, Record, Refusal, Sums, SCRATCH};
