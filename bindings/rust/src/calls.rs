@@ -88,7 +88,8 @@ pub fn dispatch(table: &mut Table, after: Pair, scratch: &mut [u8], answer: &mut
 /// An ask: what the handover of a pair would apply, and its receiver's act count.
 pub fn ask(table: &Table, pair: Pair, scratch: &mut [u8], answer: &mut AskAnswer) {
     let (area, length) = (scratch.as_mut_ptr(), scratch.len());
-    // SAFETY: all pointers come from references; scratch and answer are borrowed to be written, so nothing overlaps them.
+    // SAFETY: all pointers come from references; scratch and answer are borrowed to be written, so nothing overlaps
+    // them.
     unsafe { furnacejade_ask(table, pair.receiver, pair.owner, area, length, answer) }
 }
 

@@ -552,8 +552,8 @@ impl AskAnswer {
     pub const BLANK: AskAnswer =
         AskAnswer { refusal: RefusalNumber::ACCEPTED, acts: 0, size: 0, names: [Name::BLANK; MESSAGES] };
 
-    /// The set that the handover would apply, by sender and then number. It is empty if nothing would be applied. (Of an
-    /// answer made by hand, at most the names that it has a place for.)
+    /// The set that the handover would apply, by sender and then number. It is empty if nothing would be applied.
+    /// (Of an answer made by hand, at most the names that it has a place for.)
     #[must_use]
     pub fn set(&self) -> &[Name] {
         &self.names[..self.size.min(MESSAGES)]

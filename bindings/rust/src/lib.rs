@@ -148,9 +148,9 @@
 //!
 //! # Look at a set, then take it
 //!
-//! [`Machine::ask`] shows the set that a handover would apply, without making it. [`Machine::commit`] makes the handover,
-//! as long as its receiver has not acted in between, and applies the set that was shown. What others do in between
-//! changes nothing:
+//! [`Machine::ask`] shows the set that a handover would apply, without making it. [`Machine::commit`] makes the
+//! handover, as long as its receiver has not acted in between, and applies the set that was shown. What other
+//! controllers do in between does not change that set:
 //!
 //! ```
 //! use furnacejade::{Asked, Machine, Name, Pair, Record, Refusal};
@@ -360,14 +360,18 @@ pub fn dispatch(table: &mut Table, after: Pair, scratch: &mut [u8]) -> Result<Op
 /// Shows the set that a handover would apply, without making it. The preview also has what [`commit`] is given to take
 /// this very set.
 ///
-/// The table stays as it is. An accepted ask needs [`SCRATCH`] bytes of scratch, and leaves them zero. A refused one leaves
-/// scratch as it was.
+/// The table stays as it is. An accepted ask needs [`SCRATCH`] bytes of scratch, and leaves them zero. A refused one
+/// leaves scratch as it was.
 ///
 /// # Errors
 ///
-/// The first of these, in this order: [`Refusal::Table`], if the table is not well formed; [`Refusal::Controller`], unless
-/// both numbers of the pair are from 1 to n; [`Refusal::Stopped`], if the receiver has stopped; [`Refusal::NoEntry`], if
-/// it has read the owner's log to its end; [`Refusal::Scratch`].
+/// The first of these, in this order:
+///
+/// - [`Refusal::Table`], if the table is not well formed;
+/// - [`Refusal::Controller`], unless both numbers of the pair are from 1 to n;
+/// - [`Refusal::Stopped`], if the receiver has stopped;
+/// - [`Refusal::NoEntry`], if the receiver has read the owner's log to its end;
+/// - [`Refusal::Scratch`], if scratch is too short.
 pub fn ask(table: &Table, pair: Pair, scratch: &mut [u8]) -> Result<Preview, Refusal> {
     let mut answer = AskAnswer::BLANK;
     calls::ask(table, pair, scratch, &mut answer);
@@ -387,8 +391,9 @@ pub fn ask(table: &Table, pair: Pair, scratch: &mut [u8]) -> Result<Preview, Ref
 ///
 /// # Errors
 ///
-/// Those of [`ask`], and after [`Refusal::Stopped`] also [`Refusal::ActCount`], if the receiver's act count is not the
-/// one given. [`Refusal::NoEntry`] says then that the entry was cut away.
+/// Those of [`ask`], in the same order, and right after [`Refusal::Stopped`] also [`Refusal::ActCount`], if the
+/// receiver's act count is not the one given. If an ask gave the count, [`Refusal::NoEntry`] says that the entry was cut
+/// away since.
 pub fn commit(table: &mut Table, asked: Asked, scratch: &mut [u8]) -> Result<Answer, Refusal> {
     let mut answer = Answer::BLANK;
     calls::commit(table, asked.pair, asked.acts, scratch, &mut answer);

@@ -89,8 +89,8 @@ impl Machine {
         handovers
     }
 
-    /// Shows the set that a handover would apply, without making it: [`ask`] of the machine's table. It takes scratch of
-    /// its own, 4 KB of stack.
+    /// Shows the set that a handover would apply, without making it: [`ask`] of the machine's table. The scratch for it
+    /// stands on the stack, 4 KB, so that the machine is only read.
     ///
     /// # Errors
     ///

@@ -12,7 +12,7 @@ use crate::{AskAnswer, Name, Pair};
 pub struct Asked {
     /// The handover.
     pub pair: Pair,
-    /// The act count of its receiver: how many messages it had sent, and how many handovers it had been the receiver of.
+    /// The act count of its receiver: how many messages the receiver had sent, and how many handovers it had received.
     pub acts: usize,
 }
 
@@ -37,7 +37,7 @@ impl Preview {
         Preview { asked: Asked { pair, acts: answer.acts }, answer }
     }
 
-    /// The set that the handover would apply, by sender and then number. It is empty if the handover would apply nothing.
+    /// The set that the handover would apply, by sender and then number. It is empty if nothing would be applied.
     #[must_use]
     pub fn set(&self) -> &[Name] {
         self.answer.set()

@@ -201,8 +201,8 @@ pub fn followed(state: &State, name: &Name, offer: &str) -> String {
     }
 }
 
-/// What a line that offers a single handover says of the set that this would apply, as "panel 3 would apply 1.1 (+30) and
-/// 3.1 (-2) as one set". A line that offers several says nothing of a set.
+/// What a line that offers a single handover says of the set that this would apply, as "panel 3 would apply 1.1 (+30)
+/// and 3.1 (-2) as one set". A line that offers several says nothing of a set.
 pub fn set_shown(state: &State, offer: &str) -> String {
     let Some((reader, owners, _)) = hands(offer) else { return "no handovers".into() };
     let [owner] = owners[..] else { return String::new() };
