@@ -392,8 +392,8 @@ pub fn ask(table: &Table, pair: Pair, scratch: &mut [u8]) -> Result<Preview, Ref
 /// # Errors
 ///
 /// Those of [`ask`], in the same order, and right after [`Refusal::Stopped`] also [`Refusal::ActCount`], if the
-/// receiver's act count is not the one given. If an ask gave the count, [`Refusal::NoEntry`] says that the entry was cut
-/// away since.
+/// receiver's act count is not the one given. If an ask gave the count, [`Refusal::NoEntry`] says that the entry was
+/// cut away since.
 pub fn commit(table: &mut Table, asked: Asked, scratch: &mut [u8]) -> Result<Answer, Refusal> {
     let mut answer = Answer::BLANK;
     calls::commit(table, asked.pair, asked.acts, scratch, &mut answer);
