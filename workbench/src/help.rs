@@ -80,7 +80,7 @@ applied the message, it says
     whether the message was cut off, and so will never be applied;
     which controllers have marked the message, and how many are needed;
     which pending messages it does not go before, and how many controllers put it before each of them;
-    which handovers would bring more marks.
+    which handovers would bring more marks, and of a single handover what set it would apply.
 
 The answer is for the end of the run, or for the moment after the event that --after names.
 ";

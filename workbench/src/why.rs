@@ -2,9 +2,9 @@
 
 use crate::play::{held, log, read, Play};
 use crate::text::record_text;
-use crate::words::{self, count, entries, list, log_of, message, sums};
-use furnacejade::{count_before, Name, State};
-use std::fmt::Write;
+use crate::words::{self, count, entries, list, log_of, message, set, sums};
+use furnacejade::{ask, count_before, Name, Pair, State, SCRATCH};
+use std::fmt::{Display, Formatter, Write};
 use std::ops::RangeInclusive;
 
 /// A message that was sent in a play, and a panel that the play has.
@@ -12,6 +12,19 @@ pub struct Question<'a> {
     pub play: &'a Play<'a>,
     pub name: Name,
     pub panel: u8,
+}
+
+/// Handovers to one reader from one log, which an answer offers. Their text is that of a line: "hand 3 <- 1 1".
+struct Hand {
+    reader: u8,
+    owner: u8,
+    times: usize,
+}
+
+impl Display for Hand {
+    fn fmt(&self, f: &mut Formatter<'_>) -> std::fmt::Result {
+        write!(f, "`hand {} <-{}`", self.reader, format!(" {}", self.owner).repeat(self.times))
+    }
 }
 
 impl Question<'_> {
@@ -104,14 +117,27 @@ impl Question<'_> {
 
     /// Which handovers let a controller hear of the message.
     fn to_hear(&self, f: u8) -> String {
-        self.shortest(f, self.name).map_or(String::new(), |hand| format!("; {hand} would put it there"))
+        let put = |hand: Hand| format!("; {hand} would put it there{}", self.shown(&hand));
+        self.shortest(f, self.name).map_or(String::new(), put)
+    }
+
+    /// What a single handover would apply, by an ask. Of several nothing is said, as an ask is of the next handover.
+    fn shown(&self, hand: &Hand) -> String {
+        if hand.times != 1 {
+            return String::new();
+        }
+        match ask(&self.play.table, Pair::new(hand.reader, hand.owner), &mut [0; SCRATCH]) {
+            Ok(shown) if shown.set().is_empty() => format!("; panel {} would apply nothing", hand.reader),
+            Ok(shown) => format!("; panel {} would apply {}", hand.reader, set(self.play, shown.set())),
+            Err(refusal) => format!("; {refusal}"),
+        }
     }
 
     /// The fewest handovers with which a controller reads a message.
-    fn shortest(&self, reader: u8, name: Name) -> Option<String> {
+    fn shortest(&self, reader: u8, name: Name) -> Option<Hand> {
         let unread = |owner: u8| words::unread(self.play, owner, reader).iter().position(|(_, other)| *other == name);
         let ways = self.all().filter_map(|owner| Some((owner, unread(owner)? + 1)));
-        ways.min_by_key(|(_, times)| *times).map(|(owner, times)| hand(reader, owner, times))
+        ways.min_by_key(|(_, times)| *times).map(|(owner, times)| Hand { reader, owner, times })
     }
 
     /// The other pending messages that a message does not go before. With each stand two counts: how many controllers put
@@ -131,7 +157,8 @@ impl Question<'_> {
         if held(&play.table, *panel).iter().all(|other| self.marks_of(*other) >= needed) {
             let next = self.all().find(|owner| play.table.unread(*panel, *owner) > 0);
             let next = next.filter(|_| play.table.runs(*panel));
-            let next = next.map_or(String::new(), |owner| format!(": {} applies it", hand(*panel, owner, 1)));
+            let next = next.map(|owner| Hand { reader: *panel, owner, times: 1 });
+            let next = next.map_or(String::new(), |hand| format!(": {hand} applies it{}", self.shown(&hand)));
             return format!("\nall that is pending here has its marks, and sets are applied at handovers{next}\n");
         }
         let others = self.not_before(*name);
@@ -183,7 +210,8 @@ impl Question<'_> {
                 if play.marks(*panel, other).iter().all(|(f, _)| *f != owner) {
                     let read = entries(read(&play.table, *panel, owner));
                     let place = format!("entry {entry} of {} ({read} read)", log_of(owner, *panel));
-                    lines.push(format!("{}: {}, {place}", hand(*panel, owner, times), message(play, other)));
+                    let hand = Hand { reader: *panel, owner, times };
+                    lines.push(format!("{hand}: {}, {place}{}", message(play, other), self.shown(&hand)));
                 }
             }
         }
@@ -201,11 +229,7 @@ impl Question<'_> {
         let others = self.all().filter(|f| having < needed && !self.has(*f, name) && self.play.table.runs(*f));
         let logs = count(having, "log has", "logs have");
         let what = |f: u8| format!("puts {} in log {f}; {logs} it, {needed} needed", message(self.play, name));
-        others.filter_map(|f| Some(format!("{}: {}", self.shortest(f, name)?, what(f)))).collect()
+        let hands = others.filter_map(|f| Some((f, self.shortest(f, name)?)));
+        hands.map(|(f, hand)| format!("{hand}: {}{}", what(f), self.shown(&hand))).collect()
     }
-}
-
-/// Handovers to one reader from one log, as a text has them: "hand 3 <- 1 1".
-fn hand(reader: u8, owner: u8, times: usize) -> String {
-    format!("`hand {reader} <-{}`", format!(" {owner}").repeat(times))
 }

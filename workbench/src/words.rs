@@ -93,12 +93,16 @@ pub fn effect(play: &Play, step: &Step) -> String {
     }
 }
 
-/// A set that a panel applied, with its messages and the sums that the panel then shows.
-pub fn applied(play: &Play, step: &Step, Applied { names, sums: shown, finished }: &Applied) -> String {
-    let c = step.controller;
+/// The messages of a set: "1.1 (+30) and 3.1 (-2) as one set".
+pub fn set(play: &Play, names: &[Name]) -> String {
     let messages: Vec<String> = names.iter().map(|name| message(play, *name)).collect();
     let as_one = if names.len() > 1 { " as one set" } else { "" };
-    let text = format!("panel {c} applies {}{as_one}, and shows {}", list(&messages), sums(*shown));
+    format!("{}{as_one}", list(&messages))
+}
+
+/// A set that a panel applied, with its messages and the sums that the panel then shows.
+pub fn applied(play: &Play, step: &Step, Applied { names, sums: shown, finished }: &Applied) -> String {
+    let text = format!("panel {} applies {}, and shows {}", step.controller, set(play, names), sums(*shown));
     match finished {
         Some(answer) => format!("{text}; its sync is finished and answers {}", sums(*answer)),
         None => text,

@@ -480,8 +480,50 @@ fn why_says_where_too_few_are_left_to_mark_a_message() {
         assert!(!answer(enough).contains("no more than"), "{}", answer(enough));
     }
     // Only those that run are asked to put it in their logs.
-    assert!(answer("stop 3 keep 0\n").contains("`hand 2 <- 1`: puts 1.1 (+5) in log 2; 1 log has it, 2 needed\n"));
+    let offer = "`hand 2 <- 1`: puts 1.1 (+5) in log 2; 1 log has it, 2 needed; panel 2 would apply nothing\n";
+    assert!(answer("stop 3 keep 0\n").contains(offer));
     assert!(!answer("stop 3 keep 0\n").contains("`hand 3"));
+}
+
+/// What `run` says that the last event of a text applied: "1.1 (+30)", or "nothing".
+fn last_set(lines: &str) -> String {
+    let report = printed(&["run", "-"], lines.as_bytes(), 0);
+    let (events, _) = report.split_once(" accepted\n").expect("the number of events");
+    let last = events.lines().rev().skip(1).find(|line| !line.is_empty()).unwrap_or_default();
+    let set = last.trim_start().split_once(" applies ").and_then(|(_, set)| set.split_once(", and shows "));
+    set.map_or("nothing", |(set, _)| set).into()
+}
+
+#[test]
+fn why_says_what_a_single_handover_would_apply() {
+    let reported = "version 1\ncontrollers 3\nreport 1 +30\n";
+    let worked =
+        format!("{reported}hand 1 <- 1\nhand 2 <- 1\nhand 1 <- 2\nreport 3 -2\nhand 2 <- 3 2 2\nhand 3 <- 2 2\n");
+    // Wherever a handover is offered, what it would apply is what it applies when it is made.
+    for (lines, message, panel, offer, applies) in [
+        (reported, "1.1", "1", "hand 2 <- 1", "nothing"),
+        (&format!("{reported}hand 2 <- 1\n"), "1.1", "1", "hand 1 <- 2", "1.1 (+30)"),
+        (&format!("{reported}hand 2 <- 1\n"), "1.1", "2", "hand 2 <- 2", "1.1 (+30)"),
+        (&format!("{reported}hand 2 <- 1\nsync 2\nhand 1 <- 2\n"), "2.2", "1", "hand 1 <- 2", "nothing"),
+        (&worked, "3.1", "3", "hand 3 <- 1", "1.1 (+30) and 3.1 (-2) as one set"),
+        (&worked, "3.1", "3", "hand 1 <- 2", "nothing"),
+    ] {
+        let answer = printed(&["why", "-", message, panel], lines.as_bytes(), 0);
+        let offers: Vec<&str> = answer.lines().filter(|line| line.contains(&format!("`{offer}`"))).collect();
+        let shown = format!("; panel {} would apply {applies}", &offer[5..6]);
+        assert!(!offers.is_empty() && offers.iter().all(|line| line.ends_with(&shown)), "{offer}: {answer}");
+        assert_eq!(last_set(&format!("{lines}{offer}\n")), applies, "{offer}");
+    }
+    // Of several handovers no set is said.
+    let answer = printed(&["why", "-", "3.1", "3"], worked.as_bytes(), 0);
+    assert!(answer.contains("    `hand 3 <- 3 3`: 1.1 (+30), entry 2 of its own log (0 entries read)\n"), "{answer}");
+    // The only controller has all marks at once, and applies at its next handover.
+    let alone = "version 1\ncontrollers 1\nreport 1 +5\nreport 1 -6\n";
+    let answer = printed(&["why", "-", "1.2", "1"], alone.as_bytes(), 0);
+    let set = "1.1 (+5) and 1.2 (-6) as one set";
+    let offer = format!("sets are applied at handovers: `hand 1 <- 1` applies it; panel 1 would apply {set}\n");
+    assert!(answer.contains(&offer), "{answer}");
+    assert_eq!(last_set(&format!("{alone}hand 1 <- 1\n")), set);
 }
 
 #[test]

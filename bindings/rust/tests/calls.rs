@@ -1,10 +1,10 @@
 //! The calls as a user makes them: the worked run, a run with classes, one with reports under way, one with a set
 //! point, one with a stale read, the count of "goes before", and what a refusal leaves.
 
-use furnacejade::{calls, count_before, event, fresh, head, look, run};
+use furnacejade::{ask, calls, commit, count_before, event, fresh, head, look, run};
 use furnacejade::{
-    Answer, Class, ClassNumber, CountAnswer, FreshAnswer, LookAnswer, MessageNumber, Name, Panel, Payload, Record,
-    Refusal, RefusalNumber, Register, RunAnswer, Stamp, Sums, Table, INTERFACE, REGISTERS, SCRATCH,
+    Answer, Asked, Class, ClassNumber, CountAnswer, FreshAnswer, LookAnswer, MessageNumber, Name, Pair, Panel, Payload,
+    Record, Refusal, RefusalNumber, Register, RunAnswer, Stamp, Sums, Table, INTERFACE, REGISTERS, SCRATCH,
 };
 use std::mem::size_of;
 
@@ -373,6 +373,10 @@ fn a_refused_call_changes_nothing() {
         assert_eq!(event(&mut table, &record.bytes(), &mut scratch[1..]), Err(Refusal::Scratch));
     }
     assert_eq!(look(&table, 0), Err(Refusal::Controller));
+    assert_eq!(ask(&table, Pair::new(1, 2), &mut scratch), Err(Refusal::NoEntry));
+    for (acts, refusal) in [(0, Refusal::NoEntry), (1, Refusal::ActCount)] {
+        assert_eq!(commit(&mut table, Asked::new(1, 2, acts), &mut scratch), Err(refusal));
+    }
     assert_eq!(count_before(&table, 3, Name::new(1, 1), Name::new(2, 1)), Err(Refusal::Controller));
     assert_eq!((table, scratch), (before, [7; SCRATCH]));
 }
@@ -429,6 +433,8 @@ fn any_bytes_are_a_table() {
     assert_eq!(look(&table, 1), Err(Refusal::Table));
     assert_eq!(count_before(&table, 1, Name::new(0xA5, 0xA5), Name::new(1, 1)), Err(Refusal::Table));
     assert_eq!(event(&mut table, &[], &mut []), Err(Refusal::Table));
+    assert_eq!(ask(&table, Pair::new(1, 1), &mut []), Err(Refusal::Table));
+    assert_eq!(commit(&mut table, Asked::new(1, 1, 0), &mut []), Err(Refusal::Table));
     assert_eq!(*table.as_bytes(), before);
 }
 

@@ -198,6 +198,10 @@ impl Workbench<'_> {
         offers(&text)
             .iter()
             .try_for_each(|offer| same("why: handovers", offer.clone(), followed(&state, &name, offer)))?;
+        offers(&text).iter().try_for_each(|offer| {
+            let about = |set: String| format!("{offer}: {set}");
+            same("why: sets shown", about(set_shown(&state, offer)), about(set_shown_in(offer)))
+        })?;
         if ["pending", "unknown"].contains(&right) {
             same("why: lost", about(&lost(&state, &name, panel)), about(&lost_in(&text)))?;
         }

@@ -1,7 +1,8 @@
 //! What `why` prints of a message at a panel, read as a user reads it, and the same from the reference: the message's
-//! state, its set, its marks, what keeps it out, and the handovers that `why` offers.
+//! state, its set, its marks, what keeps it out, and the handovers that `why` offers, with the set of each single one.
 
 use super::played::{first_records, majority, name_text, run_of, Played};
+use super::run::said_of;
 use crate::cases::records::handover;
 use crate::generate::random::Random;
 use crate::reference::{Controller, Name, Says, Standing, State, SCRATCH};
@@ -164,14 +165,18 @@ pub fn offers(text: &str) -> Vec<String> {
     text.lines().filter(|line| line.contains("`hand ")).map(str::to_string).collect()
 }
 
+/// The handovers of a line that offers some: their reader, the owners of the logs, and what stands after them.
+fn hands(offer: &str) -> Option<(usize, Vec<usize>, &str)> {
+    let (hand, after) = offer.split_once("`hand ")?.1.split_once('`')?;
+    let (reader, owners) = hand.split_once(" <- ")?;
+    Some((reader.parse().ok()?, owners.split(' ').map(|owner| owner.parse().ok()).collect::<Option<_>>()?, after))
+}
+
 /// A line that offers handovers, if each of them is accepted and together they do what it says: a controller hears of
 /// the message, the mark of a log's owner becomes known, or the message is applied.
 pub fn followed(state: &State, name: &Name, offer: &str) -> String {
-    let parts = offer.split_once("`hand ").and_then(|(_, rest)| rest.split_once('`'));
-    let hand = parts.and_then(|(hand, after)| Some((hand.split_once(" <- ")?, after)));
-    let Some(((reader, owners), after)) = hand else { return "no handovers".into() };
+    let Some((reader, owners, after)) = hands(offer) else { return "no handovers".into() };
     let number = |text: &str| text.parse().unwrap_or(0);
-    let (reader, owners): (usize, Vec<usize>) = (number(reader), owners.split(' ').map(number).collect());
     let mut then = state.clone();
     for owner in &owners {
         let (answer, _) = then.event(&handover(reader, *owner), &mut [0; SCRATCH]);
@@ -194,4 +199,25 @@ pub fn followed(state: &State, name: &Name, offer: &str) -> String {
     } else {
         "nothing of that".into()
     }
+}
+
+/// What a line that offers a single handover says of the set that this would apply, as "panel 3 would apply 1.1 (+30)
+/// and 3.1 (-2) as one set". A line that offers several says nothing of a set.
+pub fn set_shown(state: &State, offer: &str) -> String {
+    let Some((reader, owners, _)) = hands(offer) else { return "no handovers".into() };
+    let [owner] = owners[..] else { return String::new() };
+    let (answer, _) = state.clone().event(&handover(reader, owner), &mut [0; SCRATCH]);
+    let names = answer.set.iter().map(name_text);
+    let messages: Vec<String> = names.map(|name| format!("{name} ({})", said_of(state, &name))).collect();
+    let set = match &messages[..] {
+        [] => "nothing".into(),
+        [one] => one.clone(),
+        [first @ .., last] => format!("{} and {last} as one set", first.join(", ")),
+    };
+    format!("panel {reader} would apply {set}")
+}
+
+/// The same, from the end of the line.
+pub fn set_shown_in(offer: &str) -> String {
+    offer.rsplit("; ").next().filter(|end| end.contains(" would apply ")).unwrap_or_default().into()
 }
