@@ -114,9 +114,11 @@ table =
     -- P: two asks, and two commits with one count: the second gives 21
     ∷ row 1 (report 1 5 ∷ report 1 6 ∷ []) (ask 101 ∷ ask 101 ∷ take 101 2 ∷ take 101 2 ∷ take 101 3 ∷ take 101 4 ∷ [])
     (shows (101 ∷ 102 ∷ []) 2 ∷ shows (101 ∷ 102 ∷ []) 2 ∷ applies (101 ∷ 102 ∷ []) ∷ refuses 21 ∷ applies [] ∷ refuses 13 ∷ [])
-    -- others act in between: the count stays, and the set is the one shown
-    ∷ row 2 (report 1 5 ∷ handover 2 1 ∷ []) (ask 102 ∷ sends (report 2 7) ∷ sends (handover 2 2) ∷ take 102 1 ∷ []) (shows (101 ∷ []) 1 ∷ applies [] ∷ applies (101 ∷ []) ∷ applies (101 ∷ []) ∷ [])
-    -- a local read of the receiver's is no act, and a report is one
+    -- P: the list of RULES.md, section 31 (Look at a set, then take it): others act in between, and the set is the one shown
+    ∷ row 3 (report 1 30 ∷ report 3 65534 ∷ handover 2 1 ∷ handover 2 3 ∷ handover 3 2 ∷ handover 3 2 ∷ [])
+    (ask 301 ∷ sends (report 1 12) ∷ sends (handover 2 1) ∷ take 301 3 ∷ take 301 3 ∷ ask 301 ∷ [])
+    (shows (101 ∷ 301 ∷ []) 3 ∷ applies [] ∷ applies [] ∷ applies (101 ∷ 301 ∷ []) ∷ refuses 21 ∷ shows [] 4 ∷ [])
+    -- P: a local read of the receiver's is no act, and a report is one
     ∷ row 2 (report 2 7 ∷ []) (ask 102 ∷ sends (read 1) ∷ ask 102 ∷ sends (report 1 5) ∷ take 102 0 ∷ take 102 1 ∷ [])
     (shows [] 0 ∷ reads 0 0 ∷ shows [] 0 ∷ applies [] ∷ refuses 21 ∷ applies [] ∷ [])
     ∷ []
@@ -129,7 +131,7 @@ expected : List Row → List (List Given)
 expected [] = []
 expected (r ∷ rs) = r .gives ∷ expected rs
 
--- the act count of one that has stopped, which no call shows: two messages, of which one is cut off, an entry read, and the stop
+-- P: the act count of one that has stopped, which no call shows: two messages, of which one is cut off, an entry read, and the stop
 stopped : Table
 stopped = played (fresh 1 2) (report 1 5 ∷ report 1 6 ∷ handover 1 1 ∷ handover 2 1 ∷ stop 1 1 ∷ [])
 
