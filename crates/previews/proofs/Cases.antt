@@ -11,7 +11,7 @@ use Rattle.model.specs.declared.Sums.{Sums}
 use Rattle.model.specs.declared.Table.{Table}
 use Rattle.model.proofs.Computed.{computed}
 use Rattle.turns.specs.Dispatcher.{pair}
-use Rattle.turns.proofs.Cases.{report, sync, handover, stop, coded, played, EveryCase as Others, every-case as others}
+use Rattle.turns.proofs.Cases.{report, sync, handover, stop, coded, played, DispatcherCases, dispatcher-cases}
 use Rattle.previews.specs.Previews.{sendsBy, readsBy, actCount, actsOf, askQuestions, Preview, showing, preview, commitQuestions, taking, commit}
 
 -- CASES: n controllers, the records of accepted events, and calls, each on the table that the last one left
@@ -139,8 +139,8 @@ stopped = played (fresh 1 2) (report 1 5 ∷ report 1 6 ∷ handover 1 1 ∷ han
 pub record EveryCase : Type 0 where
   previews : results table ≡ expected table
   act-counts : (actsOf stopped 1 ≡ 4) × (actsOf stopped 2 ≡ 1)
-  others : Others
+  others : DispatcherCases
 
 pub every-case : EveryCase
 unfolding computed results expected table stopped called answered previewed played report sync handover stop read sendsBy readsBy actCount askQuestions showing preview commitQuestions taking commit
-every-case = record { previews = refl; act-counts = (refl, refl); others = others }
+every-case = record { previews = refl; act-counts = (refl, refl); others = dispatcher-cases }

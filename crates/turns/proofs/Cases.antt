@@ -1,5 +1,5 @@
 -- The cases of RULES.md, section 23 (Edges), that are marked P and are the dispatcher's; and for each two of its questions that can both be
--- no at once, a row in which both are and the first gives the number. One table; and the one theorem of this table and that of `model`.
+-- no at once, a row in which both are and the first gives the number. One table; and one theorem of this table and that of `model`.
 -- Assumes nothing.
 use mathlib.Core.Path.{_≡_, refl}
 use Prim.Native.Nat.{ℕ, _+_, _*_, _/_, _%_}
@@ -154,11 +154,11 @@ expected : List Row → List (List Given)
 expected [] = []
 expected (r ∷ rs) = r .gives ∷ expected rs
 
--- all P cases: those of the dispatcher, and all others
-pub record EveryCase : Type 0 where
+-- the P cases of the dispatcher, and those of `model`
+pub record DispatcherCases : Type 0 where
   dispatcher : results table ≡ expected table
   others : AllCases
 
-pub every-case : EveryCase
+pub dispatcher-cases : DispatcherCases
 unfolding computed results expected table called givenBy played report sync handover stop following waits firstWaiting nextPair pairQuestions dispatchQuestions saysNone withHandover withNone dispatch scratchServed
-every-case = record { dispatcher = refl; others = all-cases }
+dispatcher-cases = record { dispatcher = refl; others = all-cases }
