@@ -1,7 +1,8 @@
 /* Writes every field of a table from C, one at a time, and sees through the calls that the engine reads it there, and that it
  * reads nothing else; sees that equal calls make equal tables byte for byte, whatever stood in their memory before; writes
  * every record, and files into places that are too small; sees that the dispatcher makes the handover that is next, as the event
- * would; and lends random bytes as a table, which the engine answers like any other. */
+ * would, that an ask shows the set of a handover and its receiver's act count, and that a commit with that count makes it; and
+ * lends random bytes as a table, which the engine answers like any other. */
 #include <limits.h>
 #include <stdio.h>
 #include <stdlib.h>
@@ -634,15 +635,20 @@ static furnacejade_dispatch_answer dispatch(furnacejade_table *table, size_t rec
     return next;
 }
 
+/* Every field of the one answer is that of the other. */
+static void expect_answer(const furnacejade_answer *got, const furnacejade_answer *wanted, const char *field, size_t i, size_t j) {
+    expect(got->refusal, wanted->refusal, field, i, j);
+    expect(got->finished, wanted->finished, field, i, j);
+    expect_sums(got->sums, wanted->sums, field, i, j);
+    expect((uint8_t)(got->size == wanted->size), 1, field, i, j);
+    expect((uint8_t)(memcmp(got->names, wanted->names, sizeof wanted->names) == 0), 1, field, i, j);
+}
+
 /* The answer has this pair, and after it every field of that answer. */
 static void expect_served(furnacejade_dispatch_answer got, size_t receiver, size_t owner, const furnacejade_answer *wanted, const char *field, size_t i, size_t j) {
     expect((uint8_t)(got.pair.receiver == receiver), 1, field, i, j);
     expect((uint8_t)(got.pair.owner == owner), 1, field, i, j);
-    expect(got.answer.refusal, wanted->refusal, field, i, j);
-    expect(got.answer.finished, wanted->finished, field, i, j);
-    expect_sums(got.answer.sums, wanted->sums, field, i, j);
-    expect((uint8_t)(got.answer.size == wanted->size), 1, field, i, j);
-    expect((uint8_t)(memcmp(got.answer.names, wanted->names, sizeof wanted->names) == 0), 1, field, i, j);
+    expect_answer(&got.answer, wanted, field, i, j);
 }
 
 /* The dispatcher makes no handover, answers this number and zeros, and changes neither table nor scratch, of which it is lent this
@@ -743,6 +749,177 @@ static void dispatched_sync(void) {
     expect_unserved(&fresh.table, 1, 1, 0, FURNACEJADE_ACCEPTED, "none after the sync", 0);
 }
 
+/* An ask and a commit, lent this scratch, with an answer that was dirty before. */
+static furnacejade_ask_answer ask(const furnacejade_table *table, size_t receiver, size_t owner, uint8_t *area, size_t length) {
+    furnacejade_ask_answer shown;
+    memset(&shown, 0xA5, sizeof shown);
+    furnacejade_ask(table, receiver, owner, area, length, &shown);
+    return shown;
+}
+static furnacejade_answer commit(furnacejade_table *table, size_t receiver, size_t owner, size_t acts, uint8_t *area, size_t length) {
+    furnacejade_answer answer;
+    memset(&answer, 0xA5, sizeof answer);
+    furnacejade_commit(table, receiver, owner, acts, area, length, &answer);
+    return answer;
+}
+
+/* The ask has this number, this count and this set, and nothing else. */
+static void expect_shown(furnacejade_ask_answer got, uint8_t refusal, size_t acts, const furnacejade_answer *set, const char *field, size_t i, size_t j) {
+    expect(got.refusal, refusal, field, i, j);
+    expect((uint8_t)(got.acts == acts), 1, field, i, j);
+    expect((uint8_t)(got.size == set->size), 1, field, i, j);
+    expect((uint8_t)(memcmp(got.names, set->names, sizeof set->names) == 0), 1, field, i, j);
+}
+
+/* The ask, lent this much scratch, is refused by this number with all else zero. It changes nothing. */
+static void expect_not_shown(const furnacejade_table *table, size_t receiver, size_t owner, size_t length, uint8_t refusal, const char *field, size_t i) {
+    static const furnacejade_answer zero;
+    furnacejade_table before = *table;
+    memset(scratch, 0xA5, sizeof scratch);
+    expect_shown(ask(table, receiver, owner, scratch, length), refusal, 0, &zero, field, i, length);
+    expect((uint8_t)(memcmp(table, &before, sizeof before) == 0), 1, field, i, length);
+    for (size_t k = 0; k < sizeof scratch; k++) expect(scratch[k], 0xA5, field, i, k);
+}
+
+/* So is the commit with this count. */
+static void expect_not_taken(furnacejade_table *table, size_t receiver, size_t owner, size_t acts, size_t length, uint8_t refusal, const char *field, size_t i) {
+    static furnacejade_answer zero;
+    furnacejade_table before = *table;
+    memset(scratch, 0xA5, sizeof scratch);
+    zero.refusal = refusal;
+    furnacejade_answer answer = commit(table, receiver, owner, acts, scratch, length);
+    expect_answer(&answer, &zero, field, i, length);
+    expect((uint8_t)(memcmp(table, &before, sizeof before) == 0), 1, field, i, length);
+    for (size_t k = 0; k < sizeof scratch; k++) expect(scratch[k], 0xA5, field, i, k);
+}
+
+/* This is the receiver's act count. The ask shows it and the set of the handover, and changes no table. The commit with it answers
+ * and leaves what the handover does, and so does the scratch of both. With every other count question 21 refuses the commit. */
+static void expect_taken(const furnacejade_table *table, size_t receiver, size_t owner, size_t acts, const char *field) {
+    static uint8_t areas[3][FURNACEJADE_SCRATCH + 1];
+    const size_t others[] = {acts + 1, acts - 1, acts + 256, acts + 65536, acts + ((size_t)1 << 32), acts + ((size_t)1 << 63), SIZE_MAX};
+    furnacejade_table asked = *table, committed = *table, played = *table;
+    furnacejade_answer answer;
+    memset(areas, 0xA5, sizeof areas);
+    memset(&answer, 0xA5, sizeof answer);
+    furnacejade_play(&played, furnacejade_record_handover(receiver, owner), areas[0], sizeof areas[0], &answer);
+    expect(answer.refusal, 0, field, receiver, owner);
+    expect_shown(ask(&asked, receiver, owner, areas[1], sizeof areas[1]), 0, acts, &answer, field, receiver, owner);
+    expect((uint8_t)(memcmp(&asked, table, sizeof asked) == 0), 1, field, receiver, owner);
+    furnacejade_answer taken = commit(&committed, receiver, owner, acts, areas[2], sizeof areas[2]);
+    expect_answer(&taken, &answer, field, receiver, owner);
+    expect((uint8_t)(memcmp(&committed, &played, sizeof played) == 0), 1, field, receiver, owner);
+    for (size_t k = 1; k < 3; k++) expect((uint8_t)(memcmp(areas[0], areas[k], sizeof areas[0]) == 0), 1, field, receiver, owner);
+    for (size_t i = 0; i < sizeof others / sizeof others[0]; i++)
+        expect_not_taken(&asked, receiver, owner, others[i], i % 2 ? sizeof scratch : 0, FURNACEJADE_REFUSED_ACT_COUNT, field, i);
+    expect_not_shown(&asked, receiver, owner, FURNACEJADE_SCRATCH - 1, FURNACEJADE_REFUSED_SCRATCH, field, 0);
+    expect_not_taken(&asked, receiver, owner, acts, FURNACEJADE_SCRATCH - 1, FURNACEJADE_REFUSED_SCRATCH, field, 0);
+}
+
+/* Every read position of the receiver and the sender of every message are counted where they stand, and what stands above n or
+ * after the last message is not. */
+static void acts(void) {
+    enum { N = FURNACEJADE_CONTROLLERS };
+    const furnacejade_table pending = full(0);
+    for (size_t s = 0; s < FURNACEJADE_MESSAGES; s++) {
+        size_t sender = 2 + s % (N - 1);
+        furnacejade_table t = pending;
+        t.messages[s].sender = (uint8_t)sender;
+        expect_taken(&t, sender, 1, 1, "messages.sender");
+        expect_taken(&t, 1, sender, FURNACEJADE_MESSAGES - 1, "messages.sender");
+    }
+    for (size_t r = 1; r <= N; r++)
+        for (size_t o = 1; o <= N; o++) {
+            size_t sent = r == 1 ? FURNACEJADE_MESSAGES : 0, other = o % N + 1;
+            furnacejade_table t = pending;
+            t.controllers[r - 1].read[o - 1] = 1 + o;
+            expect_taken(&t, r, o, sent + 1 + o, "controllers.read");
+            t.controllers[r - 1].read[o - 1] = FURNACEJADE_MESSAGES;
+            expect_taken(&t, r, other, sent + FURNACEJADE_MESSAGES, "controllers.read");
+            expect_taken(&t, r % N + 1, o, r == N ? FURNACEJADE_MESSAGES : 0, "read positions of another controller");
+            expect_not_shown(&t, r, o, sizeof scratch, FURNACEJADE_REFUSED_NO_ENTRY, "ask without an entry", o);
+            expect_not_taken(&t, r, o, sent + FURNACEJADE_MESSAGES, 0, FURNACEJADE_REFUSED_NO_ENTRY, "commit without an entry", o);
+            expect_not_taken(&t, r, o, sent, 0, FURNACEJADE_REFUSED_ACT_COUNT, "21 before 13", o);
+        }
+    static furnacejade_fresh_answer fresh;
+    furnacejade_answer answer;
+    furnacejade_fresh(1, 2, &fresh);
+    expect(play(&fresh.table, furnacejade_record_report(1, 5), &answer), 0, "report before an ask", 0, 0);
+    for (size_t c = 0; c < 2; c++)
+        for (size_t above = 2; above < N; above++) fresh.table.controllers[c].read[above] = SIZE_MAX;
+    memset(fresh.table.messages + 1, 1, sizeof fresh.table.messages - sizeof fresh.table.messages[0]);
+    memset(fresh.table.controllers + 2, 0xA5, sizeof fresh.table.controllers - 2 * sizeof fresh.table.controllers[0]);
+    expect_taken(&fresh.table, 1, 1, 1, "acts above n");
+    expect_taken(&fresh.table, 2, 1, 0, "acts above n");
+}
+
+/* What is asked and what is committed of seven controllers that have sent a report each: every pair, in every place a number that
+ * is no controller, and a controller that stops. A stop that cuts the owner's entry away leaves the receiver's count as it was. */
+static void commits(void) {
+    enum { N = FURNACEJADE_CONTROLLERS };
+    static const size_t strangers[] = {0, N + 1, 255, 256, 257, SIZE_MAX};
+    furnacejade_answer answer;
+    start(1);
+    for (size_t r = 1; r <= N; r++)
+        for (size_t o = 1; o <= N; o++) {
+            furnacejade_table t = good;
+            expect_taken(&t, r, o, 1, "every pair");
+            /* two asks answer one count, and of two commits with it the second is refused */
+            expect(commit(&t, r, o % N + 1, 1, scratch, sizeof scratch).refusal, 0, "first commit", r, o);
+            expect_not_taken(&t, r, o, 1, sizeof scratch, FURNACEJADE_REFUSED_ACT_COUNT, "second commit", o);
+            for (size_t kept = 0; kept <= 1; kept++) {
+                t = good;
+                expect(play(&t, furnacejade_record_stop(o, kept), &answer), 0, "stop before a commit", o, kept);
+                if (r == o) {
+                    expect_not_shown(&t, r, o, 0, FURNACEJADE_REFUSED_STOPPED, "ask of a stopped receiver", r);
+                    for (size_t count = 0; count < 4; count++)
+                        expect_not_taken(&t, r, o, count, 0, FURNACEJADE_REFUSED_STOPPED, "10 before 21", count);
+                } else if (kept == 1) {
+                    expect_taken(&t, r, o, 1, "an entry that was kept");
+                } else {
+                    expect_not_shown(&t, r, o, 0, FURNACEJADE_REFUSED_NO_ENTRY, "an entry that was cut away", r);
+                    expect_not_taken(&t, r, o, 1, 0, FURNACEJADE_REFUSED_NO_ENTRY, "an entry that was cut away", r);
+                    expect_not_taken(&t, r, o, 2, 0, FURNACEJADE_REFUSED_ACT_COUNT, "21 before 13", r);
+                }
+            }
+        }
+    furnacejade_table broken = good;
+    broken.version = 3;
+    for (size_t i = 0; i < sizeof strangers / sizeof strangers[0]; i++)
+        for (size_t count = 0; count < 3; count++) {
+            expect_not_shown(&good, strangers[i], 1, 0, FURNACEJADE_REFUSED_CONTROLLER, "ask of receiver", i);
+            expect_not_shown(&good, 1, strangers[i], sizeof scratch, FURNACEJADE_REFUSED_CONTROLLER, "ask of owner", i);
+            expect_not_taken(&good, strangers[i], 1, count, 0, FURNACEJADE_REFUSED_CONTROLLER, "commit of receiver", i);
+            expect_not_taken(&good, 1, strangers[i], count, sizeof scratch, FURNACEJADE_REFUSED_CONTROLLER, "commit of owner", i);
+            expect_not_shown(&broken, strangers[i], 1, 0, FURNACEJADE_REFUSED_TABLE, "ask in a table of version 3", i);
+            expect_not_taken(&broken, 1, strangers[i], count, 0, FURNACEJADE_REFUSED_TABLE, "commit in a table of version 3", i);
+        }
+}
+
+/* The sync of the only controller, which a commit finishes. Local reads, looks and counts are no acts. */
+static void committed_sync(void) {
+    static furnacejade_fresh_answer fresh;
+    furnacejade_answer answer;
+    furnacejade_fresh(1, 1, &fresh);
+    play(&fresh.table, furnacejade_record_report(1, 30), &answer);
+    play(&fresh.table, furnacejade_record_report(1, -7), &answer);
+    for (size_t i = 0; i < 2; i++) {
+        expect_taken(&fresh.table, 1, 1, 2 + i, "committed report");
+        expect(commit(&fresh.table, 1, 1, 2 + i, scratch, sizeof scratch).finished, 0, "committed report", i, 0);
+    }
+    expect(play(&fresh.table, furnacejade_record_local_read(1), &answer), 0, "local read before an ask", 0, 0);
+    expect(look(&fresh.table, 1), 0, "look before an ask", 0, 0);
+    expect(count(&fresh.table, 1, (furnacejade_name){1, {1}}, (furnacejade_name){1, {2}}).refusal, 0, "count before an ask", 0, 0);
+    expect(play(&fresh.table, furnacejade_record_sync(1), &answer), 0, "sync before an ask", 0, 0);
+    expect_taken(&fresh.table, 1, 1, 5, "committed sync");
+    answer = commit(&fresh.table, 1, 1, 5, scratch, sizeof scratch);
+    expect(answer.finished, 1, "committed sync's finished", 0, 0);
+    expect_sums(answer.sums, reported, "committed sync's sums", 0, 0);
+    expect((uint8_t)answer.size, 1, "committed sync's size", 0, 0);
+    expect(answer.names[0].number.value, 3, "committed sync's name", 0, 0);
+    expect_not_shown(&fresh.table, 1, 1, 0, FURNACEJADE_REFUSED_NO_ENTRY, "ask after the sync", 0);
+}
+
 static void random_tables(void) {
     uint64_t state = 1;
     for (int i = 0; i < 20000; i++) {
@@ -759,6 +936,8 @@ static void random_tables(void) {
         expect(look(&t, bytes[0]), 4, "random table", (size_t)i, 1);
         expect_count(count(&t, bytes[0], (furnacejade_name){bytes[1], {bytes[2]}}, (furnacejade_name){1, {1}}), 4, 0, "random table", (size_t)i, 2);
         expect(dispatch(&t, bytes[0], bytes[1], scratch, sizeof scratch).answer.refusal, 4, "random table", (size_t)i, 3);
+        expect(ask(&t, bytes[0], bytes[1], scratch, sizeof scratch).refusal, 4, "random table", (size_t)i, 4);
+        expect(commit(&t, bytes[0], bytes[1], bytes[2], scratch, sizeof scratch).refusal, 4, "random table", (size_t)i, 5);
         tests++;
         if (memcmp(&t, &before, sizeof t) != 0) {
             printf("a refused call changed a random table\n");
@@ -791,6 +970,9 @@ int main(void) {
     registers();
     dispatches();
     dispatched_sync();
+    acts();
+    commits();
+    committed_sync();
     random_tables();
     printf("%u fields and tables as expected\n", tests);
     return EXIT_SUCCESS;

@@ -29,8 +29,8 @@
  * with one FURNACEJADE_INTERFACE. Answers and records are not to be compared by bytes. Answers have padding, which a call may
  * leave as anything, old bytes of the stack among them: furnacejade_answer at bytes 2, 3 and 12 to 15,
  * furnacejade_dispatch_answer, which holds one from byte 16 on, at 18, 19 and 28 to 31, furnacejade_look_answer at 1 to 3,
- * furnacejade_fresh_answer, furnacejade_run_answer and furnacejade_count_answer at 1 to 7. Compare, save and send answers field
- * by field. */
+ * furnacejade_ask_answer, furnacejade_fresh_answer, furnacejade_run_answer and furnacejade_count_answer at 1 to 7. Compare, save
+ * and send answers field by field. */
 #ifndef FURNACEJADE_H
 #define FURNACEJADE_H
 
@@ -45,12 +45,12 @@ extern "C" {
 #endif
 
 enum {
-    FURNACEJADE_INTERFACE = 2,      /* the state of this header; furnacejade_interface() answers that of the library */
+    FURNACEJADE_INTERFACE = 3,      /* the state of this header; furnacejade_interface() answers that of the library */
     FURNACEJADE_CONTROLLERS = 7,    /* the most controllers that a run can have */
     FURNACEJADE_MESSAGES = 64,      /* the most messages that a run can have */
     FURNACEJADE_CLASSES = 5,        /* the classes of which a panel shows sums, FURNACEJADE_CLASS_NONE among them */
     FURNACEJADE_REGISTERS = 8,      /* the registers that a panel shows */
-    FURNACEJADE_SCRATCH = 4096,     /* the bytes of scratch that an event or a dispatched handover asks for */
+    FURNACEJADE_SCRATCH = 4096,     /* the bytes of scratch that an event, a dispatched handover, an ask or a commit needs */
     FURNACEJADE_LISTING = 16384,    /* more bytes of listing than any run file fills */
     FURNACEJADE_HEAD = 2,           /* the bytes that a run file begins with: its version and the number of controllers */
     FURNACEJADE_LONGEST_RECORD = 8, /* the bytes of the longest record, a write */
@@ -90,7 +90,8 @@ enum {
     X(17, CLASS, "Is the class of a report of version 2 from 1 to 4?")                            \
     X(18, READ_PENDING, "Has the controller of a local read no message of its own pending?")      \
     X(19, REGISTER, "Is the register of a write from 1 to 8?")                                    \
-    X(20, NOT_SYNCED, "Is the latest message of a write's sender a sync that it has applied?")
+    X(20, NOT_SYNCED, "Is the latest message of a write's sender a sync that it has applied?")    \
+    X(21, ACT_COUNT, "Is the act count of a commit its receiver's?")
 
 enum {
     FURNACEJADE_ACCEPTED = 0,
@@ -197,7 +198,7 @@ typedef struct {
     furnacejade_register registers[FURNACEJADE_REGISTERS]; /* register r at r - 1 */
 } furnacejade_panel;
 
-/* What furnacejade_event answers, and furnacejade_dispatch of the handover that it made. */
+/* What furnacejade_event answers, and what furnacejade_dispatch and furnacejade_commit answer of the handover that they made. */
 typedef struct {
     uint8_t refusal;                              /* the refusal number, 0 if accepted */
     uint8_t finished;                             /* 1 if a sync of the receiver's own is in the set applied, else 0 */
@@ -219,6 +220,14 @@ typedef struct {
     furnacejade_pair pair;     /* the handover that was made, which the next call names; 0 and 0 if none was */
     furnacejade_answer answer; /* what furnacejade_event answers of that handover */
 } furnacejade_dispatch_answer;
+
+/* What furnacejade_ask answers. Where it is refused every field but refusal is 0. */
+typedef struct {
+    uint8_t refusal;                              /* the refusal number, 0 if accepted */
+    size_t acts;                                  /* the receiver's act count, which furnacejade_commit is given */
+    size_t size;                                  /* how many messages the set has that the handover would apply */
+    furnacejade_name names[FURNACEJADE_MESSAGES]; /* their names, by sender and then number; zeros after them */
+} furnacejade_ask_answer;
 
 /* What furnacejade_fresh answers. */
 typedef struct {
@@ -310,6 +319,11 @@ FURNACEJADE_AT(furnacejade_pair, owner, 8);
 FURNACEJADE_BYTES(furnacejade_dispatch_answer, 168);
 FURNACEJADE_AT(furnacejade_dispatch_answer, pair, 0);
 FURNACEJADE_AT(furnacejade_dispatch_answer, answer, 16);
+FURNACEJADE_BYTES(furnacejade_ask_answer, 152);
+FURNACEJADE_AT(furnacejade_ask_answer, refusal, 0);
+FURNACEJADE_AT(furnacejade_ask_answer, acts, 8);
+FURNACEJADE_AT(furnacejade_ask_answer, size, 16);
+FURNACEJADE_AT(furnacejade_ask_answer, names, 24);
 FURNACEJADE_BYTES(furnacejade_fresh_answer, 6040);
 FURNACEJADE_AT(furnacejade_fresh_answer, refusal, 0);
 FURNACEJADE_AT(furnacejade_fresh_answer, table, 8);
@@ -617,6 +631,30 @@ static inline unsigned furnacejade_play(furnacejade_table *t, furnacejade_record
  *     if (next.answer.refusal != FURNACEJADE_ACCEPTED) return EXIT_FAILURE;
  */
 void furnacejade_dispatch(furnacejade_table *t, size_t receiver, size_t owner, uint8_t *scratch, size_t scratch_length, furnacejade_dispatch_answer *answer);
+
+/* An ask: the set that the handover to a receiver from the log of an owner would apply, without that handover, and the
+ * receiver's act count. The act count is how often the receiver has acted in the run: how many messages it has sent, those that
+ * were cut off among them, and how many handovers it was the receiver of. Local reads, looks, counts and asks are no acts.
+ * Questions 4, 8, 10, 13 and 15 are put, 8 to receiver and owner. The table stays as it is. An accepted ask leaves scratch as an
+ * event does, a refused one as it was. Takes 22 KB of stack. */
+void furnacejade_ask(const furnacejade_table *t, size_t receiver, size_t owner, uint8_t *scratch, size_t scratch_length, furnacejade_ask_answer *answer);
+
+/* A commit: the handover to a receiver from the log of an owner, made only if the receiver has acted as often as acts says.
+ * It is given what an ask of the same receiver and owner answered as acts. Questions 4, 8, 10, 21, 13 and 15 are put, in this
+ * order, 8 to receiver and owner; 21 is no if acts is not the receiver's act count. An accepted commit answers and leaves, table
+ * and scratch, what the handover's record does. A refused one leaves both as they were. Takes 23 KB of stack.
+ *
+ * The set applied is the one that the ask showed, whatever other controllers did in between. As long as the receiver has not
+ * acted since the ask, the commit is accepted, unless a stop of the owner has cut the entry away, and then 13 refuses it.
+ *
+ *     furnacejade_ask_answer shown;
+ *     furnacejade_ask(table, 2, 1, scratch, sizeof scratch, &shown);
+ *     if (shown.refusal != FURNACEJADE_ACCEPTED) return EXIT_FAILURE;
+ *     printf("panel 2 would apply %zu messages\n", shown.size);
+ *     furnacejade_commit(table, 2, 1, shown.acts, scratch, sizeof scratch, &answer);
+ *     if (answer.refusal == FURNACEJADE_REFUSED_ACT_COUNT) printf("2 has acted since: ask again\n");
+ */
+void furnacejade_commit(furnacejade_table *t, size_t receiver, size_t owner, size_t acts, uint8_t *scratch, size_t scratch_length, furnacejade_answer *answer);
 
 /* A panel look at controller c, 1 to n, running or stopped. Questions 4 and 8 are put. Nothing but the answer is written.
  * Takes 16 KB of stack.

@@ -2,7 +2,7 @@
 //! place that the caller lends. What a call answers and leaves is proved in `crates/engine`. This file is the boundary,
 //! which nothing proves: it only passes arguments on.
 
-use crate::{Answer, CountAnswer, DispatchAnswer, FreshAnswer, LookAnswer, Name, Pair, RunAnswer, Table};
+use crate::{Answer, AskAnswer, CountAnswer, DispatchAnswer, FreshAnswer, LookAnswer, Name, Pair, RunAnswer, Table};
 
 extern "C" {
     fn furnacejade_interface() -> usize;
@@ -21,6 +21,23 @@ extern "C" {
         scratch: *mut u8,
         scratch_length: usize,
         answer: *mut DispatchAnswer,
+    );
+    fn furnacejade_ask(
+        t: *const Table,
+        receiver: usize,
+        owner: usize,
+        scratch: *mut u8,
+        scratch_length: usize,
+        answer: *mut AskAnswer,
+    );
+    fn furnacejade_commit(
+        t: *mut Table,
+        receiver: usize,
+        owner: usize,
+        acts: usize,
+        scratch: *mut u8,
+        scratch_length: usize,
+        answer: *mut Answer,
     );
     fn furnacejade_look(t: *const Table, c: usize, answer: *mut LookAnswer);
     fn furnacejade_count_before(
@@ -66,6 +83,21 @@ pub fn dispatch(table: &mut Table, after: Pair, scratch: &mut [u8], answer: &mut
     // SAFETY: all pointers come from references; table, scratch and answer are borrowed to be written, so nothing
     // overlaps.
     unsafe { furnacejade_dispatch(table, after.receiver, after.owner, area, length, answer) }
+}
+
+/// An ask: what the handover of a pair would apply, and its receiver's act count.
+pub fn ask(table: &Table, pair: Pair, scratch: &mut [u8], answer: &mut AskAnswer) {
+    let (area, length) = (scratch.as_mut_ptr(), scratch.len());
+    // SAFETY: all pointers come from references; scratch and answer are borrowed to be written, so nothing overlaps them.
+    unsafe { furnacejade_ask(table, pair.receiver, pair.owner, area, length, answer) }
+}
+
+/// A commit: the handover of a pair, if this is its receiver's act count.
+pub fn commit(table: &mut Table, pair: Pair, acts: usize, scratch: &mut [u8], answer: &mut Answer) {
+    let (area, length) = (scratch.as_mut_ptr(), scratch.len());
+    // SAFETY: all pointers come from references; table, scratch and answer are borrowed to be written, so nothing
+    // overlaps.
+    unsafe { furnacejade_commit(table, pair.receiver, pair.owner, acts, area, length, answer) }
 }
 
 /// A panel look at a controller, 1 to n.

@@ -8,7 +8,7 @@ use core::str::FromStr;
 
 /// The interface that this package was written for. It goes up whenever a struct, a constant, a refusal or a call
 /// changes. [`interface`](crate::interface) says which one the library was built with.
-pub const INTERFACE: usize = 2;
+pub const INTERFACE: usize = 3;
 
 /// The greatest number of controllers of a run.
 pub const CONTROLLERS: usize = 7;
@@ -22,7 +22,7 @@ pub const CLASSES: usize = 5;
 /// The number of registers that a panel shows.
 pub const REGISTERS: usize = 8;
 
-/// The bytes of scratch that an event, or a handover of the dispatcher, asks for.
+/// The bytes of scratch that an event, a handover of the dispatcher, an ask or a commit needs.
 pub const SCRATCH: usize = 4096;
 
 /// The bytes of a listing in which the lines of every run file fit.
@@ -192,7 +192,7 @@ pub struct Panel {
     pub registers: [Register; REGISTERS],
 }
 
-/// What an event answers, and what the dispatcher answers of the handover that it made.
+/// What an event answers, and what the dispatcher and a commit answer of the handover that they made.
 #[repr(C)]
 #[derive(Clone, Debug, PartialEq, Eq, Hash)]
 pub struct Answer {
@@ -235,6 +235,20 @@ pub struct DispatchAnswer {
     pub pair: Pair,
     /// What an event answers of that handover. If none was made, all but the refusal is blank.
     pub answer: Answer,
+}
+
+/// What an ask answers.
+#[repr(C)]
+#[derive(Clone, Debug, PartialEq, Eq, Hash)]
+pub struct AskAnswer {
+    /// [`RefusalNumber::ACCEPTED`], or why the ask was refused.
+    pub refusal: RefusalNumber,
+    /// The receiver's act count, which a commit gives back; 0 if refused.
+    pub acts: usize,
+    /// How many messages the handover would apply as one set.
+    pub size: usize,
+    /// The names of the set, by sender and then number. Blank names follow.
+    pub names: [Name; MESSAGES],
 }
 
 /// What a request for a fresh table answers.
@@ -533,6 +547,19 @@ impl DispatchAnswer {
     }
 }
 
+impl AskAnswer {
+    /// Every field zero: a place for an answer.
+    pub const BLANK: AskAnswer =
+        AskAnswer { refusal: RefusalNumber::ACCEPTED, acts: 0, size: 0, names: [Name::BLANK; MESSAGES] };
+
+    /// The set that the handover would apply, by sender and then number. It is empty if nothing would be applied. (Of an
+    /// answer made by hand, at most the names that it has a place for.)
+    #[must_use]
+    pub fn set(&self) -> &[Name] {
+        &self.names[..self.size.min(MESSAGES)]
+    }
+}
+
 impl FreshAnswer {
     /// Every field zero: a place for an answer.
     pub const BLANK: FreshAnswer = FreshAnswer { refusal: RefusalNumber::ACCEPTED, table: Table::BLANK };
@@ -588,6 +615,7 @@ layout!(Panel, 112 bytes, 0 of padding: sums at 0, classes at 8, registers at 48
 layout!(Answer, 152 bytes, 6 of padding: refusal at 0, finished at 1, sums at 4, size at 16, names at 24);
 layout!(Pair, 16 bytes, 0 of padding: receiver at 0, owner at 8);
 layout!(DispatchAnswer, 168 bytes, 0 of padding: pair at 0, answer at 16);
+layout!(AskAnswer, 152 bytes, 7 of padding: refusal at 0, acts at 8, size at 16, names at 24);
 layout!(FreshAnswer, 6040 bytes, 7 of padding: refusal at 0, table at 8);
 layout!(LookAnswer, 116 bytes, 3 of padding: refusal at 0, panel at 4);
 layout!(CountAnswer, 16 bytes, 7 of padding: refusal at 0, count at 8);

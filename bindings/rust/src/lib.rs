@@ -249,17 +249,19 @@ pub mod calls;
 mod class;
 mod layout;
 mod machine;
+mod preview;
 mod queries;
 mod record;
 mod refusal;
 
 pub use class::{Class, ClassNumber, ParseClassError};
 pub use layout::{
-    Answer, Controller, CountAnswer, DispatchAnswer, ForwardNumber, FreshAnswer, LookAnswer, Message, MessageNumber,
-    Name, Pair, Panel, ParseNameError, Payload, Pending, Register, RunAnswer, Stamp, Sums, Table, CLASSES, CONTROLLERS,
-    INTERFACE, LISTING, MESSAGES, REGISTERS, SCRATCH,
+    Answer, AskAnswer, Controller, CountAnswer, DispatchAnswer, ForwardNumber, FreshAnswer, LookAnswer, Message,
+    MessageNumber, Name, Pair, Panel, ParseNameError, Payload, Pending, Register, RunAnswer, Stamp, Sums, Table,
+    CLASSES, CONTROLLERS, INTERFACE, LISTING, MESSAGES, REGISTERS, SCRATCH,
 };
 pub use machine::Machine;
+pub use preview::{Asked, Preview};
 pub use queries::State;
 pub use record::{head, records, Part, Record, RecordBytes, Records, LONGEST_RECORD};
 pub use refusal::{Refusal, RefusalNumber};
@@ -326,6 +328,45 @@ pub fn dispatch(table: &mut Table, after: Pair, scratch: &mut [u8]) -> Result<Op
     calls::dispatch(table, after, scratch, &mut answer);
     answer.answer.refusal.check()?;
     Ok(answer.served().map(|_| answer))
+}
+
+/// Shows the set that a handover would apply, without making it. The preview also has what [`commit`] is given to take
+/// this very set.
+///
+/// The table stays as it is. An accepted ask needs [`SCRATCH`] bytes of scratch, and leaves them zero. A refused one leaves
+/// scratch as it was.
+///
+/// # Errors
+///
+/// The first of these, in this order: [`Refusal::Table`], if the table is not well formed; [`Refusal::Controller`], unless
+/// both numbers of the pair are from 1 to n; [`Refusal::Stopped`], if the receiver has stopped; [`Refusal::NoEntry`], if
+/// it has read the owner's log to its end; [`Refusal::Scratch`].
+pub fn ask(table: &Table, pair: Pair, scratch: &mut [u8]) -> Result<Preview, Refusal> {
+    let mut answer = AskAnswer::BLANK;
+    calls::ask(table, pair, scratch, &mut answer);
+    answer.refusal.check()?;
+    Ok(Preview::new(pair, answer))
+}
+
+/// Makes a handover that was asked about, if its receiver has not acted since, and gives its answer. The set applied is
+/// the one that the ask showed, whatever other controllers did in between.
+///
+/// A controller acts when it sends a message, is the receiver of a handover or stops. Local reads, looks, counts, asks
+/// and refused calls are no acts. As long as the receiver has not acted, the commit is accepted, unless a stop of the
+/// owner has cut the entry away.
+///
+/// An accepted commit needs [`SCRATCH`] bytes of scratch, and leaves table and scratch as the handover's event does. A
+/// refused one leaves both as they were.
+///
+/// # Errors
+///
+/// Those of [`ask`], and after [`Refusal::Stopped`] also [`Refusal::ActCount`], if the receiver's act count is not the
+/// one given. [`Refusal::NoEntry`] says then that the entry was cut away.
+pub fn commit(table: &mut Table, asked: Asked, scratch: &mut [u8]) -> Result<Answer, Refusal> {
+    let mut answer = Answer::BLANK;
+    calls::commit(table, asked.pair, asked.acts, scratch, &mut answer);
+    answer.refusal.check()?;
+    Ok(answer)
 }
 
 /// What the panel of a controller shows, 1 to n, running or stopped: the sums of all classes together, the sums of each

@@ -1,7 +1,7 @@
 //! A machine that owns its table and its scratch.
 
-use crate::{count_before, dispatch, event, fresh, look};
-use crate::{Answer, DispatchAnswer, Name, Pair, Panel, Record, Refusal, Table, SCRATCH};
+use crate::{ask, commit, count_before, dispatch, event, fresh, look};
+use crate::{Answer, Asked, DispatchAnswer, Name, Pair, Panel, Preview, Record, Refusal, Table, SCRATCH};
 use core::fmt::{Debug, Formatter};
 use core::ops::RangeInclusive;
 
@@ -87,6 +87,27 @@ impl Machine {
             handovers += 1;
         }
         handovers
+    }
+
+    /// Shows the set that a handover would apply, without making it: [`ask`] of the machine's table. It takes scratch of
+    /// its own, 4 KB of stack.
+    ///
+    /// # Errors
+    ///
+    /// [`Refusal::Controller`], unless both numbers of the pair are from 1 to n, [`Refusal::Stopped`] and
+    /// [`Refusal::NoEntry`].
+    pub fn ask(&self, pair: Pair) -> Result<Preview, Refusal> {
+        ask(&self.table, pair, &mut [0; SCRATCH])
+    }
+
+    /// Makes a handover that was asked about, if its receiver has not acted since: [`commit`] in the machine's table. A
+    /// refused commit changes nothing.
+    ///
+    /// # Errors
+    ///
+    /// Those of [`ask`](Machine::ask), and [`Refusal::ActCount`].
+    pub fn commit(&mut self, asked: Asked) -> Result<Answer, Refusal> {
+        commit(&mut self.table, asked, &mut self.scratch)
     }
 
     /// What the panel of a controller shows: [`look`] at the machine's table.

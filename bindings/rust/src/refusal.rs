@@ -91,6 +91,7 @@ refusals! {
     (18, ReadPending, "Has the controller of a local read no message of its own pending?"),
     (19, Register, "Is the register of a write from 1 to 8?"),
     (20, NotSynced, "Is the latest message of a write's sender a sync that it has applied?"),
+    (21, ActCount, "Is the act count of a commit its receiver's?"),
 }
 
 impl Display for Refusal {
