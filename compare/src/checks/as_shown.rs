@@ -121,7 +121,9 @@ impl AsShown {
             (true, false) if number == 13 => self.tally.cut_away += 1,
             (true, _) => {
                 let r = pair.0;
-                return Err(format!("not taken: a commit of {pair:?} is refused by {number}, and {r} has not acted since"));
+                return Err(format!(
+                    "not taken: a commit of {pair:?} is refused by {number}, and {r} has not acted since"
+                ));
             }
             _ => {}
         }

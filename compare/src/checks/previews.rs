@@ -25,8 +25,8 @@ pub fn other_counts(acts: usize) -> Vec<usize> {
 fn by_record(engine: &dyn Engine, t: &Table, pair: Pair, scratch: usize) -> Option<(EventLeft, Table)> {
     let byte = |c: usize| u8::try_from(c).is_ok();
     let mut side = Side { engine, table: t.clone() };
-    let left = (byte(pair.receiver) && byte(pair.owner))
-        .then(|| side.event(&handover(pair.receiver, pair.owner), scratch))?;
+    let left =
+        (byte(pair.receiver) && byte(pair.owner)).then(|| side.event(&handover(pair.receiver, pair.owner), scratch))?;
     Some((left, side.table))
 }
 

@@ -4,9 +4,7 @@
 use super::demand3;
 use crate::engines::library::DIRTY_SUMS;
 use crate::engines::Engine;
-use furnacejade::{
-    Answer, AskAnswer, DispatchAnswer, MessageNumber, Name, Pair, RefusalNumber, Register, Sums, Table,
-};
+use furnacejade::{Answer, AskAnswer, DispatchAnswer, MessageNumber, Name, Pair, RefusalNumber, Register, Sums, Table};
 
 const GUARD: usize = 64;
 

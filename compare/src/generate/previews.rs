@@ -10,6 +10,7 @@ use super::tables::good_table;
 use crate::cases::records::{handover, local_read, report_in, stop, sync};
 use crate::cases::{Call, Case, Head};
 use crate::engines::pair;
+use crate::reference::calls::numbered;
 use crate::reference::{to_state, State, LISTING, SCRATCH};
 use furnacejade::{Pair, CONTROLLERS};
 
@@ -167,18 +168,28 @@ impl Previewing {
         }
     }
 
-    /// A pair that waits, in half of the choices one whose next entry nobody has read, so that a stop can cut it away.
+    /// Whether nobody has read the entry that is next for a pair, so that a stop of its owner can cut it away.
+    fn is_loose(&self, pair: Pair) -> bool {
+        let place = self.state.controllers[pair.receiver - 1].read[pair.owner - 1];
+        pair.receiver != pair.owner && highest_read(&self.state, pair.owner) <= place
+    }
+
+    fn applies(&self, pair: Pair) -> bool {
+        self.state.ask(numbered(pair), &mut [0; SCRATCH]).is_ok_and(|shown| !shown.set.is_empty())
+    }
+
+    /// A pair that waits, if there is one: often one whose next entry nobody has read, or one that would apply a set.
     fn pair(&self, random: &mut Random) -> Pair {
         let all = waiting(&self.state);
-        let loose = |pair: &&Pair| {
-            let place = self.state.controllers[pair.receiver - 1].read[pair.owner - 1];
-            pair.receiver != pair.owner && highest_read(&self.state, pair.owner) <= place
+        let some: Vec<Pair> = match random.below(3) {
+            0 => all.iter().filter(|pair| self.is_loose(**pair)).copied().collect(),
+            1 => all.iter().filter(|pair| self.applies(**pair)).copied().collect(),
+            _ => vec![],
         };
-        let loose: Vec<Pair> = all.iter().filter(loose).copied().collect();
-        match (loose.is_empty() || random.one_in(2), all.is_empty()) {
-            (_, true) => pair((random.between(1, self.state.n), random.between(1, self.state.n))),
-            (true, _) => random.pick(&all),
-            (false, _) => random.pick(&loose),
+        match (some.is_empty(), all.is_empty()) {
+            (false, _) => random.pick(&some),
+            (_, false) => random.pick(&all),
+            _ => pair((random.between(1, self.state.n), random.between(1, self.state.n))),
         }
     }
 

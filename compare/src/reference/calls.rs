@@ -55,8 +55,8 @@ fn put_names(set: &[reference::Name], names: &mut [Name]) {
 }
 
 /// The pair of these numbers, which may be any.
-pub fn numbered(pair: Pair) -> reference::Pair {
-    reference::Pair { receiver: pair.receiver, owner: pair.owner }
+pub fn numbered(Pair { receiver, owner }: Pair) -> reference::Pair {
+    reference::Pair { receiver, owner }
 }
 
 /// The dispatcher call: question 4 first. Where no handover is carried out, every byte of the table stays.

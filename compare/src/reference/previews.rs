@@ -15,7 +15,7 @@ impl State {
     /// its read positions in the logs of 1 to n add up to; and its stop.
     pub fn acts(&self, c: usize) -> usize {
         let own = &self.controllers[c - 1];
-        let sent = self.messages.iter().filter(|x| x.name.sender == c).count();
+        let sent = self.messages.iter().filter(|message| message.name.sender == c).count();
         let received: usize = own.read.iter().sum();
         sent + received + usize::from(!own.running)
     }
@@ -35,7 +35,7 @@ impl State {
         first_no(&[(10, receiver.running), (13, unread), (15, scratch.len() >= SCRATCH)])?;
         let set = self.clone().handover(pair.receiver, pair.owner);
         clear(scratch);
-        Ok(Preview { set: set.into_iter().collect(), acts: self.acts(pair.receiver) })
+        Ok(Preview { set: Vec::from_iter(set), acts: self.acts(pair.receiver) })
     }
 
     /// A commit on a table that is known to be well formed: exactly the handover, if the count is its receiver's.
