@@ -127,7 +127,11 @@ fn dispatch_in(named: &[i64], answer: &str) -> Said {
 
 /// The number of a refused call; 0 of one that was accepted.
 fn number_in(answer: &str) -> u8 {
-    answer.contains("refused").then(|| numbers(answer)[0] as u8).unwrap_or(0)
+    if answer.contains("refused") {
+        numbers(answer)[0] as u8
+    } else {
+        0
+    }
 }
 
 fn ask_in(asked: &[i64], answer: &str) -> Said {
