@@ -37,8 +37,8 @@ pub struct Tally {
     /// Commits of what was shown that found the entry cut away, and those before which the receiver had acted.
     pub cut_away: usize,
     pub acted: usize,
-    /// Handovers of what was shown that were made otherwise.
-    pub otherwise: usize,
+    /// Handovers of what was shown before which the receiver had not acted, by any call.
+    pub handed: usize,
 }
 
 impl Tally {
@@ -50,7 +50,7 @@ impl Tally {
         self.others_acted += other.others_acted;
         self.cut_away += other.cut_away;
         self.acted += other.acted;
-        self.otherwise += other.otherwise;
+        self.handed += other.handed;
     }
 }
 
@@ -135,7 +135,7 @@ impl AsShown {
     pub fn handover(&mut self, pair: Pair, set: &[Name]) -> Result<(), String> {
         let acts = self.acts(pair.0);
         let mut since = self.shown.get(&pair).into_iter().flatten().filter(|shown| shown.acts == acts).peekable();
-        self.tally.otherwise += since.peek().is_some() as usize;
+        self.tally.handed += since.peek().is_some() as usize;
         match since.find(|shown| shown.set != set) {
             Some(Shown { set: shown, .. }) => {
                 Err(format!("not as shown: a handover of {pair:?} applies {set:?}, and {shown:?} was shown"))

@@ -67,6 +67,35 @@ fn waiting(state: &State) -> Vec<Pair> {
     pairs.filter(waits).collect()
 }
 
+/// What stands between an ask and its commit: events of others, calls of the receiver that are no acts, or both; an act of
+/// the receiver; a stop of the owner that cuts away all that it can, or less; a stop of the receiver.
+#[derive(Clone, Copy)]
+enum Between {
+    Nothing,
+    Others,
+    NoActs,
+    Both,
+    Act,
+    Cut,
+    StopOfOwner,
+    StopOfReceiver,
+}
+
+const BETWEEN: [Between; 12] = [
+    Between::Nothing,
+    Between::Others,
+    Between::Others,
+    Between::NoActs,
+    Between::NoActs,
+    Between::Both,
+    Between::Act,
+    Between::Act,
+    Between::Cut,
+    Between::Cut,
+    Between::StopOfOwner,
+    Between::StopOfReceiver,
+];
+
 /// A list that is made call by call, with the state that it leaves.
 struct Previewing {
     state: State,
@@ -147,21 +176,21 @@ impl Previewing {
     }
 
     /// What stands between an ask of a pair and its commit.
-    fn between(&mut self, random: &mut Random, pair: Pair) {
+    fn between(&mut self, random: &mut Random, pair: Pair, what: Between) {
         let events = random.pick(&[1, 3, 10]);
-        match random.below(12) {
-            0 => {}
-            1 | 2 => self.others(random, pair.receiver, events),
-            3 | 4 => self.no_acts(random, pair),
-            5 => {
+        match what {
+            Between::Nothing => {}
+            Between::Others => self.others(random, pair.receiver, events),
+            Between::NoActs => self.no_acts(random, pair),
+            Between::Both => {
                 self.others(random, pair.receiver, events);
                 self.no_acts(random, pair);
                 self.others(random, pair.receiver, events);
             }
-            6 | 7 => self.act(random, pair.receiver),
-            8 | 9 => self.stop_owner(random, pair, true),
-            10 => self.stop_owner(random, pair, false),
-            _ => {
+            Between::Act => self.act(random, pair.receiver),
+            Between::Cut => self.stop_owner(random, pair, true),
+            Between::StopOfOwner => self.stop_owner(random, pair, false),
+            Between::StopOfReceiver => {
                 let kept = highest_read(&self.state, pair.receiver);
                 self.event(stop(pair.receiver, kept));
             }
@@ -178,13 +207,14 @@ impl Previewing {
         self.state.ask(numbered(pair), &mut [0; SCRATCH]).is_ok_and(|shown| !shown.set.is_empty())
     }
 
-    /// A pair that waits, if there is one: often one whose next entry nobody has read, or one that would apply a set.
-    fn pair(&self, random: &mut Random) -> Pair {
+    /// A pair that waits, if there is one: one whose next entry nobody has read, if there is one and it is to be cut away;
+    /// and else often one that would apply a set.
+    fn pair(&self, random: &mut Random, cut: bool) -> Pair {
         let all = waiting(&self.state);
-        let some: Vec<Pair> = match random.below(3) {
-            0 => all.iter().filter(|pair| self.is_loose(**pair)).copied().collect(),
-            1 => all.iter().filter(|pair| self.applies(**pair)).copied().collect(),
-            _ => vec![],
+        let some: Vec<Pair> = match cut {
+            true => all.iter().filter(|pair| self.is_loose(**pair)).copied().collect(),
+            false if random.one_in(2) => all.iter().filter(|pair| self.applies(**pair)).copied().collect(),
+            false => vec![],
         };
         match (some.is_empty(), all.is_empty()) {
             (false, _) => random.pick(&some),
@@ -195,9 +225,10 @@ impl Previewing {
 
     /// Looks at a set and takes it, or is refused: an ask, something in between, a commit, and often one more.
     fn look_and_take(&mut self, random: &mut Random) {
-        let pair = self.pair(random);
+        let what = random.pick(&BETWEEN);
+        let pair = self.pair(random, matches!(what, Between::Cut));
         let shown = self.ask(pair, any_scratch(random));
-        self.between(random, pair);
+        self.between(random, pair, what);
         let (acts, scratch) = (any_acts(random, shown), any_scratch(random));
         self.commit(pair, acts, scratch);
         match random.below(4) {
@@ -215,7 +246,7 @@ impl Previewing {
     fn several(&mut self, random: &mut Random) {
         let asked: Vec<(Pair, usize)> = (0..random.between(2, 5))
             .map(|_| {
-                let pair = self.pair(random);
+                let pair = self.pair(random, false);
                 (pair, self.ask(pair, SCRATCH))
             })
             .collect();

@@ -326,10 +326,10 @@ impl Counts {
             "asks by number {asks:?}; with a set {sets}, the greatest of {most}, of a stopped owner {stopped_owner}"
         );
         println!("commits by number {commits:?}; with a set {taken_sets}, that finish a sync {syncs}");
-        let as_shown::Tally { asks, sets, taken, taken_sets, others_acted, cut_away, acted, otherwise } = self.as_shown;
+        let as_shown::Tally { asks, sets, taken, taken_sets, others_acted, cut_away, acted, handed } = self.as_shown;
         println!("in lists: asks accepted {asks}, with a set {sets}; commits of what was shown {taken}, with a set {taken_sets}");
         println!("of these after acts of others {others_acted}; refused because the entry was cut away {cut_away}");
-        println!("refused where the receiver had acted {acted}; handovers of what was shown, by any call {otherwise}");
+        println!("refused where the receiver had acted {acted}; handovers of what was shown, by any call {handed}");
     }
 }
 
