@@ -9,7 +9,9 @@ use crate::generate::random::Random;
 use crate::generate::runs::{drain, follow, follow_dispatch, legal_run, Policy};
 use crate::generate::tables::chain_place;
 use crate::reference::{run_file, to_table, State, LISTING, MAX_MESSAGES, SCRATCH};
-use furnacejade::{Answer, DispatchAnswer, ForwardNumber, Message, MessageNumber, Name, Pair, Payload, Table};
+use furnacejade::{
+    Answer, AskAnswer, DispatchAnswer, ForwardNumber, Message, MessageNumber, Name, Pair, Payload, Table,
+};
 
 /// The last two messages of a table, or names of none.
 pub fn last_two(table: &Table) -> [Name; 2] {
@@ -149,6 +151,14 @@ pub fn waiting_table(read: &Table) -> (Table, Pair) {
     Reference.dispatch(&mut after, pair, &mut [0; SCRATCH], &mut answer);
     assert_eq!((answer.pair, after), (pair, read.clone()), "the table is as described");
     (t, pair)
+}
+
+/// The act count of the receiver of a pair that waits.
+pub fn act_count(table: &Table, pair: Pair) -> usize {
+    let mut answer = AskAnswer::BLANK;
+    Reference.ask(&mut table.clone(), pair, &mut [0; SCRATCH], &mut answer);
+    assert_eq!(answer.refusal.0, 0, "the pair waits");
+    answer.acts
 }
 
 /// Seven controllers, of which the first has sent 64 reports, and nothing is handed over; and the handovers by which

@@ -10,7 +10,9 @@ use crate::edges::long_runs::{by_log, in_a_circle, under_way_run};
 use crate::engines::pair;
 use crate::engines::stack::needed;
 use crate::reference::{to_table, State, LISTING, MAX_MESSAGES, SCRATCH};
-use furnacejade::{calls, Answer, CountAnswer, DispatchAnswer, FreshAnswer, LookAnswer, Name, RunAnswer, Table};
+use furnacejade::{
+    calls, Answer, AskAnswer, CountAnswer, DispatchAnswer, FreshAnswer, LookAnswer, Name, RunAnswer, Table,
+};
 
 fn event_stack(table: &Table, bytes: &[u8]) -> usize {
     let (mut t, mut scratch, mut answer) = (table.clone(), vec![0xA5; SCRATCH], Answer::BLANK);
@@ -29,6 +31,34 @@ fn dispatch_stack(table: &Table) -> usize {
         needed(|| calls::dispatch(&mut t, pair, &mut scratch, &mut answer))
     });
     stacks.max().unwrap_or(0)
+}
+
+/// The pairs that are asked about and taken: some that wait, some that do not, and numbers that are no controller's.
+const PAIRS: [(usize, usize); 8] = [(0, 0), (1, 1), (1, 2), (1, 3), (2, 1), (3, 3), (7, 7), (4, 4)];
+
+/// Asks of a table, with too little scratch too.
+fn ask_stack(table: &Table) -> usize {
+    let mut answer = AskAnswer::BLANK;
+    let asked = PAIRS.map(pair).into_iter().flat_map(|pair| [63, SCRATCH].map(|length| (pair, length)));
+    let stacks = asked.map(|(pair, length)| {
+        let mut scratch = vec![0xA5; length];
+        needed(|| calls::ask(table, pair, &mut scratch, &mut answer))
+    });
+    stacks.max().unwrap_or(0)
+}
+
+/// Commits on a table, with the count that an ask answers and with another, and with too little scratch.
+fn commit_stack(table: &Table) -> usize {
+    let (mut shown, mut answer) = (AskAnswer::BLANK, Answer::BLANK);
+    let mut stacks = vec![];
+    for (pair, length) in PAIRS.map(pair).into_iter().flat_map(|pair| [63, SCRATCH].map(|length| (pair, length))) {
+        calls::ask(table, pair, &mut [0xA5; SCRATCH], &mut shown);
+        for acts in [shown.acts, shown.acts + 1] {
+            let (mut t, mut scratch) = (table.clone(), vec![0xA5; length]);
+            stacks.push(needed(|| calls::commit(&mut t, pair, acts, &mut scratch, &mut answer)));
+        }
+    }
+    stacks.into_iter().max().unwrap_or(0)
 }
 
 fn look_stack(table: &Table) -> usize {
@@ -75,6 +105,7 @@ pub fn print() {
     records.extend([handover(1, 4), write(1, 1, 1500), write(1, 9, 1500), write(9, 1, 1500)]);
     let events = tables.iter().flat_map(|t| records.iter().map(|record| event_stack(t, record))).max();
     let dispatches = tables.iter().map(dispatch_stack).max();
+    let (asks, commits) = (tables.iter().map(ask_stack).max(), tables.iter().map(commit_stack).max());
     let looks = tables.iter().map(look_stack).max();
     let counts = tables.iter().map(count_stack).max();
     let mut files = vec![dense, running, dense_2, running_2, run_table(3).1, vec![1], vec![3, 3], vec![1, 9]];
@@ -83,8 +114,9 @@ pub fn print() {
     let runs = files.iter().map(|file| run_stack(file)).max();
     println!("\nbytes of stack that a call of the library needs, the most of what was tried");
     let fresh = Some(fresh_stack());
-    let calls = [("event", events), ("dispatch", dispatches), ("look", looks), ("count", counts)];
-    for (name, most) in calls.into_iter().chain([("fresh", fresh), ("run", runs)]) {
+    let calls = [("event", events), ("dispatch", dispatches), ("ask", asks), ("commit", commits)];
+    let others = [("look", looks), ("count", counts), ("fresh", fresh), ("run", runs)];
+    for (name, most) in calls.into_iter().chain(others) {
         println!("{name:<56} {:>12}", most.unwrap_or(0));
     }
 }

@@ -10,7 +10,7 @@ use crate::engines::{Engine, Reference};
 use crate::generate::random::Random;
 use crate::generate::runs::{drain, follow, Policy};
 use crate::reference::{to_state, to_table, State, LISTING, MAX_MESSAGES, SCRATCH};
-use furnacejade::{Answer, DispatchAnswer, Pair, Table};
+use furnacejade::{Answer, AskAnswer, DispatchAnswer, Pair, Table};
 use std::hint::black_box;
 use std::time::{Duration, Instant};
 
@@ -45,6 +45,23 @@ fn dispatch(engine: &dyn Engine, table: &Table, named: Pair) -> f64 {
         scratch.fill(0xA5);
         let mut t = table.clone();
         timed(|| engine.dispatch(&mut t, named, &mut scratch, &mut answer))
+    })
+}
+
+fn ask(engine: &dyn Engine, table: &Table, pair: Pair) -> f64 {
+    let (mut t, mut scratch, mut answer) = (table.clone(), vec![0xA5; SCRATCH], AskAnswer::BLANK);
+    mean(|| {
+        scratch.fill(0xA5);
+        timed(|| engine.ask(&mut t, pair, &mut scratch, &mut answer))
+    })
+}
+
+fn commit(engine: &dyn Engine, table: &Table, pair: Pair, acts: usize) -> f64 {
+    let (mut scratch, mut answer) = (vec![0xA5; SCRATCH], Answer::BLANK);
+    mean(|| {
+        scratch.fill(0xA5);
+        let mut t = table.clone();
+        timed(|| engine.commit(&mut t, pair, acts, &mut scratch, &mut answer))
     })
 }
 
@@ -202,6 +219,24 @@ fn rows_of_dispatcher() {
     row("n = 7: the same handovers as single events, each", |e| events(e, &sent, &handovers));
 }
 
+/// Asks and commits beside the event call: of 2 and of 63 pending messages, all of which the handover applies, or none;
+/// and on a full table, with the receiver's count and with another.
+fn rows_of_previews() {
+    let pair = Pair { receiver: 1, owner: 2 };
+    for (held, chain) in [(2, false), (63, false), (63, true)] {
+        let (t, what) = (pending_table(7, held, chain), if chain { "none applied (chain)" } else { "all applied" });
+        let acts = act_count(&t, pair);
+        row(&format!("n = 7: ask, {held} pending, {what}"), |e| ask(e, &t, pair));
+        row(&format!("n = 7: commit, {held} pending, {what}"), |e| commit(e, &t, pair, acts));
+        row("n = 7: the same handover as an event", |e| event(e, &t, &handover(1, 2)));
+    }
+    let (full, pair) = waiting_table(&last_table(&dense_files(1).1));
+    let acts = act_count(&full, pair);
+    row("n = 7: ask, full table of 64 messages", |e| ask(e, &full, pair));
+    row("n = 7: commit, full table of 64 messages", |e| commit(e, &full, pair, acts));
+    row("n = 7: commit refused by question 21, full table", |e| commit(e, &full, pair, acts + 1));
+}
+
 pub fn print() {
     println!(
         "nanoseconds for each call, the least of {ROUNDS} means of {CALLS}; scratch is dirty before each single call,
@@ -228,4 +263,5 @@ and a file run gets scratch and listing as the run before left them"
     rows_under_way();
     rows_with_registers();
     rows_of_dispatcher();
+    rows_of_previews();
 }

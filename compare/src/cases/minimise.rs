@@ -125,15 +125,17 @@ fn without_calls(case: &Case, from: usize, to: usize) -> Case {
 /// A call with the controllers above `gone` moved down, or nothing if it names `gone`.
 fn without_controller(call: &Call, gone: u8) -> Option<Call> {
     let moved = |c: usize| (c != gone as usize).then_some(if c > gone as usize { c - 1 } else { c });
+    let both = |pair: &Pair| Some(Pair { receiver: moved(pair.receiver)?, owner: moved(pair.owner)? });
     match call {
         Call::Look(c) => moved(*c).map(Call::Look),
         Call::CountBefore(Asked { controller, first, second }) => {
             let of = |name: &Name| Some(Name { sender: moved(name.sender as usize)? as u8, ..*name });
             Some(Call::CountBefore(Asked { controller: moved(*controller)?, first: of(first)?, second: of(second)? }))
         }
-        Call::Dispatch { named: Pair { receiver, owner }, scratch } => {
-            let named = Pair { receiver: moved(*receiver)?, owner: moved(*owner)? };
-            Some(Call::Dispatch { named, scratch: *scratch })
+        Call::Dispatch { named, scratch } => Some(Call::Dispatch { named: both(named)?, scratch: *scratch }),
+        Call::Ask { pair, scratch } => Some(Call::Ask { pair: both(pair)?, scratch: *scratch }),
+        Call::Commit { pair, acts, scratch } => {
+            Some(Call::Commit { pair: both(pair)?, acts: *acts, scratch: *scratch })
         }
         Call::Event { bytes, scratch } => {
             let mut bytes = bytes.clone();

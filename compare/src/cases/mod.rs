@@ -23,6 +23,8 @@ pub enum Call {
     Look(usize),
     CountBefore(Asked),
     Dispatch { named: Pair, scratch: usize },
+    Ask { pair: Pair, scratch: usize },
+    Commit { pair: Pair, acts: usize, scratch: usize },
 }
 
 impl Call {

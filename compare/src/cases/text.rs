@@ -5,6 +5,8 @@
 //! `(00*512)` stands for 512 bytes 00, and `(020501*90)` for 90 times these three. Lent memory is given by its length;
 //! what it holds at first is the same dirt in every case. `before 3 3.1 1.1` asks how many put 3.1 before 1.1 at 3, and
 //! `dispatch 2 1 scratch 4096` calls the dispatcher, which is told that it served receiver 2 and owner 1 last.
+//! `ask 2 1 scratch 4096` asks what the handover to 2 from 1 would apply, and `commit 2 1 acts 7 scratch 4096` makes that
+//! handover if 7 is the act count of 2.
 
 use super::fields::{plain_table, set_field, table_text};
 use super::{Asked, Call, Case, Head};
@@ -72,6 +74,12 @@ impl Case {
                 Call::Dispatch { named: Pair { receiver, owner }, scratch } => {
                     format!("dispatch {receiver} {owner} scratch {scratch}\n")
                 }
+                Call::Ask { pair: Pair { receiver, owner }, scratch } => {
+                    format!("ask {receiver} {owner} scratch {scratch}\n")
+                }
+                Call::Commit { pair: Pair { receiver, owner }, acts, scratch } => {
+                    format!("commit {receiver} {owner} acts {acts} scratch {scratch}\n")
+                }
             };
         }
         text
@@ -103,6 +111,14 @@ impl Case {
             ("dispatch", _) => {
                 let named = Pair { receiver: number(1), owner: number(2) };
                 self.calls.push(Call::Dispatch { named, scratch: number(4) });
+            }
+            ("ask", _) => {
+                let pair = Pair { receiver: number(1), owner: number(2) };
+                self.calls.push(Call::Ask { pair, scratch: number(4) });
+            }
+            ("commit", _) => {
+                let pair = Pair { receiver: number(1), owner: number(2) };
+                self.calls.push(Call::Commit { pair, acts: number(4), scratch: number(6) });
             }
             (_, Head::Table(t)) => set_field(t, line),
             (other, _) => panic!("no head or call: {other}"),

@@ -1,7 +1,8 @@
 //! Demand 3, checked over one list of calls. It reads arguments and answers only, as docs/RULES.md says of the list,
 //! and shares nothing with the reference. Of counts of "goes before" demand 3 says nothing: they move nothing, and are
-//! worked out anew from the logs of the list.
+//! worked out anew from the logs of the list. So is the number of an ask or a commit.
 
+use super::as_shown::{AsShown, Commit};
 use super::dispatched::{Dispatched, Waiting};
 use super::never_stale::{NeverStale, Own, Shown};
 use std::collections::{BTreeMap, BTreeSet};
@@ -85,6 +86,7 @@ pub struct Ledger {
     snapshots: BTreeSet<[Register; 8]>,
     pub readings: NeverStale,
     pub dispatched: Dispatched,
+    pub as_shown: AsShown,
     broken: Option<String>,
 }
 
@@ -103,6 +105,7 @@ impl Ledger {
             snapshots: BTreeSet::from([[((0, 0), 0); 8]]),
             readings: NeverStale::new(n),
             dispatched: Dispatched::new(n),
+            as_shown: AsShown::new(n),
             broken: None,
         }
     }
@@ -193,17 +196,67 @@ impl Ledger {
         self.ending();
     }
 
+    /// Whether r has an entry of o's log unread.
+    fn unread(&self, (r, o): Pair) -> bool {
+        self.places[r - 1][o - 1] < self.logs[o - 1].len()
+    }
+
+    /// The number of an ask, or of a commit that gives a count. Every table of a list is well formed.
+    fn number(&self, pair: Pair, count: Option<usize>, enough: bool) -> u8 {
+        let known = |c: usize| (1..=self.n).contains(&c);
+        match pair {
+            (r, o) if !known(r) || !known(o) => 8,
+            (r, _) if !self.running[r - 1] => 10,
+            (r, _) if count.is_some_and(|count| count != self.as_shown.acts(r)) => 21,
+            _ if !self.unread(pair) => 13,
+            _ if !enough => 15,
+            _ => 0,
+        }
+    }
+
+    /// An ask: its pair, whether it is lent enough scratch, and its answer. It moves nothing.
+    pub fn ask(&mut self, pair: Pair, enough: bool, number: u8, count: usize, set: &[Name]) {
+        let right = self.number(pair, None, enough);
+        if number != 0 {
+            self.expect(set.is_empty() && count == 0, || "a refused ask answers something".into());
+        } else if right != 8 {
+            let counted = self.as_shown.ask(pair, count, set);
+            self.expect_right(counted);
+        }
+        self.expect(number == right, || format!("an ask of {pair:?} gets {number}, not {right}"));
+    }
+
+    /// A commit: its pair, the count that it gives back, whether it is lent enough scratch, and its answer. What it takes
+    /// is a handover as any other.
+    pub fn commit(&mut self, pair: Pair, count: usize, enough: bool, number: u8, set: &[Name], figures: Figures) {
+        let right = self.number(pair, Some(count), enough);
+        let commit = Commit { pair, count, enough, unread: right != 8 && self.unread(pair) };
+        if number != 0 {
+            let plain = set.is_empty() && (figures.finished, figures.sums) == (0, (0, 0));
+            self.expect(plain, || "a refused commit answers something".into());
+            let refused = self.as_shown.refused(&commit, number);
+            self.expect_right(refused);
+        } else {
+            let taken = self.as_shown.accepted(&commit, set);
+            self.expect_right(taken);
+        }
+        self.expect(number == right, || format!("a commit of {pair:?} with {count} gets {number}, not {right}"));
+        if number == 0 && right != 8 {
+            self.handover(pair.0, pair.1, set, Some(figures));
+            self.ending();
+        }
+    }
+
     /// Every entry that is next for a receiver that runs.
     fn waiting(&self) -> Vec<Waiting> {
         let running = (1..=self.n).filter(|r| self.running[r - 1]);
-        let next = |r: usize, o: usize| {
-            (self.places[r - 1][o - 1] < self.logs[o - 1].len()).then(|| self.places[r - 1][o - 1])
-        };
+        let next = |r: usize, o: usize| self.unread((r, o)).then(|| self.places[r - 1][o - 1]);
         running.flat_map(|r| (1..=self.n).filter_map(move |o| Some(((r, o), next(r, o)?)))).collect()
     }
 
     fn send(&mut self, c: usize, content: Content) {
         let name = (c, self.logs[c - 1].len() + 1);
+        self.as_shown.act(c);
         self.logs[c - 1].push(name);
         let new = self.sent.insert(name, content).is_none();
         self.expect(new, || format!("{name:?} is sent twice"));
@@ -251,6 +304,9 @@ impl Ledger {
             return self.expect(false, || format!("an accepted handover to {r} reads past the end of log {o}"));
         };
         self.places[r - 1][o - 1] += 1;
+        let shown = self.as_shown.handover((r, o), set);
+        self.expect_right(shown);
+        self.as_shown.act(r);
         let bounded = self.dispatched.handover();
         self.expect_right(bounded);
         if !self.logs[r - 1].contains(&name) {
@@ -345,6 +401,7 @@ impl Ledger {
     fn stop(&mut self, c: usize, kept: usize) {
         self.running[c - 1] = false;
         self.dispatched.stop();
+        self.as_shown.act(c);
         let log = &mut self.logs[c - 1];
         let gone = log.split_off(kept.min(log.len()));
         self.cut_off.extend(gone.into_iter().filter(|name| name.0 == c));

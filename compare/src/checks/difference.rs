@@ -1,8 +1,8 @@
 //! Runs one case through two engines, and finds the first difference: in an answer, in lent memory and its guards, or
 //! in what the tables mean.
 
-use super::side::{numbers, register, set, Lent, Side};
-use super::{counts, served};
+use super::side::{numbers, register, set, shown, Lent, Side};
+use super::{counts, previews, served};
 use crate::cases::{asked_in, Asked, Call, Case, Head};
 use crate::engines::Engine;
 use crate::reference::calls::LOCAL_READ;
@@ -87,6 +87,34 @@ fn dispatch(a: &mut Side, b: &mut Side, named: Pair, scratch: usize) -> Result<(
     differ_plain("dispatch: table", same_table(&a.table, &b.table))
 }
 
+/// One ask on both sides. It shows what the record of the handover answers, and the table stays byte by byte.
+fn ask(a: &mut Side, b: &mut Side, pair: Pair, scratch: usize) -> Result<(), String> {
+    let before = b.table.clone();
+    let (right, found) = (a.ask(pair, scratch), b.ask(pair, scratch));
+    differ("ask: refusal", right.answer.refusal, found.answer.refusal)?;
+    differ("ask: set", shown(&right.answer), shown(&found.answer))?;
+    differ("ask: act count", right.answer.acts, found.answer.acts)?;
+    differ_plain("ask: answer", right.answer == found.answer)?;
+    differ_plain("ask: scratch", right.scratch == found.scratch)?;
+    differ_plain("ask: table", before.as_bytes() == b.table.as_bytes())?;
+    previews::laws(b.engine, &before, pair, scratch, &found)
+}
+
+/// One commit on both sides. With its receiver's count it is the handover of the event call, byte by byte; where it is
+/// refused, every byte that was lent stays.
+fn commit(a: &mut Side, b: &mut Side, pair: Pair, acts: usize, scratch: usize) -> Result<(), String> {
+    let before = b.table.clone();
+    let (right, found) = (a.commit(pair, acts, scratch), b.commit(pair, acts, scratch));
+    differ("commit: refusal", right.answer.refusal, found.answer.refusal)?;
+    differ("commit: set", set(&right.answer), set(&found.answer))?;
+    differ("commit: finished", right.answer.finished, found.answer.finished)?;
+    differ("commit: sums", right.answer.sums, found.answer.sums)?;
+    differ_plain("commit: answer", right.answer == found.answer)?;
+    differ_plain("commit: scratch", right.scratch == found.scratch)?;
+    previews::commit_law(b.engine, &before, pair, scratch, &found, &b.table)?;
+    differ_plain("commit: table", same_table(&a.table, &b.table))
+}
+
 fn look(a: &Side, b: &Side, c: usize) -> Result<(), String> {
     let before = b.table.clone();
     let (right, found) = (a.engine.look(&a.table, c), b.engine.look(&b.table, c));
@@ -146,6 +174,8 @@ pub fn difference(case: &Case, a: &dyn Engine, b: &dyn Engine) -> Result<(), Str
             Call::Look(c) => look(&a, &b, *c)?,
             Call::CountBefore(_) => counts(&mut a, &mut b, &asked_in(calls))?,
             Call::Dispatch { named, scratch } => dispatch(&mut a, &mut b, *named, *scratch)?,
+            Call::Ask { pair, scratch } => ask(&mut a, &mut b, *pair, *scratch)?,
+            Call::Commit { pair, acts, scratch } => commit(&mut a, &mut b, *pair, *acts, *scratch)?,
         }
     }
     Ok(())

@@ -1,11 +1,13 @@
 //! Whether a case fails: a difference from the reference, or a list that breaks demand 3. A failing case is made small
 //! and reported.
 
+pub mod as_shown;
 pub mod counts;
 pub mod demand3;
 mod difference;
 pub mod dispatched;
 pub mod never_stale;
+pub mod previews;
 pub mod replay;
 mod served;
 pub mod side;

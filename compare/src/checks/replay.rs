@@ -2,7 +2,7 @@
 //! and local reads are added, and at the end of a list the dispatcher goes on alone.
 
 use super::demand3::{Figures, Ledger};
-use super::side::{numbers, register, set, sums, Lent, Side};
+use super::side::{numbers, register, set, shown, sums, Lent, Side};
 use crate::cases::records::local_read;
 use crate::cases::{Call, Case, Head};
 use crate::engines::Engine;
@@ -58,7 +58,12 @@ pub fn ledger_of(case: &Case, engine: &dyn Engine) -> Option<Ledger> {
                 ledger.count(asked.controller, names, answer.refusal.0, answer.count);
             }
             Some(Call::Dispatch { named, scratch }) => _ = dispatch(&mut ledger, &mut side, *named, *scratch),
-            None => go_on(&mut ledger, &mut side, case),
+            Some(Call::Ask { pair, scratch }) => _ = ask(&mut ledger, &mut side, *pair, *scratch),
+            Some(Call::Commit { pair, acts, scratch }) => commit(&mut ledger, &mut side, *pair, *acts, *scratch),
+            None => {
+                let calls = take_on(&mut ledger, &mut side, case);
+                go_on(&mut ledger, &mut side, case, calls);
+            }
         }
     }
     Some(ledger)
@@ -88,12 +93,55 @@ fn dispatch(ledger: &mut Ledger, side: &mut Side, named: Pair, scratch: usize) -
     pair
 }
 
+/// An ask. Answers the count that was answered.
+fn ask(ledger: &mut Ledger, side: &mut Side, pair: Pair, scratch: usize) -> usize {
+    let answer = side.ask(pair, scratch).answer;
+    ledger.ask(numbers(pair), scratch >= SCRATCH, answer.refusal.0, answer.acts, &shown(&answer));
+    answer.acts
+}
+
+fn commit(ledger: &mut Ledger, side: &mut Side, pair: Pair, acts: usize, scratch: usize) {
+    let answer = side.commit(pair, acts, scratch).answer;
+    let figures = Figures { finished: answer.finished, sums: sums(answer.sums) };
+    ledger.commit(numbers(pair), acts, scratch >= SCRATCH, answer.refusal.0, &set(&answer), figures);
+}
+
+/// A list with asks goes on with an ask of every pair, and then a commit of every pair. Each commit gives back the count
+/// that the engine itself answered, which no case can say beforehand. The first of a receiver that is accepted makes the
+/// counts of its others too old. Answers how many calls the list has by then.
+fn take_on(ledger: &mut Ledger, side: &mut Side, case: &Case) -> usize {
+    let (mut calls, n) = (case.calls.len(), ledger.n());
+    if !case.calls.iter().any(|call| matches!(call, Call::Ask { .. })) {
+        return calls;
+    }
+    let pairs = (1..=n).flat_map(|receiver| (1..=n).map(move |owner| Pair { receiver, owner }));
+    let mut shown = vec![];
+    for pair in pairs {
+        shown.push((pair, ask(ledger, side, pair, SCRATCH)));
+        calls += 1;
+        if ledger.broken().is_some() {
+            ledger.name_place(calls);
+            return calls;
+        }
+    }
+    for (pair, acts) in shown {
+        commit(ledger, side, pair, acts, SCRATCH);
+        at_ending(ledger, side);
+        calls += 1;
+        if ledger.broken().is_some() {
+            ledger.name_place(calls);
+            return calls;
+        }
+    }
+    calls
+}
+
 /// A list with calls of the dispatcher goes on with two rounds of it alone, or to "none". Each call names the pair that
 /// the engine itself answered, which no case can say beforehand. Where the ending speaks on the way, and so at "none" if
 /// a majority runs, looks and local reads are added as they are before.
-fn go_on(ledger: &mut Ledger, side: &mut Side, case: &Case) {
-    let (calls, n) = (case.calls.len(), ledger.n());
-    if !case.calls.iter().any(|call| matches!(call, Call::Dispatch { .. })) {
+fn go_on(ledger: &mut Ledger, side: &mut Side, case: &Case, calls: usize) {
+    let n = ledger.n();
+    if ledger.broken().is_some() || !case.calls.iter().any(|call| matches!(call, Call::Dispatch { .. })) {
         return;
     }
     let mut last = Pair { receiver: n, owner: n };

@@ -4,7 +4,7 @@
 use super::demand3;
 use crate::engines::library::DIRTY_SUMS;
 use crate::engines::Engine;
-use furnacejade::{Answer, DispatchAnswer, MessageNumber, Name, Pair, RefusalNumber, Register, Sums, Table};
+use furnacejade::{Answer, AskAnswer, DispatchAnswer, MessageNumber, Name, Pair, RefusalNumber, Register, Sums, Table};
 
 const GUARD: usize = 64;
 
@@ -24,9 +24,15 @@ impl Lent {
     }
 }
 
+/// A name that no message has.
+const DIRTY_NAME: Name = Name { sender: 0xA5, number: MessageNumber(0xA5) };
+
 fn dirty_answer() -> Answer {
-    let name = Name { sender: 0xA5, number: MessageNumber(0xA5) };
-    Answer { refusal: RefusalNumber(0xA5), finished: 0xA5, sums: DIRTY_SUMS, size: 77, names: [name; 64] }
+    Answer { refusal: RefusalNumber(0xA5), finished: 0xA5, sums: DIRTY_SUMS, size: 77, names: [DIRTY_NAME; 64] }
+}
+
+fn dirty_ask() -> AskAnswer {
+    AskAnswer { refusal: RefusalNumber(0xA5), acts: 0xA5A5_A5A5, size: 77, names: [DIRTY_NAME; 64] }
 }
 
 /// An engine, and the table that it goes on with.
@@ -48,6 +54,18 @@ pub struct DispatchLeft {
     pub scratch: Vec<u8>,
 }
 
+/// What an ask leaves but for the table.
+pub struct AskLeft {
+    pub answer: AskAnswer,
+    pub scratch: Vec<u8>,
+}
+
+/// What a commit leaves but for the table.
+pub struct CommitLeft {
+    pub answer: Answer,
+    pub scratch: Vec<u8>,
+}
+
 /// Numbers that no pair has.
 const DIRTY_PAIR: Pair = Pair { receiver: 0xA5A5_A5A5, owner: 0xA5A5_A5A5 };
 
@@ -64,11 +82,32 @@ impl Side<'_> {
         self.engine.dispatch(&mut self.table, named, scratch.lent(), &mut answer);
         DispatchLeft { answer, scratch: scratch.memory }
     }
+
+    pub fn ask(&mut self, pair: Pair, scratch: usize) -> AskLeft {
+        let (mut scratch, mut answer) = (Lent::new(scratch), dirty_ask());
+        self.engine.ask(&mut self.table, pair, scratch.lent(), &mut answer);
+        AskLeft { answer, scratch: scratch.memory }
+    }
+
+    pub fn commit(&mut self, pair: Pair, acts: usize, scratch: usize) -> CommitLeft {
+        let (mut scratch, mut answer) = (Lent::new(scratch), dirty_answer());
+        self.engine.commit(&mut self.table, pair, acts, scratch.lent(), &mut answer);
+        CommitLeft { answer, scratch: scratch.memory }
+    }
 }
 
 /// The names of the set, however wrong its size is.
 pub fn set(answer: &Answer) -> Vec<demand3::Name> {
-    answer.names[..answer.size.min(64)].iter().map(|x| (x.sender as usize, x.number.0 as usize)).collect()
+    names(&answer.names[..answer.size.min(64)])
+}
+
+/// The names of the set that an ask shows, however wrong its size is.
+pub fn shown(answer: &AskAnswer) -> Vec<demand3::Name> {
+    names(&answer.names[..answer.size.min(64)])
+}
+
+fn names(set: &[Name]) -> Vec<demand3::Name> {
+    set.iter().map(|x| (x.sender as usize, x.number.0 as usize)).collect()
 }
 
 pub fn numbers(pair: Pair) -> demand3::Pair {

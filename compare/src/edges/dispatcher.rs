@@ -17,7 +17,7 @@ const NONE: Pair = (0, 0);
 /// Lengths of scratch that are too short.
 const SHORT: [usize; 5] = [0, 1, 63, 64, SCRATCH - 1];
 
-impl<'a> Script<'a> {
+impl Script<'_> {
     /// The pair that is served, if the call is accepted.
     fn served(&mut self, named: Pair, scratch: usize) -> Option<Pair> {
         let DispatchAnswer { pair, answer } = self.dispatch(named, scratch);
@@ -39,10 +39,6 @@ impl<'a> Script<'a> {
         self.engine.dispatch(&mut self.table, pair(named), &mut area, &mut answer);
         let same = before.as_bytes() == self.table.as_bytes() && area.iter().all(|byte| *byte == 7);
         same && answer == unserved(RefusalNumber(number))
-    }
-
-    fn copy(&self) -> Script<'a> {
-        Script { engine: self.engine, table: self.table.clone() }
     }
 }
 

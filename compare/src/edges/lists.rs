@@ -26,6 +26,28 @@ enum Said {
     Event { record: Vec<u8>, set: Vec<Name>, finished: u8, sums: Sums },
     Look { c: usize, shown: Box<Shown> },
     Dispatch(Dispatch),
+    Ask(Ask),
+    Commit(Commit),
+}
+
+/// An ask with its answer; a refused one has no count and no set.
+struct Ask {
+    pair: Pair,
+    scratch: usize,
+    number: u8,
+    count: usize,
+    set: Vec<Name>,
+}
+
+/// A commit with its answer. If it is accepted, its sums are those of its line.
+struct Commit {
+    pair: Pair,
+    count: usize,
+    scratch: usize,
+    number: u8,
+    set: Vec<Name>,
+    finished: u8,
+    sums: Sums,
 }
 
 /// A call of the dispatcher. Pair 0, 0 is "none", or refused.
@@ -103,6 +125,31 @@ fn dispatch_in(named: &[i64], answer: &str) -> Said {
     Said::Dispatch(Dispatch { named, scratch, number, pair, set: names_in(answer), finished, sums })
 }
 
+/// The number of a refused call; 0 of one that was accepted.
+fn number_in(answer: &str) -> u8 {
+    if answer.contains("refused") {
+        numbers(answer)[0] as u8
+    } else {
+        0
+    }
+}
+
+fn ask_in(asked: &[i64], answer: &str) -> Said {
+    let number = number_in(answer);
+    let count = if number == 0 { numbers(answer)[0] as usize } else { 0 };
+    let scratch = asked.get(2).map_or(SCRATCH, |length| *length as usize);
+    let pair = (asked[0] as usize, asked[1] as usize);
+    Said::Ask(Ask { pair, scratch, number, count, set: names_in(answer) })
+}
+
+fn commit_in(given: &[i64], answer: &str) -> Said {
+    let (number, finished) = (number_in(answer), answer.contains("finished") as u8);
+    let sums = if number == 0 { sums_in(answer) } else { (0, 0) };
+    let scratch = given.get(3).map_or(SCRATCH, |length| *length as usize);
+    let (pair, count) = ((given[0] as usize, given[1] as usize), given[2] as usize);
+    Said::Commit(Commit { pair, count, scratch, number, set: names_in(answer), finished, sums })
+}
+
 fn said(version: usize, line: &str) -> Said {
     let (call, answer) = line.split_once(':').unwrap_or((line, ""));
     let (word, of) = (call.split_whitespace().next().unwrap_or_default(), numbers(call));
@@ -116,6 +163,8 @@ fn said(version: usize, line: &str) -> Said {
         ("read", []) => local_read(c),
         ("look", []) => return look_in(version, c, answer),
         ("dispatch", _) => return dispatch_in(&of, answer),
+        ("ask", _) => return ask_in(&of, answer),
+        ("commit", _) => return commit_in(&of, answer),
         (_, [owner]) if call.contains(" from ") => handover(c, *owner as usize),
         _ => panic!("no call: {line}"),
     };
@@ -128,14 +177,16 @@ fn figures(set: &[Name], finished: u8, sums: Sums) -> Figures {
     Figures { finished, sums: if set.is_empty() || finished == 1 { sums } else { (0, 0) } }
 }
 
-/// The events of a list as records, and their listing; looks are left out. A handover of the dispatcher is a handover.
+/// The events of a list as records, and their listing; looks and asks are left out. A handover of the dispatcher or of a
+/// commit is a handover.
 fn records_and_listing(calls: &[Said]) -> (Vec<Vec<u8>>, String) {
     let (mut records, mut listing): (Vec<Vec<u8>>, String) = (vec![], String::new());
     for call in calls {
         let (record, set, sums) = match call {
             Said::Event { record, set, sums, .. } => (record.clone(), set, sums),
             Said::Dispatch(Dispatch { pair, set, sums, .. }) if pair.0 > 0 => (handover(pair.0, pair.1), set, sums),
-            Said::Dispatch(_) | Said::Look { .. } => continue,
+            Said::Commit(Commit { pair, number: 0, set, sums, .. }) => (handover(pair.0, pair.1), set, sums),
+            Said::Dispatch(_) | Said::Look { .. } | Said::Ask(_) | Said::Commit(_) => continue,
         };
         if !set.is_empty() {
             let names: String = set.iter().map(|(sender, number)| format!(" {sender}.{number}")).collect();
@@ -187,6 +238,13 @@ impl List {
                     let figures = figures(set, *finished, *sums);
                     ledger.dispatch(*named, *scratch >= SCRATCH, *number, *pair, set, figures);
                 }
+                Said::Ask(Ask { pair, scratch, number, count, set }) => {
+                    ledger.ask(*pair, *scratch >= SCRATCH, *number, *count, set);
+                }
+                Said::Commit(Commit { pair, count, scratch, number, set, finished, sums }) => {
+                    let figures = figures(set, *finished, *sums);
+                    ledger.commit(*pair, *count, *scratch >= SCRATCH, *number, set, figures);
+                }
             }
         }
         ledger.broken().map(String::from)
@@ -219,7 +277,7 @@ impl List {
     }
 }
 
-/// Whether a call answers this; but for the dispatcher's, all are accepted.
+/// Whether a call answers this. Events and looks are accepted.
 fn gives(script: &mut Script, call: &Said) -> bool {
     match call {
         Said::Event { record, set, finished, sums } => {
@@ -232,6 +290,16 @@ fn gives(script: &mut Script, call: &Said) -> bool {
             let right = figures(&said.set, said.finished, said.sums);
             let found = (answer.refusal.0, side::numbers(pair), side::set(&answer), answer.finished);
             found == (said.number, said.pair, said.set.clone(), right.finished) && side::sums(answer.sums) == right.sums
+        }
+        Said::Ask(Ask { pair, scratch, number, count, set }) => {
+            let answer = script.ask(*pair, *scratch);
+            (answer.refusal.0, answer.acts, side::shown(&answer)) == (*number, *count, set.clone())
+        }
+        Said::Commit(said) => {
+            let answer = script.commit(said.pair, said.count, said.scratch);
+            let right = figures(&said.set, said.finished, said.sums);
+            let found = (answer.refusal.0, side::set(&answer), answer.finished, side::sums(answer.sums));
+            found == (said.number, said.set.clone(), right.finished, right.sums)
         }
         Said::Look { c, shown } => {
             let LookAnswer { refusal, panel } = script.engine.look(&script.table, *c);

@@ -8,6 +8,7 @@ mod files;
 mod lists;
 mod local_reads;
 pub mod long_runs;
+mod previews;
 mod reports;
 mod script;
 mod tables;
@@ -27,5 +28,6 @@ pub fn check(engine: &dyn Engine) -> Result<(), String> {
     lists::check(engine)?;
     counts::check(engine)?;
     dispatcher::check(engine)?;
+    previews::check(engine)?;
     long_runs::check(engine)
 }

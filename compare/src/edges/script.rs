@@ -5,7 +5,7 @@ use crate::cases::records::handover;
 use crate::engines::pair;
 use crate::engines::Engine;
 use crate::reference::SCRATCH;
-use furnacejade::{Answer, DispatchAnswer, Panel, Sums, Table};
+use furnacejade::{Answer, AskAnswer, DispatchAnswer, Panel, Sums, Table};
 
 /// An engine with a table, for short scripts.
 pub struct Script<'a> {
@@ -13,7 +13,11 @@ pub struct Script<'a> {
     pub table: Table,
 }
 
-impl Script<'_> {
+impl<'a> Script<'a> {
+    pub fn copy(&self) -> Script<'a> {
+        Script { engine: self.engine, table: self.table.clone() }
+    }
+
     pub fn fresh(engine: &dyn Engine, version: usize, n: usize) -> Script<'_> {
         Script { engine, table: engine.fresh(version, n).table }
     }
@@ -28,6 +32,20 @@ impl Script<'_> {
     pub fn dispatch(&mut self, named: (usize, usize), scratch: usize) -> DispatchAnswer {
         let mut answer = DispatchAnswer::BLANK;
         self.engine.dispatch(&mut self.table, pair(named), &mut vec![1; scratch], &mut answer);
+        answer
+    }
+
+    /// An ask of a receiver and an owner.
+    pub fn ask(&mut self, asked: (usize, usize), scratch: usize) -> AskAnswer {
+        let mut answer = AskAnswer::BLANK;
+        self.engine.ask(&mut self.table, pair(asked), &mut vec![1; scratch], &mut answer);
+        answer
+    }
+
+    /// A commit of a receiver and an owner that gives this act count.
+    pub fn commit(&mut self, asked: (usize, usize), acts: usize, scratch: usize) -> Answer {
+        let mut answer = Answer::BLANK;
+        self.engine.commit(&mut self.table, pair(asked), acts, &mut vec![1; scratch], &mut answer);
         answer
     }
 

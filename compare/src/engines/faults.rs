@@ -3,7 +3,7 @@
 
 use super::Engine;
 use crate::cases::Asked;
-use furnacejade::{Answer, CountAnswer, DispatchAnswer, FreshAnswer, LookAnswer, Pair, RunAnswer, Table};
+use furnacejade::{Answer, AskAnswer, CountAnswer, DispatchAnswer, FreshAnswer, LookAnswer, Pair, RunAnswer, Table};
 use std::sync::atomic::{AtomicUsize, Ordering};
 
 /// Every fault: its name, and what it does.
@@ -44,6 +44,14 @@ impl Engine for Faulty {
     fn dispatch(&self, t: &mut Table, named: Pair, scratch: &mut [u8], answer: &mut DispatchAnswer) {
         wake(self.0);
         copy::calls::dispatch(t, named, scratch, answer)
+    }
+    fn ask(&self, t: &mut Table, pair: Pair, scratch: &mut [u8], answer: &mut AskAnswer) {
+        wake(self.0);
+        copy::calls::ask(t, pair, scratch, answer)
+    }
+    fn commit(&self, t: &mut Table, pair: Pair, acts: usize, scratch: &mut [u8], answer: &mut Answer) {
+        wake(self.0);
+        copy::calls::commit(t, pair, acts, scratch, answer)
     }
     fn look(&self, t: &Table, c: usize) -> LookAnswer {
         wake(self.0);

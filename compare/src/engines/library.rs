@@ -5,8 +5,8 @@ use super::stack::on_painted;
 use super::Engine;
 use crate::cases::Asked;
 use furnacejade::{
-    calls, Answer, CountAnswer, DispatchAnswer, FreshAnswer, LookAnswer, Pair, Panel, RefusalNumber, Register,
-    RunAnswer, Stamp, Sums, Table,
+    calls, Answer, AskAnswer, CountAnswer, DispatchAnswer, FreshAnswer, LookAnswer, Pair, Panel, RefusalNumber,
+    Register, RunAnswer, Stamp, Sums, Table,
 };
 use furnacejade::{CLASSES, REGISTERS};
 use std::mem::size_of;
@@ -62,6 +62,25 @@ impl Library {
         assert!(same, "two equal calls of the dispatcher leave other bytes");
     }
 
+    fn ask_again(&self, t: &Table, pair: Pair, scratch: &mut [u8], answer: &mut AskAnswer) {
+        let (mut area, mut again) = (scratch.to_vec(), None);
+        on_painted(PAINTS[0], || calls::ask(t, pair, scratch, answer));
+        on_painted(PAINTS[1], || again = Some(furnacejade::ask(t, pair, &mut area)));
+        let first = answer.refusal.check().map(|()| (pair, answer.acts, answer.set().to_vec()));
+        let again = again.map(|again| again.map(|shown| (shown.asked.pair, shown.asked.acts, shown.set().to_vec())));
+        assert!(Some(first) == again, "two equal asks answer differently");
+        assert!(scratch == area, "two equal asks leave other bytes");
+    }
+
+    fn commit_again(&self, t: &mut Table, asked: furnacejade::Asked, scratch: &mut [u8], answer: &mut Answer) {
+        let (mut table, mut area, mut again) = (t.clone(), scratch.to_vec(), None);
+        on_painted(PAINTS[0], || calls::commit(t, asked.pair, asked.acts, scratch, answer));
+        on_painted(PAINTS[1], || again = Some(furnacejade::commit(&mut table, asked, &mut area)));
+        let first = answer.refusal.check().map(|()| answer.clone());
+        assert!(Some(first) == again, "two equal commits answer differently");
+        assert!(t.as_bytes() == table.as_bytes() && scratch == area, "two equal commits leave other bytes");
+    }
+
     fn count_before(&self, t: &Table, Asked { controller, first, second }: Asked) -> CountAnswer {
         let mut answer = CountAnswer { refusal: RefusalNumber(0xA5), count: DIRTY_COUNT };
         calls::count_before(t, controller, &first, &second, &mut answer);
@@ -96,6 +115,18 @@ impl Engine for Library {
         match self.twice {
             true => self.dispatch_again(t, named, scratch, answer),
             false => calls::dispatch(t, named, scratch, answer),
+        }
+    }
+    fn ask(&self, t: &mut Table, pair: Pair, scratch: &mut [u8], answer: &mut AskAnswer) {
+        match self.twice {
+            true => self.ask_again(t, pair, scratch, answer),
+            false => calls::ask(t, pair, scratch, answer),
+        }
+    }
+    fn commit(&self, t: &mut Table, pair: Pair, acts: usize, scratch: &mut [u8], answer: &mut Answer) {
+        match self.twice {
+            true => self.commit_again(t, furnacejade::Asked { pair, acts }, scratch, answer),
+            false => calls::commit(t, pair, acts, scratch, answer),
         }
     }
     fn look(&self, t: &Table, c: usize) -> LookAnswer {

@@ -8,7 +8,7 @@ pub mod stack;
 use crate::cases::Asked;
 use crate::reference::calls;
 use furnacejade::{
-    Answer, CountAnswer, DispatchAnswer, FreshAnswer, LookAnswer, Pair, RefusalNumber, RunAnswer, Table,
+    Answer, AskAnswer, CountAnswer, DispatchAnswer, FreshAnswer, LookAnswer, Pair, RefusalNumber, RunAnswer, Table,
 };
 
 /// The pair of these numbers, whatever they are.
@@ -25,6 +25,9 @@ pub trait Engine {
     /// Answers how many bytes are left.
     fn event(&self, t: &mut Table, bytes: &[u8], scratch: &mut [u8], answer: &mut Answer) -> usize;
     fn dispatch(&self, t: &mut Table, named: Pair, scratch: &mut [u8], answer: &mut DispatchAnswer);
+    /// The table may be written to here, so that an engine that does so is found.
+    fn ask(&self, t: &mut Table, pair: Pair, scratch: &mut [u8], answer: &mut AskAnswer);
+    fn commit(&self, t: &mut Table, pair: Pair, acts: usize, scratch: &mut [u8], answer: &mut Answer);
     fn look(&self, t: &Table, c: usize) -> LookAnswer;
     /// Each is a call of its own. The table may be written to here, so that an engine that does so is found.
     fn counts_before(&self, t: &mut Table, asked: &[Asked]) -> Vec<CountAnswer>;
@@ -40,6 +43,12 @@ impl Engine for Reference {
     }
     fn dispatch(&self, t: &mut Table, named: Pair, scratch: &mut [u8], answer: &mut DispatchAnswer) {
         calls::dispatch(t, named, scratch, answer)
+    }
+    fn ask(&self, t: &mut Table, pair: Pair, scratch: &mut [u8], answer: &mut AskAnswer) {
+        calls::ask(t, pair, scratch, answer)
+    }
+    fn commit(&self, t: &mut Table, pair: Pair, acts: usize, scratch: &mut [u8], answer: &mut Answer) {
+        calls::commit(t, pair, acts, scratch, answer)
     }
     fn look(&self, t: &Table, c: usize) -> LookAnswer {
         calls::look(t, c)

@@ -3,6 +3,7 @@
 
 use super::files::legal_file;
 use super::odd::{any_calls, any_pair, any_scratch, any_version, as_calls};
+use super::previews::every_ask;
 use super::random::Random;
 use super::runs::{follow_dispatch, highest_read, legal_run, Policy};
 use super::tables::good_table;
@@ -163,6 +164,7 @@ pub fn on_table(random: &mut Random) -> Case {
     let (n, count) = (random.between(1, 7), random.pick(&[0, 1, 2, 3, 5, 8, 20, 64]));
     let t = good_table(random, n, count);
     let mut making = Dispatching::new(to_state(&t));
+    making.calls.extend(every_ask(random, n));
     if random.one_in(4) {
         for (receiver, owner) in (0..=n + 1).flat_map(|r| (0..=n + 1).map(move |o| (r, o))) {
             making.call(Pair { receiver, owner }, random.pick(&[0, 63, 64, 4095]));

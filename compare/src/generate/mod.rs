@@ -7,6 +7,7 @@ pub mod files;
 mod lists;
 mod odd;
 mod pairs;
+mod previews;
 pub mod random;
 pub mod runs;
 pub mod tables;
@@ -16,13 +17,14 @@ use broken_tables::table_broken;
 use dispatched::{after_file, dispatched, driven, on_table};
 use files::{file_limits, file_long, file_mangled, file_questions};
 use lists::{boundaries, cut_off, drained, fresh_any, full, list, readings, rivals, set_points, under_way};
+use previews::{previewed, previewed_after_file, previewed_table};
 use random::Random;
 use tables::{table_flipped, table_good, table_random};
 
 /// A kind of case: its name, and how to make one.
 pub type CaseKind = (&'static str, fn(&mut Random) -> Case);
 
-pub const KINDS: [CaseKind; 26] = [
+pub const KINDS: [CaseKind; 29] = [
     ("list", list),
     ("table", table_good),
     ("broken table", table_broken),
@@ -49,6 +51,9 @@ pub const KINDS: [CaseKind; 26] = [
     ("dispatched list", dispatched),
     ("dispatched table", on_table),
     ("driven to none", |random| if random.one_in(3) { after_file(random) } else { driven(random) }),
+    ("look and take", previewed),
+    ("look and take on a table", previewed_table),
+    ("look and take", |random| if random.one_in(3) { previewed_after_file(random) } else { previewed(random) }),
 ];
 
 /// Case `index` of a seed: each has a generator of its own, so that one case can be made again alone.

@@ -1,6 +1,7 @@
 //! Odd values and calls: numbers and records at the boundaries of their questions, mangled bytes, scratch of any size,
 //! and calls of any kind in a row.
 
+use super::previews::any_preview;
 use super::random::Random;
 use super::runs::{any_value, follow, follow_dispatch, highest_read, legal_event, with_none_pending, Policy};
 use crate::cases::records::{classed_report, handover, local_read, report, stop, sync, write};
@@ -172,6 +173,10 @@ pub fn any_calls(random: &mut Random, state: &mut State, count: usize, odd: usiz
     for _ in 0..count {
         if random.one_in(8) {
             calls.push(any_dispatch(random, state, &mut last, odd));
+            continue;
+        }
+        if random.one_in(8) {
+            calls.push(any_preview(random, state, odd));
             continue;
         }
         if random.one_in(8) {

@@ -3,6 +3,7 @@
 
 use super::random::Random;
 use crate::cases::records::{classed_report, handover, local_read, report, stop, sync, write};
+use crate::reference::calls::numbered;
 use crate::reference::{self, Message, Payload, State, MAX_MESSAGES, REGISTERS, SCRATCH};
 use furnacejade::Pair;
 
@@ -181,9 +182,13 @@ pub fn follow(state: &mut State, bytes: &[u8], scratch: usize) -> u8 {
 
 /// Calls the dispatcher on the generator's own state. Answers the pair that it served.
 pub fn follow_dispatch(state: &mut State, named: Pair, scratch: usize) -> Pair {
-    let named = reference::Pair { receiver: named.receiver, owner: named.owner };
-    let reference::Pair { receiver, owner } = state.dispatch(named, &mut vec![0; scratch]).pair;
+    let reference::Pair { receiver, owner } = state.dispatch(numbered(named), &mut vec![0; scratch]).pair;
     Pair { receiver, owner }
+}
+
+/// Makes a commit on the generator's own state.
+pub fn follow_commit(state: &mut State, pair: Pair, acts: usize, scratch: usize) {
+    _ = state.commit(numbered(pair), acts, &mut vec![0; scratch]);
 }
 
 /// Up to `events` legal events from a state, which is brought up to date.

@@ -3,6 +3,7 @@
 
 use super::odd::{any_calls, any_event, any_number, any_pair, any_scratch, any_version, writes_of_all};
 use super::pairs::every_pair;
+use super::previews::every_ask;
 use super::random::Random;
 use super::runs::{any_value, Policy};
 use crate::cases::{Asked, Call, Case, Head};
@@ -205,6 +206,7 @@ pub fn table_good(random: &mut Random) -> Case {
     let t = good_table(random, n, count);
     let mut state = to_state(&t);
     let mut calls = some_pairs(random, &t, 8);
+    calls.extend(every_ask(random, n));
     if random.one_in(3) {
         calls.extend(writes_of_all(random, &mut state));
     }
@@ -217,6 +219,9 @@ pub fn blind_calls(random: &mut Random, t: &Table) -> Vec<Call> {
     let state = if well_formed(t) { to_state(t) } else { State::fresh(t.version.clamp(1, 2), t.n.clamp(1, 7)) };
     let bytes = any_event(random, &state, &Policy::even(3), 3);
     let mut calls = some_pairs(random, t, 100);
+    calls.extend(every_ask(random, t.n));
+    let (pair, acts) = (any_pair(random, state.n), any_number(random, state.n));
+    calls.push(Call::Commit { pair, acts, scratch: any_scratch(random) });
     calls.push(Call::Dispatch { named: any_pair(random, state.n), scratch: any_scratch(random) });
     calls.extend([Call::Event { bytes, scratch: any_scratch(random) }, Call::Look(any_number(random, state.n))]);
     let mut any_slot = || {

@@ -2,6 +2,7 @@
 //! and the checker of demand 3 says how often it had something to check.
 
 use crate::cases::{asked_in, Asked, Call, Case, Head};
+use crate::checks::as_shown;
 use crate::checks::counts::pending;
 use crate::checks::dispatched;
 use crate::checks::never_stale::Tally;
@@ -10,7 +11,7 @@ use crate::engines::Reference;
 use crate::generate;
 use crate::reference::{calls, to_state, well_formed, MAX_MESSAGES, SCRATCH};
 use furnacejade::{
-    Answer, Controller, DispatchAnswer, Message, Pair, Payload, Refusal, RefusalNumber, Stamp, Sums, Table,
+    Answer, AskAnswer, Controller, DispatchAnswer, Message, Pair, Payload, Refusal, RefusalNumber, Stamp, Sums, Table,
 };
 
 /// Accepted calls have number 0, and the refusals follow.
@@ -35,6 +36,20 @@ struct Counts {
     readings: Tally,
     served: Served,
     dispatched: dispatched::Tally,
+    previews: Previews,
+    as_shown: as_shown::Tally,
+}
+
+/// How often each ask and each commit was answered, by number; how many asks showed a set, and of how many messages at
+/// most; how many of the accepted ones were of a stopped owner; and how many commits took a set and finished a sync.
+struct Previews {
+    asks: [usize; NUMBERS],
+    commits: [usize; NUMBERS],
+    sets: usize,
+    most: usize,
+    stopped_owner: usize,
+    taken_sets: usize,
+    syncs: usize,
 }
 
 /// How many calls of the dispatcher served a pair: that of a stopped owner, the one named, one that applies a set and
@@ -107,6 +122,16 @@ impl Counts {
             readings: Tally::default(),
             served: Served::default(),
             dispatched: dispatched::Tally::default(),
+            previews: Previews {
+                asks: zero,
+                commits: zero,
+                sets: 0,
+                most: 0,
+                stopped_owner: 0,
+                taken_sets: 0,
+                syncs: 0,
+            },
+            as_shown: as_shown::Tally::default(),
         }
     }
 
@@ -119,6 +144,8 @@ impl Counts {
                 Call::Event { bytes, scratch } => self.event(&mut table, bytes, *scratch),
                 Call::CountBefore(_) => self.goes_before(&mut table, &asked_in(calls)),
                 Call::Dispatch { named, scratch } => self.dispatch(&mut table, *named, *scratch),
+                Call::Ask { pair, scratch } => self.ask(&mut table, *pair, *scratch),
+                Call::Commit { pair, acts, scratch } => self.commit(&mut table, *pair, *acts, *scratch),
             }
         }
     }
@@ -128,7 +155,27 @@ impl Counts {
         if let Some(ledger) = ledger_of(case, &Reference) {
             self.readings.add(&ledger.readings.tally);
             self.dispatched.add(&ledger.dispatched.tally);
+            self.as_shown.add(&ledger.as_shown.tally);
         }
+    }
+
+    fn ask(&mut self, table: &mut Table, pair: Pair, scratch: usize) {
+        let mut answer = AskAnswer::BLANK;
+        calls::ask(table, pair, &mut vec![0; scratch], &mut answer);
+        self.previews.asks[answer.refusal.0 as usize] += 1;
+        self.previews.sets += (answer.size > 0) as usize;
+        self.previews.most = self.previews.most.max(answer.size);
+        if answer.refusal == RefusalNumber::ACCEPTED {
+            self.previews.stopped_owner += (table.controllers[pair.owner - 1].running == 0) as usize;
+        }
+    }
+
+    fn commit(&mut self, table: &mut Table, pair: Pair, acts: usize, scratch: usize) {
+        let mut answer = Answer::BLANK;
+        calls::commit(table, pair, acts, &mut vec![0; scratch], &mut answer);
+        self.previews.commits[answer.refusal.0 as usize] += 1;
+        self.previews.taken_sets += (answer.size > 0) as usize;
+        self.previews.syncs += answer.finished as usize;
     }
 
     fn dispatch(&mut self, table: &mut Table, named: Pair, scratch: usize) {
@@ -270,6 +317,19 @@ impl Counts {
         let dispatched::Tally { made, nones, rounds, mixed, last_moment } = self.dispatched;
         println!("in lists: its handovers {made}, none {nones}; stretches of n x n that had to be fair {rounds}");
         println!("of these with other handovers in between {mixed}, with an entry that the last reads {last_moment}");
+        self.print_previews();
+    }
+
+    fn print_previews(&self) {
+        let Previews { asks, commits, sets, most, stopped_owner, taken_sets, syncs } = &self.previews;
+        println!(
+            "asks by number {asks:?}; with a set {sets}, the greatest of {most}, of a stopped owner {stopped_owner}"
+        );
+        println!("commits by number {commits:?}; with a set {taken_sets}, that finish a sync {syncs}");
+        let as_shown::Tally { asks, sets, taken, taken_sets, others_acted, cut_away, acted, handed } = self.as_shown;
+        println!("in lists: asks accepted {asks}, with a set {sets}; commits of what was shown {taken}, with a set {taken_sets}");
+        println!("of these after acts of others {others_acted}; refused because the entry was cut away {cut_away}");
+        println!("refused where the receiver had acted {acted}; handovers of what was shown, by any call {handed}");
     }
 }
 

@@ -91,10 +91,12 @@ fn check_subsets(case: &Case) -> usize {
         match call {
             Call::Event { bytes, scratch } => _ = state.event(bytes, &mut vec![0; *scratch]),
             Call::Dispatch { named, scratch } => {
-                let named = reference::Pair { receiver: named.receiver, owner: named.owner };
-                state.dispatch(named, &mut vec![0; *scratch]);
+                state.dispatch(calls::numbered(*named), &mut vec![0; *scratch]);
             }
-            Call::Look(_) | Call::CountBefore(_) => continue,
+            Call::Commit { pair, acts, scratch } => {
+                _ = state.commit(calls::numbered(*pair), *acts, &mut vec![0; *scratch]);
+            }
+            Call::Look(_) | Call::CountBefore(_) | Call::Ask { .. } => continue,
         }
         for c in state.controllers.iter().filter(|c| c.pending.len() <= subsets::MOST) {
             let right = subsets::largest(state.n, &c.pending);

@@ -4,8 +4,8 @@
 use super::{self as reference, *};
 use crate::cases::Asked;
 use furnacejade::{
-    Answer, CountAnswer, DispatchAnswer, FreshAnswer, LookAnswer, MessageNumber, Name, Pair, Panel, RefusalNumber,
-    Register, RunAnswer, Stamp, Sums, Table,
+    Answer, AskAnswer, CountAnswer, DispatchAnswer, FreshAnswer, LookAnswer, MessageNumber, Name, Pair, Panel,
+    RefusalNumber, Register, RunAnswer, Stamp, Sums, Table,
 };
 
 /// The kind of a record that leaves the table as it is.
@@ -45,9 +45,18 @@ fn tell(given: &reference::Answer, answer: &mut Answer) {
     answer.finished = given.finished as u8;
     answer.sums = sums_of(given.sums);
     answer.size = given.set.len();
-    for (to, x) in answer.names.iter_mut().zip(&given.set) {
+    put_names(&given.set, &mut answer.names);
+}
+
+fn put_names(set: &[reference::Name], names: &mut [Name]) {
+    for (to, x) in names.iter_mut().zip(set) {
         *to = Name { sender: x.sender as u8, number: MessageNumber(x.number as u8) };
     }
+}
+
+/// The pair of these numbers, which may be any.
+pub fn numbered(Pair { receiver, owner }: Pair) -> reference::Pair {
+    reference::Pair { receiver, owner }
 }
 
 /// The dispatcher call: question 4 first. Where no handover is carried out, every byte of the table stays.
@@ -58,13 +67,43 @@ pub fn dispatch(t: &mut Table, named: Pair, scratch: &mut [u8], dispatched: &mut
         return;
     }
     let mut state = to_state(t);
-    let named = reference::Pair { receiver: named.receiver, owner: named.owner };
+    let named = numbered(named);
     let reference::Dispatched { pair, answer: handover } = state.dispatch(named, scratch);
     dispatched.answer.refusal = RefusalNumber(handover.refusal);
     if pair != reference::Pair::default() {
         store(&state, t);
         dispatched.pair = Pair { receiver: pair.receiver, owner: pair.owner };
         tell(&handover, &mut dispatched.answer);
+    }
+}
+
+/// An ask: question 4 first. The table stays as it is.
+pub fn ask(t: &mut Table, pair: Pair, scratch: &mut [u8], shown: &mut AskAnswer) {
+    *shown = AskAnswer::BLANK;
+    let asked = if well_formed(t) { to_state(t).ask(numbered(pair), scratch) } else { Err(4) };
+    match asked {
+        Ok(Preview { set, acts }) => {
+            (shown.acts, shown.size) = (acts, set.len());
+            put_names(&set, &mut shown.names);
+        }
+        Err(refusal) => shown.refusal = RefusalNumber(refusal),
+    }
+}
+
+/// A commit: question 4 first. A refused one leaves every byte of the table.
+pub fn commit(t: &mut Table, pair: Pair, acts: usize, scratch: &mut [u8], answer: &mut Answer) {
+    *answer = Answer::BLANK;
+    if !well_formed(t) {
+        answer.refusal = RefusalNumber(4);
+        return;
+    }
+    let mut state = to_state(t);
+    match state.commit(numbered(pair), acts, scratch) {
+        Ok(taken) => {
+            store(&state, t);
+            tell(&taken, answer);
+        }
+        Err(refusal) => answer.refusal = RefusalNumber(refusal),
     }
 }
 

@@ -158,7 +158,7 @@ impl State {
     }
 
     /// Lines 3 to 14: the receiver reads the next entry of the owner's log and tries to apply.
-    fn handover(&mut self, receiver: usize, owner: usize) -> BTreeSet<Name> {
+    pub(super) fn handover(&mut self, receiver: usize, owner: usize) -> BTreeSet<Name> {
         let place = self.controllers[receiver - 1].read[owner - 1] + 1;
         let name = self.controllers[owner - 1].log[place - 1];
         let r = &mut self.controllers[receiver - 1];

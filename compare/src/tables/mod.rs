@@ -13,7 +13,7 @@ use crate::generate;
 use crate::generate::random::Random;
 use crate::reference::{well_formed, Name, Raw, State, SCRATCH};
 use answers::{difference, first_difference, names, text, unpacked};
-use furnacejade::{calls, event, DispatchAnswer, FreshAnswer, Pair, RunAnswer, Table};
+use furnacejade::{calls, event, Answer, DispatchAnswer, FreshAnswer, Pair, RunAnswer, Table};
 use std::collections::BTreeSet;
 use std::process::exit;
 
@@ -60,7 +60,8 @@ impl Run {
         }
     }
 
-    /// The record of a call and the length of its scratch. That of the dispatcher is the handover that it would make.
+    /// The record of a call and the length of its scratch. That of the dispatcher or of a commit is the handover that it
+    /// would make.
     fn record(&self, call: &Call) -> Option<(Vec<u8>, usize)> {
         match call {
             Call::Event { bytes, scratch } => Some((bytes.clone(), *scratch)),
@@ -70,7 +71,13 @@ impl Run {
                 let Pair { receiver, owner } = answer.pair;
                 (answer.pair != Pair::BLANK).then(|| (handover(receiver, owner), *scratch))
             }
-            Call::Look(_) | Call::CountBefore(_) => None,
+            Call::Commit { pair, acts, scratch } => {
+                let mut answer = Answer::BLANK;
+                calls::commit(&mut self.table.clone(), *pair, *acts, &mut vec![0; *scratch], &mut answer);
+                let Pair { receiver, owner } = *pair;
+                answer.refusal.check().is_ok().then(|| (handover(receiver, owner), *scratch))
+            }
+            Call::Look(_) | Call::CountBefore(_) | Call::Ask { .. } => None,
         }
     }
 
