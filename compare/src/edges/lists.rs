@@ -69,13 +69,14 @@ struct Shown {
 
 /// The runs of docs/RULES.md that stand among the lists, each by its name there and how many handovers of the
 /// dispatcher it has.
-const OF_RULES: [(&str, usize); 6] = [
+const OF_RULES: [(&str, usize); 7] = [
     ("the worked run", 0),
     ("the run with classes", 0),
     ("the run with reports under way", 0),
     ("the run with a set point", 0),
     ("a finished report is found by another's sync, and not by its local read before", 0),
     ("the run of the dispatcher", 18),
+    ("the list with an ask and a commit", 0),
 ];
 
 fn numbers(text: &str) -> Vec<i64> {
