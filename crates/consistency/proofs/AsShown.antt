@@ -1,16 +1,16 @@
 -- What others do between an ask and its commit: the receiver stays as it is, and the entry stands as it was unless a stop cuts it away. So
 -- the handover applies the set that was shown. Assumes nothing.
 use mathlib.Core.Path.{_≡_, refl, sym, ap, _∙_}
-use mathlib.Core.Logic.{_≢_}
+use mathlib.Core.Logic.{_≢_, inl, inr}
 use mathlib.Core.Bool.{true, false}
-use mathlib.Core.List.{List, [], _∷_, _++_, append-assoc, foldl}
+use mathlib.Core.List.{List, [], _∷_, _++_, foldl}
 use Prim.Native.Nat.{ℕ, zero, suc, _+_, _-_, _≤_, _<_}
 use native.Mathlib.Omega.{arith}
 use native.Mathlib.Decide.{decLt, ℕ-discrete}
 use lib.ListN.{length, getD, take, length-append, List·getD-append}
 use lib.Seq.{length-take-le, getD-take}
 use lib.Dec.{eqb}
-use borrow.Author.Tests.{eq-eqb, ne-eqb}
+use borrow.Author.Tests.{eq-eqb}
 use Rattle.lists.specs.Below.{tally}
 use Rattle.lists.proofs.Tests.{refuted, contradiction, cond-case}
 use Rattle.model.specs.Tables.{Messages, Among, yes?, noName, at, message, messagesOf, messageIn, withController, withMessage, place, slotAt}
@@ -39,18 +39,15 @@ use Rattle.consistency.proofs.Recorded.{Recorded}
 use Rattle.consistency.proofs.Moments.{stepped, Takes, Moment, step-moment, moment-after}
 use Rattle.consistency.proofs.Places.{put-here, put-there, tally-one}
 
--- a step in which o does not act has another subject
-apart : (c o : ℕ) → tally (eqb c o) 0 ≡ 0 → o ≢ c
-apart c o q e = absurd (omega (arith, rw (e, eq-eqb c c refl) at q))
-
 -- THE ENTRY
 
 -- a step changes the log of its subject alone, and stops nobody else
-log-other : (l : Ledger) (x : Step) (o : ℕ) → actsIn o (x ∷ []) ≡ 0 → (moved l x .log o ≡ l .log o) × (moved l x .runs o ≡ l .runs o)
-unfolding moved actsIn subject
-log-other l (carried s (Send c y) ms) o q = (put-there (l .log) c _ o (apart c o q), refl)
-log-other l (carried s (Handover r d) ms) o q = (put-there (l .log) r _ o (apart r o q), refl)
-log-other l (carried s (Stop c k) ms) o q = (put-there (l .log) c _ o (apart c o q), put-there (l .runs) c _ o (apart c o q))
+log-other : (l : Ledger) (s : Said) (e : Event) (ms : List Name) (o : ℕ) → o ≢ subject e
+    → (moved l (carried s e ms) .log o ≡ l .log o) × (moved l (carried s e ms) .runs o ≡ l .runs o)
+unfolding moved subject
+log-other l s (Send c y) ms o q = (put-there (l .log) c _ o q, refl)
+log-other l s (Handover r d) ms o q = (put-there (l .log) r _ o q, refl)
+log-other l s (Stop c k) ms o q = (put-there (l .log) c _ o q, put-there (l .runs) c _ o q)
 
 -- a subject runs
 subject-runs : (t : Table) (e : Event) → firstNo (eventQuestions t e) ≡ 0 → yes? (at t (subject e) .running) ≡ true
@@ -70,39 +67,37 @@ more-stands xs m i h = (omega (arith, h, length-append xs (m ∷ [])), List·get
 
 module _ {n : ℕ} {t : Table} {l : Ledger} (p : Recorded n t l) (o : ℕ) (h : Among n o) (i : ℕ) where
   own-step : (s : Said) (e : Event) (ms : List Name) → Takes t (carried s e ms) → o ≡ subject e → i < length (l .log o)
-      → Fate l (moved l (carried s e ms)) (carried s e ms ∷ []) o i
-  unfolding moved Takes subject
-  own-step s (Send c y) ms a q k =
+      → (xs : List Step) → Fate l (moved l (carried s e ms)) (carried s e ms ∷ xs) o i
+  unfolding moved Takes subject CutAway
+  own-step s (Send c y) ms a q k xs =
       let b = more-stands (l .log c) (name c (length (l .log c) + 1)) i (rw q at k) in
       rw q (stands (rw (put-here (l .log) c _) (b .0)) (rw (put-here (l .log) c _) (b .1)))
-  own-step s (Handover r d) ms a q k =
+  own-step s (Handover r d) ms a q k xs =
       let m = getD (l .log d) (l .place r d) noName in
       let b = cond-case (λ (ys : List Name). (i < length ys) × (getD ys i noName ≡ getD (l .log r) i noName)) (has m (l .log r)) (l .log r) _
       (λ _. (rw q at k, refl)) (λ _. more-stands (l .log r) m i (rw q at k)) in
       rw q (stands (rw (put-here (l .log) r _) (b .0)) (rw (put-here (l .log) r _) (b .1)))
-  own-step s (Stop c j) ms a q k =
+  own-step s (Stop c j) ms a q k xs =
       let w = stop-allowed t c j (a .asked) .within in
       let size : length (take j (l .log c)) ≡ j = length-take-le j (l .log c) (omega (arith, w, ap length (p .logs c (rw q at h)), length-log t (at t c))) in
       rw q (elim (decLt i j) [
         | yes u ↦ stands (rw (put-here (l .log) c _) (omega (arith, u, size))) (rw (put-here (l .log) c _) (getD-take j (l .log c) i noName u))
-        | no u ↦ gone (record { before = []; after = []; said = s; kept = j; set = ms; stop = refl; few = omega (arith, u) })
-            (rw (put-here (l .log) c _) (omega (arith, u, size))) (put-here (l .runs) c false)
+        | no u ↦ gone (inl (refl, omega (arith, u))) (rw (put-here (l .log) c _) (omega (arith, u, size))) (put-here (l .runs) c false)
       ])
 
   -- after a step
-  step-fate : (x : Step) → Takes t x → i < length (l .log o) → Fate l (moved l x) (x ∷ []) o i
-  unfolding actsIn
-  step-fate (carried s e ms) a k = elim (ℕ-discrete o (subject e)) [
-    | yes q ↦ own-step s e ms a q k
-    | no q ↦ let b = log-other l (carried s e ms) o (rw (ne-eqb (subject e) o (λ z. q (sym z))) refl) in stands (rw (b .0) k) (rw (b .0) refl)
+  step-fate : (x : Step) → Takes t x → i < length (l .log o) → (xs : List Step) → Fate l (moved l x) (x ∷ xs) o i
+  step-fate (carried s e ms) a k xs = elim (ℕ-discrete o (subject e)) [
+    | yes q ↦ own-step s e ms a q k xs
+    | no q ↦ let b = log-other l s e ms o q in stands (rw (b .0) k) (rw (b .0) refl)
   ]
 
   -- what is gone stays gone
   step-gone : (x : Step) → Takes t x → length (l .log o) ≤ i → l .runs o ≡ false → (length (moved l x .log o) ≤ i) × (moved l x .runs o ≡ false)
-  unfolding actsIn Takes
+  unfolding Takes
   step-gone (carried s e ms) a k r = elim (ℕ-discrete o (subject e)) [
     | yes q ↦ contradiction (subject-runs t e (a .asked)) (rw q at (sym (p .runs o h) ∙ r))
-    | no q ↦ let b = log-other l (carried s e ms) o (rw (ne-eqb (subject e) o (λ z. q (sym z))) refl) in (rw (b .0) k, rw (b .1) r)
+    | no q ↦ let b = log-other l s e ms o q in (rw (b .0) k, rw (b .1) r)
   ]
 
 course-gone : {n : ℕ} {s₀ : State} {t : Table} {l : Ledger} → Moment n s₀ t l → (xs : List Step) (u : Table) → Course stepped Takes t xs u → (o : ℕ) → Among n o → (i : ℕ)
@@ -113,23 +108,23 @@ course-gone m (x ∷ xs) u c o h i k r =
     let b = step-gone (m .recorded) o h i x (c .0) k r in
     course-gone (step-moment m x (c .0)) xs u (c .1) o h i (b .0) (b .1)
 
+cut-later : (x : Step) (xs : List Step) (o i : ℕ) → CutAway xs o i → CutAway (x ∷ xs) o i
+unfolding CutAway
+cut-later (carried s (Send c y) ms) xs o i z = z
+cut-later (carried s (Handover r d) ms) xs o i z = z
+cut-later (carried s (Stop c k) ms) xs o i z = inr z
+
 fate : {n : ℕ} {s₀ : State} {t : Table} {l : Ledger} → Moment n s₀ t l → (xs : List Step) (u : Table) → Course stepped Takes t xs u → (o : ℕ) → Among n o → (i : ℕ)
     → i < length (l .log o) → Fate l (foldl moved l xs) xs o i
 unfolding Course
 fate m [] u c o h i k = stands k refl
-fate m (x ∷ xs) u c o h i k = elim (step-fate (m .recorded) o h i x (c .0) k) [
-  | gone z s r ↦ let b = course-gone (step-moment m x (c .0)) xs u (c .1) o h i s r in gone (cut-by z) (b .0) (b .1)
+fate m (x ∷ xs) u c o h i k = elim (step-fate (m .recorded) o h i x (c .0) k xs) [
+  | gone z s r ↦ let b = course-gone (step-moment m x (c .0)) xs u (c .1) o h i s r in gone z (b .0) (b .1)
   | stands s e ↦ elim (fate (step-moment m x (c .0)) xs u (c .1) o h i s) [
     | stands s′ e′ ↦ stands s′ (e′ ∙ e)
-    | gone z s r ↦ gone (cut-later z) s r
+    | gone z s r ↦ gone (cut-later x xs o i z) s r
   ]
 ]
-  where
-    cut-by : CutAway (x ∷ []) o i → CutAway (x ∷ xs) o i
-    cut-by z = record { before = z .before; after = z .after ++ xs; said = z .said; kept = z .kept; set = z .set; stop = ap (λ ys. ys ++ xs) (z .stop) ∙ append-assoc (z .before) _ xs; few = z .few }
-
-    cut-later : CutAway xs o i → CutAway (x ∷ xs) o i
-    cut-later z = record { before = x ∷ z .before; after = z .after; said = z .said; kept = z .kept; set = z .set; stop = ap (λ ys. x ∷ ys) (z .stop); few = z .few }
 
 -- THE RECEIVER AND THE MESSAGES
 
@@ -156,7 +151,7 @@ others-leave {n} {t = t} m (carried s e ms ∷ xs) u c r h q =
     let g : Among (t .n) r = rw (m .recorded .size) h in
     let d = next-messages t e in
     record {
-      same = b .same ∙ next-other t e r (seated (f .few) (subject-allowed t e (c .0 .asked))) (seated (f .few) g) (apart (subject e) r (omega (arith, q, z)));
+      same = b .same ∙ next-other t e r (seated (f .few) (subject-allowed t e (c .0 .asked))) (seated (f .few) g) (λ d. omega (arith, q, z, ap (λ b. tally b 0) (eq-eqb (subject e) r (sym d))));
       fewer = omega (arith, b .fewer, d .0);
       messages = λ j k. b .messages j (omega (arith, k, d .0)) ∙ d .1 j k;
     }

@@ -1,8 +1,9 @@
 -- What is read of handovers, of a controller's acts and of the dispatcher from a part of a list (RULES.md, sections 20, 30 and 31).
 use Prim.Native.Nat.{ℕ, _≤_}
 use mathlib.Core.Path.{_≡_}
+use mathlib.Core.Logic.{_⊎_}
 use mathlib.Core.Bool.{Bool, true, false, not, _&&_, cond}
-use mathlib.Core.List.{List, [], _∷_, _++_, flatMap}
+use mathlib.Core.List.{List, [], _∷_, flatMap}
 use lib.ListN.{length}
 use lib.Dec.{eqb, leb}
 use Rattle.lists.specs.Below.{tally}
@@ -10,11 +11,10 @@ use Rattle.model.specs.Tables.{scratchSize}
 use Rattle.model.specs.Events.{subject}
 use Rattle.model.specs.Fair.{named}
 use Rattle.turns.specs.Dispatcher.{Dispatched, saysNone}
-use Rattle.model.specs.declared.Name.{Name}
 use Rattle.model.specs.declared.Pair.{Pair}
 use Rattle.model.specs.declared.Event.{Event}
 use Rattle.model.specs.declared.Event.the-variants.{Send, Handover, Stop}
-use Rattle.consistency.specs.Entries.{dispatching, committing, Entry, answered, observed, served, handed, listed, Said, Step, carried}
+use Rattle.consistency.specs.Entries.{dispatching, committing, Entry, answered, observed, served, handed, listed, Step, carried}
 
 -- STEPS
 
@@ -43,15 +43,12 @@ unfoldable pub actsIn : ℕ → List Step → ℕ
 actsIn c [] = 0
 actsIn c (carried r e ms ∷ xs) = tally (eqb (subject e) c) (actsIn c xs)
 
--- the log of o is cut to no more than k entries
-pub record CutAway (xs : List Step) (o k : ℕ) : Type 0 where
-  pub before : List Step
-  pub after : List Step
-  pub said : Said
-  pub kept : ℕ
-  pub set : List Name
-  pub stop : xs ≡ before ++ (carried said (Stop o kept) set ∷ after)
-  pub few : kept ≤ k
+-- a stop cuts the log of o to no more than k entries
+unfoldable pub CutAway : List Step → ℕ → ℕ → Type 0
+CutAway [] o k = ⊥
+CutAway (carried r (Send c p) ms ∷ xs) o k = CutAway xs o k
+CutAway (carried r (Handover c d) ms ∷ xs) o k = CutAway xs o k
+CutAway (carried r (Stop c j) ms ∷ xs) o k = ((c ≡ o) × (j ≤ k)) ⊎ CutAway xs o k
 
 -- THE DISPATCHER'S HANDOVERS
 
