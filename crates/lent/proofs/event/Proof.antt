@@ -1,4 +1,4 @@
--- `event` meets its contract: a walk of its MIR, by hand. The table is copied out of its borrow and handed to the by-value `event` with the bytes and the scratch area, which is given up for good; the table that comes back is stored if bytes were used, the answer always, and `rest` makes the part that is handed back.
+-- `event` meets its contract: a walk of its MIR, by hand. The table is copied out of its borrow and handed to the by-value `event` with the bytes and the scratch area, which is given up for good; the answer that comes back is stored, then the table if bytes were used, and `rest` makes the part that is handed back.
 -- All that the proof knows of the two callees is that each meets its contract.
 -- Assumes nothing.
 use Rattle.walks.proofs.Walk.{_≡_, refl, ap, ℕ, [], _∷_, List, length, dropped, nltb→le, URA, named, w64, Val, vint, SProp, ent, id⊢, Lft, Share, Fml, ftrue, flft, Memory, Routine, Heap, Calls, Loops, WpFn, Atoms, Fun, givenOf, tables, Given, Item, ‵, raw, _⊛_, ⋆, _$_, _∵_, !, qed, by, move, drop, use1, split, join, fsplit, fsplit3, fjoin, fjoin3, feqI, suffices, frame, done, look, look-raw, init, store-raw, stop, hop, fld, from, load, lit, addr, of-opd, bin, and-then, no-more, assigns, land, returns, enter, alloc1, alloc0, params1, pass1, pass0, free0, agg, whole, sub, look-in, FmC, owns, Is, shows, uint-makes, u8, usize, RefT, MutRef, ptr-vals, mut-tells, slice-vals, MutSlice, ShrSlice, finally, mut-slice-tells, shr-slice-tells, mut-slice-lawful, shr-slice-lawful, shr-slice-copy, owned, peeks, heard, nothing, onEntry, tripleOf, Contract, Triple, calls-at, cited, says, Stays, stay-ref, stay-dropped, gave-slice, walkOf, goes-ref, goes-dropped, goes-gave-slice, ends-at, yes, Slot, plain, shrSliceOf, ptrOf, sliceOf, lent, opened, closed, as-long, answered, told, assigns-if, freed, asks, proves}
@@ -71,7 +71,7 @@ module _ {M : Type 1} (𝓤 : URA M) (H : Heap 𝓤) (A : Atoms 𝓤) (W : Given
 
   -- what is held when the function returns
   abbrev Left : Stepped → List ℕ → RefT (List ℕ) → Val → List (Item 𝓤)
-  Left r zs p v = ‵ (ShrSlice (named 1) κa u8 .own p (v ∷ [])) ∷ (‵ (flft κa qa) ⊛ ‵ ftrue) ∷ ‵ (flft κs qs) ∷ lent N.the-row κo qo w (r .answer) (lent T.the-row κt qt t (r .table) (‵ (finally u8 (z .name) zs) ∷ []))
+  Left r zs p v = ‵ (ShrSlice (named 1) κa u8 .own p (v ∷ [])) ∷ (‵ (flft κa qa) ⊛ ‵ ftrue) ∷ ‵ (flft κs qs) ∷ lent T.the-row κt qt t (r .table) (lent N.the-row κo qo w (r .answer) (‵ (finally u8 (z .name) zs) ∷ []))
 
   exits : (r : Stepped) (zs : List ℕ) (p : RefT (List ℕ)) (v : Val) → Steps (t .now) (s .now) (z .now) r zs → p .now ≡ dropped (r .used) (s .now) → length zs ≡ length (z .now)
       → ent 𝓤 (⋆ 𝓤 H A (Left r zs p v)) (Post v)
@@ -80,9 +80,9 @@ module _ {M : Type 1} (𝓤 : URA M) (H : Heap 𝓤) (A : Atoms 𝓤) (W : Given
       suffices ! _ (ends-at 𝓤 H A f.ended stayed (f.clauses 𝓤 H A at-mem run) W bound v p (r .table, (tt, (zs, (r .answer, tt)))) (tt, (tt, (el, (tt, tt))))) $
       says ! (called (t .now) (s .now) (z .now) r zs (p .now) e ep) $
       -- the tokens
-      move ! (1 ∷ []) $ split ! $ move ! (6 ∷ 1 ∷ []) $ join ! $ move ! (3 ∷ 0 ∷ []) $ join ! $ move ! (1 ∷ 0 ∷ []) $ join ! $ move ! (6 ∷ 0 ∷ []) $ join ! $ frame ! $
+      move ! (1 ∷ []) $ split ! $ move ! (9 ∷ 1 ∷ []) $ join ! $ move ! (3 ∷ 0 ∷ []) $ join ! $ move ! (1 ∷ 0 ∷ []) $ join ! $ move ! (4 ∷ 0 ∷ []) $ join ! $ frame ! $
       -- what is had of each parameter, from the last one on, and the result
-      nothing ! $ move ! (2 ∷ 3 ∷ []) $ feqI ! (List Val) (ptrOf w ∷ []) (ptrOf w ∷ []) refl $ fjoin3 ! $ fjoin ! $ move ! (4 ∷ 0 ∷ []) $ fjoin ! $ nothing ! $ fjoin ! $
+      nothing ! $ move ! (4 ∷ 5 ∷ []) $ feqI ! (List Val) (ptrOf w ∷ []) (ptrOf w ∷ []) refl $ fjoin3 ! $ fjoin ! $ move ! (4 ∷ 0 ∷ []) $ fjoin ! $ nothing ! $ fjoin ! $
       move ! (2 ∷ 3 ∷ []) $ feqI ! (List Val) (ptrOf t ∷ []) (ptrOf t ∷ []) refl $ fjoin3 ! $ fjoin ! $ done !
 
   -- what is known of the fields of what the by-value `event` returned
@@ -117,18 +117,17 @@ module _ {M : Type 1} (𝓤 : URA M) (H : Heap 𝓤) (A : Atoms 𝓤) (W : Given
         calls-at ! fm (Step 𝓤 H A at-mem run) known-step to-step (and-then ! (load ! (from ! (stop !)) (look ! 11 refl)) (and-then ! (load ! (from ! (stop !)) (look ! 19 refl)) (and-then ! (load ! (from ! (stop !)) (look ! 7 refl)) (no-more !)))) (λ u.
         answered ! tt step.ended (step.clauses 𝓤 H A at-mem run) to-step u (λ r ws. heard ! (Steps (t .now) (s .now) (z .now) r (ws .1 .1 .0)) (λ e.
         fsplit ! $ drop ! $ fsplit ! $ drop ! $ fsplit ! $ as-long ! (λ el. move ! (1 ∷ []) $ drop ! $ move ! (1 ∷ []) $ told ! S.the-row (LL.val S.the-type S′.the-laws) (LL.tells S.the-type S′.the-laws) r u (λ is.
-        -- [the last scratch; the tokens of 'a and 's; the table's cell, open borrow, obs and auth; room for _9; …; _8; …]
+        -- [the last scratch; the tokens of 'a and 's; the table's cell, open borrow, obs and auth; room for _9; …; _8; …; the answer's obs, borrow and token; bytes]
         land ! (from ! (stop !)) (init ! 14 refl (LL.lawful S.the-type S′.the-laws 𝓤 H A W .typed r _ is .0)) $
-        -- the table is stored if bytes were used, and is the same if none were
-        assigns ! (bin ! (lit ! tt) (load ! (from ! (fld ! refl (stop !))) (look-in ! 14 (sub ! 1 refl (whole !)))) tt) (from ! (stop !)) (init ! 6 refl (tt, tt)) $
-        assigns-if ! 2 (load ! (from ! (stop !)) (look ! 6 refl)) (of-opd ! (load ! (from ! (fld ! refl (stop !))) (look-in ! 14 (sub ! 2 refl (whole !))))) (from ! (hop ! (look ! 22 refl) (stop !))) refl (LL.lawful T.the-type T′.the-laws 𝓤 H A W .typed (r .table) _ (fields r is .1 .1 .0) .0)
-        (λ unused. ap (LL.val T.the-type T′.the-laws) (unused-same (t .now) (s .now) (z .now) r (ws .1 .1 .0) e (nltb→le 0 (r .used) unused))) $
-        move ! (2 ∷ 3 ∷ 4 ∷ 5 ∷ []) $ closed ! tt T.the-type T′.the-laws T′.the-plain (r .table) (fields r is .1 .1 .0) (t .ptr .0) (t .ptr .1) $
-        -- [the table's obs, borrow and token; the last scratch; the tokens of 'a and 's; _9; …; the answer's three; bytes]
-        move ! (25 ∷ 26 ∷ 27 ∷ []) $ opened ! tt N.the-type N′.the-laws (w .now) (w .ptr .0) (w .ptr .1) (λ _.
-        assigns ! (of-opd ! (load ! (from ! (fld ! refl (stop !))) (look-in ! 17 (sub ! 0 refl (whole !))))) (from ! (hop ! (look ! 19 refl) (stop !))) (store-raw ! 0 refl (LL.lawful N.the-type N′.the-laws 𝓤 H A W .typed (r .answer) _ (fields r is .0) .0)) $
+        move ! (26 ∷ 27 ∷ 28 ∷ []) $ opened ! tt N.the-type N′.the-laws (w .now) (w .ptr .0) (w .ptr .1) (λ _.
+        assigns ! (of-opd ! (load ! (from ! (fld ! refl (stop !))) (look-in ! 18 (sub ! 0 refl (whole !))))) (from ! (hop ! (look ! 20 refl) (stop !))) (store-raw ! 0 refl (LL.lawful N.the-type N′.the-laws 𝓤 H A W .typed (r .answer) _ (fields r is .0) .0)) $
         closed ! tt N.the-type N′.the-laws N′.the-plain (r .answer) (fields r is .0) (w .ptr .0) (w .ptr .1) $
-        -- `rest`: [the answer's three; the table's; the last scratch; the tokens of 'a and 's; _9; …; bytes]
+        -- [the answer's three; the last scratch; the tokens of 'a and 's; the table's four; room for _9; …; _8; …; bytes]: the table is stored if bytes were used, and is the same if none were
+        assigns ! (bin ! (lit ! tt) (load ! (from ! (fld ! refl (stop !))) (look-in ! 17 (sub ! 1 refl (whole !)))) tt) (from ! (stop !)) (init ! 9 refl (tt, tt)) $
+        assigns-if ! 5 (load ! (from ! (stop !)) (look ! 9 refl)) (of-opd ! (load ! (from ! (fld ! refl (stop !))) (look-in ! 17 (sub ! 2 refl (whole !))))) (from ! (hop ! (look ! 25 refl) (stop !))) refl (LL.lawful T.the-type T′.the-laws 𝓤 H A W .typed (r .table) _ (fields r is .1 .1 .0) .0)
+        (λ unused. ap (LL.val T.the-type T′.the-laws) (unused-same (t .now) (s .now) (z .now) r (ws .1 .1 .0) e (nltb→le 0 (r .used) unused))) $
+        move ! (5 ∷ 6 ∷ 7 ∷ 8 ∷ []) $ closed ! tt T.the-type T′.the-laws T′.the-plain (r .table) (fields r is .1 .1 .0) (t .ptr .0) (t .ptr .1) $
+        -- `rest`: [the table's three; the answer's; the last scratch; the tokens of 'a and 's; _9; …; bytes]
         move ! (7 ∷ []) $ use1 W (‵ (flft κa qa) ⊛ ‵ (flft κs qs) ⊛ ‵ ftrue) (id⊢ 𝓤 _) $ split ! $ move ! (1 ∷ []) $ split ! $ move ! (2 ∷ 1 ∷ []) $ join ! $
         nothing ! $ owned ! usize (Is usize) (uint-makes 𝓤 H A W w64) (r .used) _ (fields r is .1 .0) $ fjoin ! $ move ! (30 ∷ 0 ∷ []) $ fjoin ! $ move ! (1 ∷ 0 ∷ []) $ join ! $ use1 W (raw (Rest 𝓤 H A at-mem run .pre (to-rest (r .used)))) (asks 𝓤 _) $
         calls-at ! fm (Rest 𝓤 H A at-mem run) known-rest (to-rest (r .used)) (and-then ! (load ! (from ! (stop !)) (look ! 23 refl)) (and-then ! (load ! (from ! (fld ! refl (stop !))) (look-in ! 17 (sub ! 1 refl (whole !)))) (no-more !))) (λ v.
