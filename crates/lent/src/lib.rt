@@ -1,4 +1,4 @@
-// The event call on a table that is lent: the table goes by value to the function that answers it, and what comes back is stored.
+// The event call on a table that is lent: the table goes by value to the function that answers it. The answer that comes back is stored, and then the table if bytes were used. A refused event uses none and leaves the table, so its table is not copied back.
 ghost use Rattle.lent.specs.Called.{Called};
 
 // One event, of the record with which the bytes begin. The result is the part of the caller's bytes that is unread.
@@ -11,7 +11,9 @@ pub fn event<'t, 'a, 's, 'o>(
     ensures { λ r. ⌜ Called (now (t .entry)) (now (bytes .entry)) (now (scratch .entry)) (now (t .exit)) (now (answer .exit)) (now r) (now (scratch .exit)) ⌝ }
 {
     let s = events::event(*t, bytes, scratch);
-    *t = s.table;
     *answer = s.answer;
+    if 0 < s.used {
+        *t = s.table;
+    }
     records::rest(bytes, s.used)
 }

@@ -1,10 +1,10 @@
--- `event` meets its contract: a walk of its MIR, by hand. The table is copied out of its borrow and handed to the by-value `event` with the bytes and the scratch area, which is given up for good; the table and the answer that come back are stored, and `rest` makes the part that is handed back.
+-- `event` meets its contract: a walk of its MIR, by hand. The table is copied out of its borrow and handed to the by-value `event` with the bytes and the scratch area, which is given up for good; the answer that comes back is stored, then the table if bytes were used, and `rest` makes the part that is handed back.
 -- All that the proof knows of the two callees is that each meets its contract.
 -- Assumes nothing.
-use Rattle.walks.proofs.Walk.{_≡_, refl, ℕ, [], _∷_, List, length, dropped, URA, named, w64, Val, vint, SProp, ent, id⊢, Lft, Share, Fml, ftrue, flft, Memory, Routine, Heap, Calls, Loops, WpFn, Atoms, Fun, givenOf, tables, Given, Item, ‵, raw, _⊛_, ⋆, _$_, _∵_, !, qed, by, move, drop, use1, split, join, fsplit, fsplit3, fjoin, fjoin3, feqI, suffices, frame, done, look, look-raw, init, store-raw, stop, hop, fld, from, load, addr, of-opd, and-then, no-more, assigns, land, returns, enter, alloc1, alloc0, params1, pass1, pass0, free0, agg, whole, sub, look-in, FmC, owns, Is, shows, uint-makes, u8, usize, RefT, MutRef, ptr-vals, mut-tells, slice-vals, MutSlice, ShrSlice, finally, mut-slice-tells, shr-slice-tells, mut-slice-lawful, shr-slice-lawful, shr-slice-copy, owned, peeks, heard, nothing, onEntry, tripleOf, Contract, Triple, calls-at, cited, says, Stays, stay-ref, stay-dropped, gave-slice, walkOf, goes-ref, goes-dropped, goes-gave-slice, ends-at, yes, Slot, plain, shrSliceOf, ptrOf, sliceOf, lent, opened, closed, as-long, answered, told, freed, asks, proves}
+use Rattle.walks.proofs.Walk.{_≡_, refl, ap, ℕ, [], _∷_, List, length, dropped, nltb→le, URA, named, w64, Val, vint, SProp, ent, id⊢, Lft, Share, Fml, ftrue, flft, Memory, Routine, Heap, Calls, Loops, WpFn, Atoms, Fun, givenOf, tables, Given, Item, ‵, raw, _⊛_, ⋆, _$_, _∵_, !, qed, by, move, drop, use1, split, join, fsplit, fsplit3, fjoin, fjoin3, feqI, suffices, frame, done, look, look-raw, init, store-raw, stop, hop, fld, from, load, lit, addr, of-opd, bin, and-then, no-more, assigns, land, returns, enter, alloc1, alloc0, params1, pass1, pass0, free0, agg, whole, sub, look-in, FmC, owns, Is, shows, uint-makes, u8, usize, RefT, MutRef, ptr-vals, mut-tells, slice-vals, MutSlice, ShrSlice, finally, mut-slice-tells, shr-slice-tells, mut-slice-lawful, shr-slice-lawful, shr-slice-copy, owned, peeks, heard, nothing, onEntry, tripleOf, Contract, Triple, calls-at, cited, says, Stays, stay-ref, stay-dropped, gave-slice, walkOf, goes-ref, goes-dropped, goes-gave-slice, ends-at, yes, Slot, plain, shrSliceOf, ptrOf, sliceOf, lent, opened, closed, as-long, answered, told, assigns-if, freed, asks, proves}
 use denote.Struct.Laws as LL
 use Rattle.events.specs.Stepped.{Steps}
-use Rattle.lent.proofs.Outcomes.{called}
+use Rattle.lent.proofs.Outcomes.{called, unused-same}
 use Rattle.events.specs.declared.Stepped.{Stepped}
 use Rattle.model.specs.declared.Table.{Table}
 use Rattle.model.specs.declared.Answer.{Answer}
@@ -71,7 +71,7 @@ module _ {M : Type 1} (𝓤 : URA M) (H : Heap 𝓤) (A : Atoms 𝓤) (W : Given
 
   -- what is held when the function returns
   abbrev Left : Stepped → List ℕ → RefT (List ℕ) → Val → List (Item 𝓤)
-  Left r zs p v = ‵ (ShrSlice (named 1) κa u8 .own p (v ∷ [])) ∷ (‵ (flft κa qa) ⊛ ‵ ftrue) ∷ ‵ (flft κs qs) ∷ lent N.the-row κo qo w (r .answer) (lent T.the-row κt qt t (r .table) (‵ (finally u8 (z .name) zs) ∷ []))
+  Left r zs p v = ‵ (ShrSlice (named 1) κa u8 .own p (v ∷ [])) ∷ (‵ (flft κa qa) ⊛ ‵ ftrue) ∷ ‵ (flft κs qs) ∷ lent T.the-row κt qt t (r .table) (lent N.the-row κo qo w (r .answer) (‵ (finally u8 (z .name) zs) ∷ []))
 
   exits : (r : Stepped) (zs : List ℕ) (p : RefT (List ℕ)) (v : Val) → Steps (t .now) (s .now) (z .now) r zs → p .now ≡ dropped (r .used) (s .now) → length zs ≡ length (z .now)
       → ent 𝓤 (⋆ 𝓤 H A (Left r zs p v)) (Post v)
@@ -80,9 +80,9 @@ module _ {M : Type 1} (𝓤 : URA M) (H : Heap 𝓤) (A : Atoms 𝓤) (W : Given
       suffices ! _ (ends-at 𝓤 H A f.ended stayed (f.clauses 𝓤 H A at-mem run) W bound v p (r .table, (tt, (zs, (r .answer, tt)))) (tt, (tt, (el, (tt, tt))))) $
       says ! (called (t .now) (s .now) (z .now) r zs (p .now) e ep) $
       -- the tokens
-      move ! (1 ∷ []) $ split ! $ move ! (6 ∷ 1 ∷ []) $ join ! $ move ! (3 ∷ 0 ∷ []) $ join ! $ move ! (1 ∷ 0 ∷ []) $ join ! $ move ! (6 ∷ 0 ∷ []) $ join ! $ frame ! $
+      move ! (1 ∷ []) $ split ! $ move ! (9 ∷ 1 ∷ []) $ join ! $ move ! (3 ∷ 0 ∷ []) $ join ! $ move ! (1 ∷ 0 ∷ []) $ join ! $ move ! (4 ∷ 0 ∷ []) $ join ! $ frame ! $
       -- what is had of each parameter, from the last one on, and the result
-      nothing ! $ move ! (2 ∷ 3 ∷ []) $ feqI ! (List Val) (ptrOf w ∷ []) (ptrOf w ∷ []) refl $ fjoin3 ! $ fjoin ! $ move ! (4 ∷ 0 ∷ []) $ fjoin ! $ nothing ! $ fjoin ! $
+      nothing ! $ move ! (4 ∷ 5 ∷ []) $ feqI ! (List Val) (ptrOf w ∷ []) (ptrOf w ∷ []) refl $ fjoin3 ! $ fjoin ! $ move ! (4 ∷ 0 ∷ []) $ fjoin ! $ nothing ! $ fjoin ! $
       move ! (2 ∷ 3 ∷ []) $ feqI ! (List Val) (ptrOf t ∷ []) (ptrOf t ∷ []) refl $ fjoin3 ! $ fjoin ! $ done !
 
   -- what is known of the fields of what the by-value `event` returned
@@ -105,35 +105,37 @@ module _ {M : Type 1} (𝓤 : URA M) (H : Heap 𝓤) (A : Atoms 𝓤) (W : Given
         -- [the answer's obs and borrow; true; scratch; bytes, twice; the table's obs and borrow; the token of 'o; true; those of 's, 'a and 't]: what the by-value `event` asks beside the table is put together
         move ! (3 ∷ 2 ∷ []) $ fjoin ! $ move ! (3 ∷ 0 ∷ []) $ fjoin ! $ move ! (8 ∷ 7 ∷ []) $ join ! $ move ! (8 ∷ 0 ∷ []) $ join ! $ move ! (5 ∷ 6 ∷ 8 ∷ 2 ∷ 3 ∷ 7 ∷ 4 ∷ []) $
         enter ! C Λ code.function (ptrOf t ∷ sliceOf s ∷ sliceOf z ∷ ptrOf w ∷ []) _ $
-        alloc1 ! (λ l₀. alloc1 ! (λ l₁. alloc1 ! (λ l₂. alloc1 ! (λ l₃. alloc1 ! (λ l₄. alloc1 ! (λ l₅. alloc1 ! (λ l₆. alloc1 ! (λ l₇. alloc1 ! (λ l₈. alloc0 ! $ params1 ! $
-        pass1 ! (init ! 14 refl (tt, tt)) $ pass1 ! (init ! 12 refl (shr-slice-lawful 𝓤 H A W (named 1) κa u8 .typed s (sliceOf s ∷ []) ps .0)) $ pass1 ! (init ! 10 refl (mut-slice-lawful 𝓤 H A W (named 2) κs u8 .typed z (sliceOf z ∷ []) pz .0)) $ pass1 ! (init ! 8 refl (tt, tt)) $ pass0 ! $
-        -- [room for _8; …; room for _7; …; room for _6; …; room for _5; …; _4; …; _3; …; _2; …; _1; …; room for _0; …; the table's obs, borrow and token; the answer's; bytes; the tokens of 'a and 's; bytes and scratch]
-        move ! (18 ∷ 19 ∷ 20 ∷ []) $ opened ! tt T.the-type T′.the-laws (t .now) (t .ptr .0) (t .ptr .1) (λ was.
-        assigns ! (of-opd ! (load ! (from ! (hop ! (look ! 18 refl) (stop !))) (look-raw ! 0 refl))) (from ! (stop !)) (init ! 8 refl (LL.lawful T.the-type T′.the-laws 𝓤 H A W .typed (t .now) _ was .0)) $
-        assigns ! (addr ! (from ! (fld ! refl (hop ! (look-in ! 14 (sub ! 0 refl (whole !))) (stop !))))) (from ! (stop !)) (init ! 6 refl (tt, tt)) $
-        assigns ! (agg ! (and-then ! (load ! (from ! (stop !)) (look ! 6 refl)) (and-then ! (load ! (from ! (fld ! refl (stop !))) (look-in ! 14 (sub ! 1 refl (whole !)))) (no-more !)))) (from ! (stop !)) (init ! 4 refl (tt, (tt, (record { fits = pz .0 .1 .0 }, tt)))) $
+        alloc1 ! (λ l₀. alloc1 ! (λ l₁. alloc1 ! (λ l₂. alloc1 ! (λ l₃. alloc1 ! (λ l₄. alloc1 ! (λ l₅. alloc1 ! (λ l₆. alloc1 ! (λ l₇. alloc1 ! (λ l₈. alloc1 ! (λ l₉. alloc0 ! $ params1 ! $
+        pass1 ! (init ! 16 refl (tt, tt)) $ pass1 ! (init ! 14 refl (shr-slice-lawful 𝓤 H A W (named 1) κa u8 .typed s (sliceOf s ∷ []) ps .0)) $ pass1 ! (init ! 12 refl (mut-slice-lawful 𝓤 H A W (named 2) κs u8 .typed z (sliceOf z ∷ []) pz .0)) $ pass1 ! (init ! 10 refl (tt, tt)) $ pass0 ! $
+        -- [room for _9; …; room for _8; …; room for _7; …; room for _6; …; room for _5; …; _4; …; _3; …; _2; …; _1; …; room for _0; …; the table's obs, borrow and token; the answer's; bytes; the tokens of 'a and 's; bytes and scratch]
+        move ! (20 ∷ 21 ∷ 22 ∷ []) $ opened ! tt T.the-type T′.the-laws (t .now) (t .ptr .0) (t .ptr .1) (λ was.
+        assigns ! (of-opd ! (load ! (from ! (hop ! (look ! 20 refl) (stop !))) (look-raw ! 0 refl))) (from ! (stop !)) (init ! 10 refl (LL.lawful T.the-type T′.the-laws 𝓤 H A W .typed (t .now) _ was .0)) $
+        assigns ! (addr ! (from ! (fld ! refl (hop ! (look-in ! 16 (sub ! 0 refl (whole !))) (stop !))))) (from ! (stop !)) (init ! 8 refl (tt, tt)) $
+        assigns ! (agg ! (and-then ! (load ! (from ! (stop !)) (look ! 8 refl)) (and-then ! (load ! (from ! (fld ! refl (stop !))) (look-in ! 16 (sub ! 1 refl (whole !)))) (no-more !)))) (from ! (stop !)) (init ! 6 refl (tt, (tt, (record { fits = pz .0 .1 .0 }, tt)))) $
         -- the by-value `event`
-        move ! (27 ∷ []) $ owned ! T.the-row (Is T.the-row) (LL.makes T.the-type T′.the-plain 𝓤 H A) (t .now) _ was $ fjoin ! $ move ! (27 ∷ 0 ∷ []) $ join ! $ use1 W (raw (Step 𝓤 H A at-mem run .pre to-step)) (asks 𝓤 _) $
-        calls-at ! fm (Step 𝓤 H A at-mem run) known-step to-step (and-then ! (load ! (from ! (stop !)) (look ! 9 refl)) (and-then ! (load ! (from ! (stop !)) (look ! 17 refl)) (and-then ! (load ! (from ! (stop !)) (look ! 5 refl)) (no-more !)))) (λ u.
+        move ! (29 ∷ []) $ owned ! T.the-row (Is T.the-row) (LL.makes T.the-type T′.the-plain 𝓤 H A) (t .now) _ was $ fjoin ! $ move ! (29 ∷ 0 ∷ []) $ join ! $ use1 W (raw (Step 𝓤 H A at-mem run .pre to-step)) (asks 𝓤 _) $
+        calls-at ! fm (Step 𝓤 H A at-mem run) known-step to-step (and-then ! (load ! (from ! (stop !)) (look ! 11 refl)) (and-then ! (load ! (from ! (stop !)) (look ! 19 refl)) (and-then ! (load ! (from ! (stop !)) (look ! 7 refl)) (no-more !)))) (λ u.
         answered ! tt step.ended (step.clauses 𝓤 H A at-mem run) to-step u (λ r ws. heard ! (Steps (t .now) (s .now) (z .now) r (ws .1 .1 .0)) (λ e.
         fsplit ! $ drop ! $ fsplit ! $ drop ! $ fsplit ! $ as-long ! (λ el. move ! (1 ∷ []) $ drop ! $ move ! (1 ∷ []) $ told ! S.the-row (LL.val S.the-type S′.the-laws) (LL.tells S.the-type S′.the-laws) r u (λ is.
-        -- [the last scratch; the tokens of 'a and 's; the table's cell, open borrow, obs and auth; _8; …]
-        land ! (from ! (stop !)) (init ! 12 refl (LL.lawful S.the-type S′.the-laws 𝓤 H A W .typed r _ is .0)) $
-        assigns ! (of-opd ! (load ! (from ! (fld ! refl (stop !))) (look-in ! 12 (sub ! 2 refl (whole !))))) (from ! (hop ! (look ! 20 refl) (stop !))) (store-raw ! 2 refl (LL.lawful T.the-type T′.the-laws 𝓤 H A W .typed (r .table) _ (fields r is .1 .1 .0) .0)) $
-        move ! (2 ∷ 3 ∷ 4 ∷ 5 ∷ []) $ closed ! tt T.the-type T′.the-laws T′.the-plain (r .table) (fields r is .1 .1 .0) (t .ptr .0) (t .ptr .1) $
-        -- [the table's obs, borrow and token; the last scratch; the tokens of 'a and 's; _8; …; the answer's three; bytes]
-        move ! (23 ∷ 24 ∷ 25 ∷ []) $ opened ! tt N.the-type N′.the-laws (w .now) (w .ptr .0) (w .ptr .1) (λ _.
-        assigns ! (of-opd ! (load ! (from ! (fld ! refl (stop !))) (look-in ! 15 (sub ! 0 refl (whole !))))) (from ! (hop ! (look ! 17 refl) (stop !))) (store-raw ! 0 refl (LL.lawful N.the-type N′.the-laws 𝓤 H A W .typed (r .answer) _ (fields r is .0) .0)) $
+        -- [the last scratch; the tokens of 'a and 's; the table's cell, open borrow, obs and auth; room for _9; …; _8; …; the answer's obs, borrow and token; bytes]
+        land ! (from ! (stop !)) (init ! 14 refl (LL.lawful S.the-type S′.the-laws 𝓤 H A W .typed r _ is .0)) $
+        move ! (26 ∷ 27 ∷ 28 ∷ []) $ opened ! tt N.the-type N′.the-laws (w .now) (w .ptr .0) (w .ptr .1) (λ _.
+        assigns ! (of-opd ! (load ! (from ! (fld ! refl (stop !))) (look-in ! 18 (sub ! 0 refl (whole !))))) (from ! (hop ! (look ! 20 refl) (stop !))) (store-raw ! 0 refl (LL.lawful N.the-type N′.the-laws 𝓤 H A W .typed (r .answer) _ (fields r is .0) .0)) $
         closed ! tt N.the-type N′.the-laws N′.the-plain (r .answer) (fields r is .0) (w .ptr .0) (w .ptr .1) $
-        -- `rest`: [the answer's three; the table's; the last scratch; the tokens of 'a and 's; _8; …; bytes]
+        -- [the answer's three; the last scratch; the tokens of 'a and 's; the table's four; room for _9; …; _8; …; bytes]: the table is stored if bytes were used, and is the same if none were
+        assigns ! (bin ! (lit ! tt) (load ! (from ! (fld ! refl (stop !))) (look-in ! 17 (sub ! 1 refl (whole !)))) tt) (from ! (stop !)) (init ! 9 refl (tt, tt)) $
+        assigns-if ! 5 (load ! (from ! (stop !)) (look ! 9 refl)) (of-opd ! (load ! (from ! (fld ! refl (stop !))) (look-in ! 17 (sub ! 2 refl (whole !))))) (from ! (hop ! (look ! 25 refl) (stop !))) refl (LL.lawful T.the-type T′.the-laws 𝓤 H A W .typed (r .table) _ (fields r is .1 .1 .0) .0)
+        (λ unused. ap (LL.val T.the-type T′.the-laws) (unused-same (t .now) (s .now) (z .now) r (ws .1 .1 .0) e (nltb→le 0 (r .used) unused))) $
+        move ! (5 ∷ 6 ∷ 7 ∷ 8 ∷ []) $ closed ! tt T.the-type T′.the-laws T′.the-plain (r .table) (fields r is .1 .1 .0) (t .ptr .0) (t .ptr .1) $
+        -- `rest`: [the table's three; the answer's; the last scratch; the tokens of 'a and 's; _9; …; bytes]
         move ! (7 ∷ []) $ use1 W (‵ (flft κa qa) ⊛ ‵ (flft κs qs) ⊛ ‵ ftrue) (id⊢ 𝓤 _) $ split ! $ move ! (1 ∷ []) $ split ! $ move ! (2 ∷ 1 ∷ []) $ join ! $
-        nothing ! $ owned ! usize (Is usize) (uint-makes 𝓤 H A W w64) (r .used) _ (fields r is .1 .0) $ fjoin ! $ move ! (28 ∷ 0 ∷ []) $ fjoin ! $ move ! (1 ∷ 0 ∷ []) $ join ! $ use1 W (raw (Rest 𝓤 H A at-mem run .pre (to-rest (r .used)))) (asks 𝓤 _) $
-        calls-at ! fm (Rest 𝓤 H A at-mem run) known-rest (to-rest (r .used)) (and-then ! (load ! (from ! (stop !)) (look ! 21 refl)) (and-then ! (load ! (from ! (fld ! refl (stop !))) (look-in ! 15 (sub ! 1 refl (whole !)))) (no-more !))) (λ v.
+        nothing ! $ owned ! usize (Is usize) (uint-makes 𝓤 H A W w64) (r .used) _ (fields r is .1 .0) $ fjoin ! $ move ! (30 ∷ 0 ∷ []) $ fjoin ! $ move ! (1 ∷ 0 ∷ []) $ join ! $ use1 W (raw (Rest 𝓤 H A at-mem run .pre (to-rest (r .used)))) (asks 𝓤 _) $
+        calls-at ! fm (Rest 𝓤 H A at-mem run) known-rest (to-rest (r .used)) (and-then ! (load ! (from ! (stop !)) (look ! 23 refl)) (and-then ! (load ! (from ! (fld ! refl (stop !))) (look-in ! 17 (sub ! 1 refl (whole !)))) (no-more !))) (λ v.
         answered ! tt rest.ended (rest.clauses 𝓤 H A at-mem run) (to-rest (r .used)) v (λ p _. heard ! (p .now ≡ dropped (r .used) (s .now)) (λ ep. drop ! $
         peeks ! (ShrSlice (named 0) κa u8) (Is (ShrSlice (named 0) κa u8)) (shows 𝓤 H A (ShrSlice (named 0) κa u8)) p (v ∷ []) (λ ip.
-        land ! (from ! (stop !)) (init ! 26 refl (shr-slice-lawful 𝓤 H A W (named 1) κa u8 .typed p (v ∷ []) ip .0)) $
-        returns ! (look ! 26 refl) $ freed ! 26 refl refl $ freed ! 24 refl refl $ freed ! 22 refl refl $ freed ! 20 refl refl $ freed ! 18 refl refl $ freed ! 16 refl refl $ freed ! 14 refl refl $ freed ! 12 refl refl $ freed ! 10 refl refl $ free0 ! $
-        by ! (exits r (ws .1 .1 .0) p v e ep el)))))))))))))))))))))
+        land ! (from ! (stop !)) (init ! 28 refl (shr-slice-lawful 𝓤 H A W (named 1) κa u8 .typed p (v ∷ []) ip .0)) $
+        returns ! (look ! 28 refl) $ freed ! 28 refl refl $ freed ! 26 refl refl $ freed ! 24 refl refl $ freed ! 22 refl refl $ freed ! 20 refl refl $ freed ! 18 refl refl $ freed ! 16 refl refl $ freed ! 14 refl refl $ freed ! 12 refl refl $ freed ! 10 refl refl $ free0 ! $
+        by ! (exits r (ws .1 .1 .0) p v e ep el))))))))))))))))))))))
 
 pub event-spec : {M : Type 1} → stated.statement M
 unfolding code.routine
