@@ -209,8 +209,8 @@ pub struct Answer {
     pub names: [Name; MESSAGES],
 }
 
-/// A handover by its numbers, as the dispatcher names it. Pairs are in the order in which it goes round: by receiver and
-/// then owner.
+/// A handover by its numbers, as the dispatcher, an ask and a commit name it. Pairs are in the order in which the dispatcher
+/// goes round: by receiver and then owner.
 ///
 /// ```
 /// use furnacejade::{Pair, Record};

@@ -3,12 +3,12 @@
 //! table.
 
 use super::files::legal_file;
-use super::odd::{any_calls, any_number, any_pair, any_scratch, any_version, as_calls};
+use super::odd::{any_asked, any_calls, any_number, any_pair, any_scratch, any_version, as_calls};
 use super::random::Random;
-use super::runs::{drain, follow, follow_commit, highest_read, legal_event, legal_run, Policy};
+use super::runs::{drain, follow, follow_commit, follow_dispatch, highest_read, legal_event, legal_run, Policy};
 use super::tables::good_table;
-use crate::cases::records::{handover, local_read, report_in, stop, sync};
-use crate::cases::{Call, Case, Head};
+use crate::cases::records::{handover, local_read, report_in, stop, sync, write};
+use crate::cases::{Asked, Call, Case, Head};
 use crate::engines::pair;
 use crate::reference::calls::numbered;
 use crate::reference::{to_state, State, LISTING, SCRATCH};
@@ -145,6 +145,8 @@ impl Previewing {
         let r = pair.receiver;
         self.event(local_read(r));
         self.calls.push(Call::Look(r));
+        let asked = Asked { controller: r, ..any_asked(random, &self.state) };
+        self.calls.push(Call::CountBefore(asked));
         let owner = random.between(1, self.state.n);
         self.ask(Pair { receiver: r, owner }, any_scratch(random));
         let bytes = random.pick(&[[3, 3, r as u8, 0], [3, 3, 0, r as u8]]).to_vec();
@@ -153,18 +155,35 @@ impl Previewing {
         self.commit(pair, random.pick(&[acts + 1, usize::MAX, acts.wrapping_sub(1)]), SCRATCH);
     }
 
-    /// An act of a controller, if it has one: a report, a sync, or a handover by a record or a commit.
+    /// An act of a controller, if it has one: a report, a sync, a write if it may, or a handover by a record, the
+    /// dispatcher or a commit.
     fn act(&mut self, random: &mut Random, r: usize) {
         let owners: Vec<Pair> = waiting(&self.state).into_iter().filter(|pair| pair.receiver == r).collect();
-        match random.below(4) {
+        match random.below(6) {
             0 => _ = self.event(report_in(self.state.version, r, 5)),
             1 => _ = self.event(sync(r)),
-            2 if !owners.is_empty() => _ = self.event(handover(r, random.pick(&owners).owner)),
+            2 => _ = self.event(write(r, 1, 7)),
+            3 if !owners.is_empty() => {
+                let named = self.before(random.pick(&owners));
+                follow_dispatch(&mut self.state, named, SCRATCH);
+                self.calls.push(Call::Dispatch { named, scratch: SCRATCH });
+            }
+            4 if !owners.is_empty() => _ = self.event(handover(r, random.pick(&owners).owner)),
             _ if !owners.is_empty() => {
                 let acts = acts_of(&self.state, r);
                 self.commit(random.pick(&owners), acts, SCRATCH);
             }
             _ => _ = self.event(report_in(self.state.version, r, -5)),
+        }
+    }
+
+    /// The pair that the dispatcher is told to serve this one next.
+    fn before(&self, Pair { receiver, owner }: Pair) -> Pair {
+        let n = self.state.n;
+        match (receiver, owner) {
+            (1, 1) => Pair { receiver: n, owner: n },
+            (_, 1) => Pair { receiver: receiver - 1, owner: n },
+            _ => Pair { receiver, owner: owner - 1 },
         }
     }
 
@@ -289,9 +308,7 @@ pub fn previewed_after_file(random: &mut Random) -> Case {
     let (version, events) = (any_version(random), random.pick(&[0, 5, 20, 40]));
     let (bytes, state) = legal_file(random, version, events, Policy::random);
     let mut making = Previewing::new(state, random);
-    if random.one_in(2) {
-        making.calls.extend(every_ask(random, making.state.n));
-    }
+    making.calls.extend(every_ask(random, making.state.n));
     making.go_on(random);
     Case { head: Head::File { bytes, listing: LISTING, scratch: SCRATCH }, calls: making.calls }
 }
@@ -301,6 +318,7 @@ pub fn previewed_table(random: &mut Random) -> Case {
     let (n, count) = (random.between(1, 7), random.pick(&[0, 1, 2, 3, 5, 8, 20]));
     let t = good_table(random, n, count);
     let mut making = Previewing::new(to_state(&t), random);
+    making.calls.extend(every_ask(random, n));
     for _ in 0..random.between(1, 4) {
         making.look_and_take(random);
     }

@@ -7,7 +7,7 @@ use mathlib.Core.List.{List, [], _∷_, _++_, foldl}
 use Prim.Native.Nat.{ℕ, zero, suc, _+_, _-_, _≤_, _<_}
 use native.Mathlib.Omega.{arith}
 use native.Mathlib.Decide.{decLt, ℕ-discrete}
-use lib.ListN.{length, getD, take, length-append, List·getD-append}
+use lib.ListN.{length, getD, take, length-append, length-take, List·getD-append}
 use lib.Seq.{length-take-le, getD-take}
 use lib.Dec.{eqb}
 use borrow.Author.Tests.{eq-eqb}
@@ -65,6 +65,12 @@ data Fate (l k : Ledger) (xs : List Step) (o i : ℕ) : Type 0 where
 more-stands : (xs : List Name) (m : Name) (i : ℕ) → i < length xs → (i < length (xs ++ (m ∷ []))) × (getD (xs ++ (m ∷ [])) i noName ≡ getD xs i noName)
 more-stands xs m i h = (omega (arith, h, length-append xs (m ∷ [])), List·getD-append xs (m ∷ []) noName i h)
 
+-- a stop leaves no more of the log than it keeps
+stopped-log : (l : Ledger) (s : Said) (c j : ℕ) (ms : List Name)
+    → (length (moved l (carried s (Stop c j) ms) .log c) ≤ j) × (moved l (carried s (Stop c j) ms) .runs c ≡ false)
+unfolding moved
+stopped-log l s c j ms = (rw (put-here (l .log) c _, length-take j (l .log c)) (omega arith), put-here (l .runs) c false)
+
 module _ {n : ℕ} {t : Table} {l : Ledger} (p : Recorded n t l) (o : ℕ) (h : Among n o) (i : ℕ) where
   own-step : (s : Said) (e : Event) (ms : List Name) → Takes t (carried s e ms) → o ≡ subject e → i < length (l .log o)
       → (xs : List Step) → Fate l (moved l (carried s e ms)) (carried s e ms ∷ xs) o i
@@ -107,6 +113,19 @@ course-gone m [] u c o h i k r = (k, r)
 course-gone m (x ∷ xs) u c o h i k r =
     let b = step-gone (m .recorded) o h i x (c .0) k r in
     course-gone (step-moment m x (c .0)) xs u (c .1) o h i (b .0) (b .1)
+
+-- what a stop cuts away is gone
+course-cut : {n : ℕ} {s₀ : State} {t : Table} {l : Ledger} → Moment n s₀ t l → (xs : List Step) (u : Table) → Course stepped Takes t xs u → (o : ℕ) → Among n o → (i : ℕ)
+    → CutAway xs o i → length (foldl moved l xs .log o) ≤ i
+unfolding Course CutAway
+course-cut m (carried s (Send c y) ms ∷ xs) u q o h i z = course-cut (step-moment m (carried s (Send c y) ms) (q .0)) xs u (q .1) o h i z
+course-cut m (carried s (Handover r d) ms ∷ xs) u q o h i z = course-cut (step-moment m (carried s (Handover r d) ms) (q .0)) xs u (q .1) o h i z
+course-cut {l = l} m (carried s (Stop c j) ms ∷ xs) u q o h i z =
+    let k = step-moment m (carried s (Stop c j) ms) (q .0) in
+    elim z [
+      | inl e ↦ let b = stopped-log l s c j ms in course-gone k xs u (q .1) o h i (rw (← e .0) (omega (arith, b .0, e .1))) (rw (← e .0) (b .1)) .0
+      | inr e ↦ course-cut k xs u (q .1) o h i e
+    ]
 
 cut-later : (x : Step) (xs : List Step) (o i : ℕ) → CutAway xs o i → CutAway (x ∷ xs) o i
 unfolding CutAway
@@ -216,7 +235,7 @@ module _ {n : ℕ} {t u : Table} {l k : Ledger} (p : Recorded n t l) (q : Record
 
 -- steps in which r does not act, from a handover that is allowed: the set that it applies is the same, or its entry is cut away and unread no more
 pub data Since (t u : Table) (xs : List Step) (r o : ℕ) : Type 0 where
-  shown : place (at u r) o < at u o .length → namesOf (messagesOf u) (setAt u r o) ≡ namesOf (messagesOf t) (setAt t r o) → Since t u xs r o
+  shown : (CutAway xs o (place (at t r) o) → ⊥) → place (at u r) o < at u o .length → namesOf (messagesOf u) (setAt u r o) ≡ namesOf (messagesOf t) (setAt t r o) → Since t u xs r o
   cut : CutAway xs o (place (at t r) o) → at u o .length ≤ place (at u r) o → Since t u xs r o
 
 pub since : {n : ℕ} {s₀ : State} {t : Table} {l : Ledger} (m : Moment n s₀ t l) (xs : List Step) (u : Table) → Course stepped Takes t xs u → (r o : ℕ)
@@ -230,7 +249,7 @@ since {n} {t = t} {l} m xs u c r o a z =
     let size : length (foldl moved l xs .log o) ≡ at u o .length = ap length (q .logs o ho) ∙ length-log u (at u o) in (
       b .same,
       elim (fate m xs u c o ho (place (at t r) o) (omega (arith, a .unread, ap length (p .logs o ho), length-log t (at t o)))) [
-        | stands h e ↦ let h : place (at t r) o < at u o .length = omega (arith, h, size) in shown (rw (b .same) h) (same-names p q r o a b (same-entry p q r o a b e h))
+        | stands h e ↦ let h : place (at t r) o < at u o .length = omega (arith, h, size) in shown (λ z. omega (arith, h, size, course-cut m xs u c o ho (place (at t r) o) z)) (rw (b .same) h) (same-names p q r o a b (same-entry p q r o a b e h))
         | gone y h _ ↦ cut y (rw (b .same) (omega (arith, h, size)))
       ],
     )

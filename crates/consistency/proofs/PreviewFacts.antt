@@ -94,12 +94,13 @@ module _ (h : Head) (heads : Heads h) (calls : List Call) where
         let g = answer-at j p (a .acts) w b c in
         let f = commit-accepted u p (length w) (a .acts) (rw g at z) in
         elim (still (omega (arith, f .0, counted)) .1) [
-          | shown _ e ↦ ap (λ (x : EventAnswer). x .names) g ∙ (ap (λ (o : Outcome). o .answer .names) (f .2) ∙ (e ∙ sym (ap (λ (x : Preview). x .names) (s .is))))
+          | shown _ _ e ↦ ap (λ (x : EventAnswer). x .names) g ∙ (ap (λ (o : Outcome). o .answer .names) (f .2) ∙ (e ∙ sym (ap (λ (x : Preview). x .names) (s .is))))
           | cut _ l ↦ absurd (omega (arith, l, handover-allowed u (p .receiver) (p .owner) (f .1) .unread))
         ]
 
     pub taken : scratchSize ≤ length w → actsIn (p .receiver) xs ≡ 0
-        → (b .refusal ≡ 0) ⊎ ((b .refusal ≡ 13) × CutAway xs (p .owner) (moment h calls i .place (p .receiver) (p .owner)))
+        → let Cut = CutAway xs (p .owner) (moment h calls i .place (p .receiver) (p .owner)) in
+        ((b .refusal ≡ 0) × (Cut → ⊥)) ⊎ ((b .refusal ≡ 13) × Cut)
     unfolding unread
     taken enough z =
         let r = p .receiver in
@@ -113,6 +114,6 @@ module _ (h : Head) (heads : Heads h) (calls : List Call) where
         let is = ap (λ (x : EventAnswer). x .refusal) (answer-at j p (a .acts) w b c)
         ∙ (commit-refusal u p (length w) (a .acts) ∙ entry-decides u p (length w) (a .acts) (tested u (k .formed)) named (rw (e .0) (f .running)) (omega (arith, counted, z)) enough) in
         elim (e .1) [
-          | shown l _ ↦ inl (rw (lt-ltb (place (at u r) o) (at u o .length) l) at is)
+          | shown k l _ ↦ inl (rw (lt-ltb (place (at u r) o) (at u o .length) l) at is, rw (m .places r o (s .receiver) owner) k)
           | cut y l ↦ inr (rw (le-ltb (place (at u r) o) (at u o .length) l) at is, rw (m .places r o (s .receiver) owner) y)
         ]

@@ -331,9 +331,10 @@ pub record Consistent (h : Head) (calls : List Call) : Type 0 where
   -- "If accepted, its set is the one shown, though others may have acted in between": of a later commit with that count
   pub as-shown : (i j : ℕ) (p : Pair) (a : Preview) (w : List ℕ) (b : EventAnswer)
       → Asked h calls i p a → i < j → Committed h calls j p (a .acts) w b → b .refusal ≡ 0 → b .names ≡ a .names
-  -- "an entry cut away in between gives 13": where the receiver has not acted since the ask, a commit with enough scratch is accepted, or a
-  -- stop in between has cut the entry away and it is refused by 13
+  -- "an entry cut away in between gives 13": where the receiver has not acted since the ask, a commit with enough scratch is accepted if no
+  -- stop in between has cut the entry away, and else refused by 13
   pub taken : (i j : ℕ) (p : Pair) (a : Preview) (w : List ℕ) (b : EventAnswer)
       → let xs = did (version h) (between h calls i j) in
       Asked h calls i p a → i < j → Committed h calls j p (a .acts) w b → scratchSize ≤ length w → actsIn (p .receiver) xs ≡ 0
-      → (b .refusal ≡ 0) ⊎ ((b .refusal ≡ 13) × CutAway xs (p .owner) (moment h calls i .place (p .receiver) (p .owner)))
+      → let Cut = CutAway xs (p .owner) (moment h calls i .place (p .receiver) (p .owner)) in
+      ((b .refusal ≡ 0) × (Cut → ⊥)) ⊎ ((b .refusal ≡ 13) × Cut)

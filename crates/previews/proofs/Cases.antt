@@ -92,8 +92,8 @@ table =
     ∷ applies [] ∷ applies [] ∷ shows (101 ∷ 301 ∷ []) 3 ∷ applies (101 ∷ 301 ∷ []) ∷ [])
     -- P: 21 before 13 and 15: nothing to read, and no scratch; then 13 before 15; then 15
     ∷ row 2 (report 1 5 ∷ []) (commits 102 0 0 ∷ commits 102 2 0 ∷ commits 102 1 0 ∷ asks 102 0 ∷ []) (refuses 21 ∷ refuses 21 ∷ refuses 13 ∷ refuses 13 ∷ [])
-    ∷ row 2 (report 1 5 ∷ []) (commits 201 1 4096 ∷ commits 201 1 0 ∷ commits 201 0 4095 ∷ asks 201 4095 ∷ commits 201 0 4096 ∷ [])
-    (refuses 21 ∷ refuses 21 ∷ refuses 15 ∷ refuses 15 ∷ applies [] ∷ [])
+    ∷ row 2 (report 1 5 ∷ []) (commits 201 1 4096 ∷ commits 201 1 0 ∷ commits 201 0 4095 ∷ asks 201 4095 ∷ commits 201 0 0 ∷ asks 201 0 ∷ commits 201 0 4096 ∷ [])
+    (refuses 21 ∷ refuses 21 ∷ refuses 15 ∷ refuses 15 ∷ refuses 15 ∷ refuses 15 ∷ applies [] ∷ [])
     -- P: 10 before 21, and before 13 and 15
     ∷ row 2 (report 1 5 ∷ stop 2 0 ∷ []) (take 201 0 ∷ take 201 1 ∷ commits 202 9 0 ∷ ask 201 ∷ asks 202 0 ∷ []) (refuses 10 ∷ refuses 10 ∷ refuses 10 ∷ refuses 10 ∷ refuses 10 ∷ [])
     -- P: 8 with 0 and n + 1 in each place, before all that follows
