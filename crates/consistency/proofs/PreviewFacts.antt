@@ -12,7 +12,7 @@ use Rattle.model.specs.Events.{appliedBy}
 use Rattle.model.specs.Questions.{unread}
 use Rattle.model.specs.Calls.{EventAnswer, Outcome, answering}
 use Rattle.turns.specs.Claims.{InRange}
-use Rattle.previews.specs.Previews.{actsOf, Preview, showing, preview, taking, commit}
+use Rattle.previews.specs.Previews.{actsOf, Preview, previewOf, preview, taking, commit}
 use Rattle.model.specs.declared.Pair.{Pair}
 use Rattle.model.specs.declared.Table.{Table}
 use Rattle.model.proofs.Tested.{tested}
@@ -20,7 +20,7 @@ use Rattle.model.proofs.Allowed.{HandoverAllowed, handover-allowed}
 use Rattle.previews.proofs.AcceptedCalls.{ask-accepted, commit-refusal, entry-decides, commit-accepted}
 use Rattle.consistency.specs.Entries.{asking, observe, committing, serve, Call, observed, served, Step, did}
 use Rattle.consistency.specs.Dispatches.{actsIn, CutAway}
-use Rattle.consistency.specs.Demand3.{Head, Heads, version, controllers, entries, moment, between, Asked, Committed}
+use Rattle.consistency.specs.Demand3.{Head, Heads, version, controllers, entries, moment, between, AskedAt, CommittedAt}
 use Rattle.consistency.specs.Courses.{Gives, tableAt}
 use Rattle.consistency.proofs.CallLists.{gives-at, first, steps-until, moment-at, steps-between}
 use Rattle.consistency.proofs.Acts.{acts-since, acts-start}
@@ -39,9 +39,9 @@ module _ (h : Head) (heads : Heads h) (calls : List Call) where
   record Previewed (i : ℕ) (p : Pair) (a : Preview) : Type 0 where
     allowed : HandoverAllowed (tableAt h calls i) (p .receiver) (p .owner)
     receiver : Among n (p .receiver)
-    is : a ≡ showing (tableAt h calls i) p
+    is : a ≡ previewOf (tableAt h calls i) p
 
-  previewed : (i : ℕ) (p : Pair) (a : Preview) → Asked h calls i p a → Previewed i p a
+  previewed : (i : ℕ) (p : Pair) (a : Preview) → AskedAt h calls i p a → Previewed i p a
   unfolding Gives observe
   previewed i p a q =
       let t = tableAt h calls i in
@@ -50,8 +50,8 @@ module _ (h : Head) (heads : Heads h) (calls : List Call) where
       let f = handover-allowed t (p .receiver) (p .owner) (s .0) in
       record { allowed = f; receiver = rw (moment-at h heads calls i .recorded .size) at (f .receiver); is = g ∙ s .1 }
 
-  pub acts : (i : ℕ) (p : Pair) (a : Preview) → Asked h calls i p a → a .acts ≡ actsIn (p .receiver) (did v (take i (entries h calls)))
-  unfolding showing
+  pub acts : (i : ℕ) (p : Pair) (a : Preview) → AskedAt h calls i p a → a .acts ≡ actsIn (p .receiver) (did v (take i (entries h calls)))
+  unfolding previewOf
   acts i p a q =
       let s = previewed i p a q in
       let c = p .receiver in
@@ -62,11 +62,11 @@ module _ (h : Head) (heads : Heads h) (calls : List Call) where
 
   -- COMMITS
 
-  answer-at : (j : ℕ) (p : Pair) (k : ℕ) (w : List ℕ) (b : EventAnswer) → Committed h calls j p k w b → b ≡ commit (tableAt h calls j) p k (length w) .answer
+  answer-at : (j : ℕ) (p : Pair) (k : ℕ) (w : List ℕ) (b : EventAnswer) → CommittedAt h calls j p k w b → b ≡ commit (tableAt h calls j) p k (length w) .answer
   unfolding Gives serve
   answer-at j p k w b q = gives-at h heads calls j (served (committing p k w) b) (q .after) (q .there)
 
-  module _ (i j : ℕ) (p : Pair) (a : Preview) (w : List ℕ) (b : EventAnswer) (q : Asked h calls i p a) (before : i < j) (c : Committed h calls j p (a .acts) w b) where
+  module _ (i j : ℕ) (p : Pair) (a : Preview) (w : List ℕ) (b : EventAnswer) (q : AskedAt h calls i p a) (before : i < j) (c : CommittedAt h calls j p (a .acts) w b) where
     abbrev t : Table
     t = tableAt h calls i
 
@@ -80,7 +80,7 @@ module _ (h : Head) (heads : Heads h) (calls : List Call) where
     s = previewed i p a q
 
     counted : actsOf u (p .receiver) ≡ a .acts + actsIn (p .receiver) xs
-    unfolding showing
+    unfolding previewOf
     counted =
         acts-since (moment-at h heads calls i) xs u (steps-between h heads calls i j (omega arith)) (p .receiver) (s .receiver)
         ∙ ap (λ k. k + actsIn (p .receiver) xs) (sym (ap (λ (x : Preview). x .acts) (s .is)))
@@ -89,7 +89,7 @@ module _ (h : Head) (heads : Heads h) (calls : List Call) where
     still z = since (moment-at h heads calls i) xs u (steps-between h heads calls i j (omega arith)) (p .receiver) (p .owner) (s .allowed) z
 
     pub as-shown : b .refusal ≡ 0 → b .names ≡ a .names
-    unfolding taking answering appliedBy showing
+    unfolding taking answering appliedBy previewOf
     as-shown z =
         let g = answer-at j p (a .acts) w b c in
         let f = commit-accepted u p (length w) (a .acts) (rw g at z) in

@@ -157,14 +157,14 @@ pub record AtTheEnd (h : Head) (calls : List Call) (l : Ledger) : Type 0 where
 -- ASK AND COMMIT
 
 -- entry i is an accepted ask of p, which answers a
-pub record Asked (h : Head) (calls : List Call) (i : ℕ) (p : Pair) (a : Preview) : Type 0 where
+pub record AskedAt (h : Head) (calls : List Call) (i : ℕ) (p : Pair) (a : Preview) : Type 0 where
   pub scratch : List ℕ
   pub after : List Entry
   pub there : drop i (entries h calls) ≡ observed (asking p scratch) a ∷ after
   pub accepted : a .refusal ≡ 0
 
 -- entry j is a commit of p with an act count, lent the scratch area w, which answers b
-pub record Committed (h : Head) (calls : List Call) (j : ℕ) (p : Pair) (acts : ℕ) (w : List ℕ) (b : EventAnswer) : Type 0 where
+pub record CommittedAt (h : Head) (calls : List Call) (j : ℕ) (p : Pair) (acts : ℕ) (w : List ℕ) (b : EventAnswer) : Type 0 where
   pub after : List Entry
   pub there : drop j (entries h calls) ≡ served (committing p acts w) b ∷ after
 
@@ -327,14 +327,14 @@ pub record Consistent (h : Head) (calls : List Call) : Type 0 where
       LastSaysNone h now → AtTheEnd h now (ledger (did (version h) (entries h now)))
   -- "the receiver's act count (accepted events in which it sent a message, was the receiver of a handover or stopped)": of the steps before
   -- an accepted ask
-  pub acts : (i : ℕ) (p : Pair) (a : Preview) → Asked h calls i p a → a .acts ≡ actsIn (p .receiver) (did (version h) (take i (entries h calls)))
+  pub acts : (i : ℕ) (p : Pair) (a : Preview) → AskedAt h calls i p a → a .acts ≡ actsIn (p .receiver) (did (version h) (take i (entries h calls)))
   -- "If accepted, its set is the one shown, though others may have acted in between": of a later commit with that count
   pub as-shown : (i j : ℕ) (p : Pair) (a : Preview) (w : List ℕ) (b : EventAnswer)
-      → Asked h calls i p a → i < j → Committed h calls j p (a .acts) w b → b .refusal ≡ 0 → b .names ≡ a .names
+      → AskedAt h calls i p a → i < j → CommittedAt h calls j p (a .acts) w b → b .refusal ≡ 0 → b .names ≡ a .names
   -- "an entry cut away in between gives 13": where the receiver has not acted since the ask, a commit with enough scratch is accepted if no
   -- stop in between has cut the entry away, and else refused by 13
   pub taken : (i j : ℕ) (p : Pair) (a : Preview) (w : List ℕ) (b : EventAnswer)
       → let xs = did (version h) (between h calls i j) in
-      Asked h calls i p a → i < j → Committed h calls j p (a .acts) w b → scratchSize ≤ length w → actsIn (p .receiver) xs ≡ 0
+      AskedAt h calls i p a → i < j → CommittedAt h calls j p (a .acts) w b → scratchSize ≤ length w → actsIn (p .receiver) xs ≡ 0
       → let Cut = CutAway xs (p .owner) (moment h calls i .place (p .receiver) (p .owner)) in
       ((b .refusal ≡ 0) × (Cut → ⊥)) ⊎ ((b .refusal ≡ 13) × Cut)

@@ -17,7 +17,7 @@ use Rattle.model.specs.declared.Table.{Table}
 use Rattle.model.proofs.Tested.{named-of}
 use Rattle.turns.specs.Claims.{InRange}
 use Rattle.model.proofs.Allowed.{no-no, no-no-append, event-numbered}
-use Rattle.previews.specs.Previews.{actsOf, askQuestions, Preview, showing, preview, commitQuestions, taking, commit}
+use Rattle.previews.specs.Previews.{actsOf, askQuestions, Preview, previewOf, preview, commitQuestions, taking, commit}
 
 -- the questions of a handover, all answered yes
 all-yes : (a b c : Bool) → a ≡ true → b ≡ true → c ≡ true → firstNo (ask 8 a ∷ ask 10 b ∷ ask 13 c ∷ []) ≡ 0
@@ -28,11 +28,11 @@ module _ (t : Table) (p : Pair) (room : ℕ) where
   -- ASK
 
   pub preview-refusal : preview t p room .refusal ≡ firstNo (askQuestions t p room)
-  unfolding preview showing
+  unfolding preview previewOf
   preview-refusal = let k = firstNo (askQuestions t p room) in cond-case (λ (a : Preview). a .refusal ≡ k) (eqb k 0) _ _ (λ e. sym (eqb-true k 0 e)) (λ _. refl)
 
   -- an accepted ask: the handover is allowed, and its set is shown
-  pub ask-accepted : preview t p room .refusal ≡ 0 → (firstNo (eventQuestions t (handover p)) ≡ 0) × (preview t p room ≡ showing t p)
+  pub ask-accepted : preview t p room .refusal ≡ 0 → (firstNo (eventQuestions t (handover p)) ≡ 0) × (preview t p room ≡ previewOf t p)
   unfolding preview askQuestions lentTable
   ask-accepted z =
       let k : firstNo (askQuestions t p room) ≡ 0 = sym preview-refusal ∙ z in

@@ -12,7 +12,7 @@ use Rattle.model.specs.declared.Table.{Table}
 use Rattle.model.proofs.Computed.{computed}
 use Rattle.turns.specs.Dispatcher.{pair}
 use Rattle.turns.proofs.Cases.{report, sync, handover, stop, coded, played, DispatcherCases, dispatcher-cases}
-use Rattle.previews.specs.Previews.{sendsBy, readsBy, actCount, actsOf, askQuestions, Preview, showing, preview, commitQuestions, taking, commit}
+use Rattle.previews.specs.Previews.{sendsBy, readsBy, actCount, actsOf, askQuestions, Preview, previewOf, preview, commitQuestions, taking, commit}
 
 -- CASES: n controllers, the records of accepted events, and calls, each on the table that the last one left
 
@@ -142,5 +142,5 @@ pub record EveryCase : Type 0 where
   others : DispatcherCases
 
 pub every-case : EveryCase
-unfolding computed results expected table stopped called answered previewed played report sync handover stop read sendsBy readsBy actCount askQuestions showing preview commitQuestions taking commit
+unfolding computed results expected table stopped called answered previewed played report sync handover stop read sendsBy readsBy actCount askQuestions previewOf preview commitQuestions taking commit
 every-case = record { previews = refl; act-counts = (refl, refl); others = dispatcher-cases }

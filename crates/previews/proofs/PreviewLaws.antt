@@ -15,7 +15,7 @@ use Rattle.model.proofs.Steps.{settled-case}
 use Rattle.turns.specs.Claims.{handoverRecord}
 use Rattle.model.specs.declared.Pair.{Pair}
 use Rattle.model.specs.declared.Table.{Table}
-use Rattle.previews.specs.Previews.{actsOf, askQuestions, showing, preview, commitQuestions, taking, commit}
+use Rattle.previews.specs.Previews.{actsOf, askQuestions, previewOf, preview, commitQuestions, taking, commit}
 use Rattle.previews.proofs.AcceptedCalls.{preview-refusal, commit-case}
 use Rattle.previews.specs.Claims.{Shows, Matches, staleNumber}
 
@@ -48,7 +48,7 @@ module _ (t : Table) (p : Pair) (room : ℕ) where
   -- ASK
 
   pub ask-is-record : Shows (preview t p room) (event t (handoverRecord p) room)
-  unfolding preview showing accepted refused answering decode
+  unfolding preview previewOf accepted refused answering decode
   ask-is-record =
       subst (Shows (preview t p room)) (sym record-settled) (settled-case (λ (o : Outcome). Shows (preview t p room) o) t (handoverRecord p) asked
       (λ e. rw (eq-eqb asked 0 e) (record { refusal = refl; names = refl; scratch = λ w. refl }))

@@ -48,13 +48,13 @@ pub record Preview : Type 0 where
   pub names : List Name
   pub acts : ℕ
 
-unfoldable pub showing : Table → Pair → Preview
-showing t p = record { refusal = 0; names = namesOf (messagesOf t) (appliedBy t (handover p)); acts = actsOf t (p .receiver) }
+unfoldable pub previewOf : Table → Pair → Preview
+previewOf t p = record { refusal = 0; names = namesOf (messagesOf t) (appliedBy t (handover p)); acts = actsOf t (p .receiver) }
 
 unfoldable pub preview : Table → Pair → ℕ → Preview
 preview t p room =
     let k = firstNo (askQuestions t p room) in
-    let a = showing t p in
+    let a = previewOf t p in
     cond (eqb k 0) a (record { refusal = k; names = []; acts = 0 })
 
 -- the answer as the caller gets it: the names in the first of 64 places, zeros after them

@@ -21,7 +21,7 @@ use Rattle.model.specs.declared.Command.the-variants.{Act}
 use Rattle.model.proofs.Tested.{named-at, facts}
 use Rattle.model.proofs.Allowed.{no-no}
 use Rattle.turns.specs.Dispatcher.{handover}
-use Rattle.previews.specs.Previews.{Preview, actCount, actsOf, askQuestions, showing, preview, askAnswerOf, commitQuestions, taking, commit}
+use Rattle.previews.specs.Previews.{Preview, actCount, actsOf, askQuestions, previewOf, preview, askAnswerOf, commitQuestions, taking, commit}
 use Rattle.invariant.proofs.Stores.{seated}
 use Rattle.effects.specs.declared.Effect.{Effect}
 use Rattle.effects.specs.declared.Parties.{Parties}
@@ -153,10 +153,10 @@ module _ (t : Table) (p : Pair) where
 
     pub ask-shown : Granted true (length w) → (d : Effect) (v : List ℕ) → Effected t (handover p) w d v → (acts : ℕ) → acts ≡ actsOf t (p .receiver)
         → Asks t p w (record { refusal = 0; acts = acts; size = d .answer .size; names = d .answer .names }) v
-    unfolding showing askAnswerOf effectOf answerOf scratchAfter
+    unfolding previewOf askAnswerOf effectOf answerOf scratchAfter
     ask-shown g d v a acts ea = record { answer-is = rw (is, a .effect, ea) refl; scratch-is = rw is (a .clear) }
       where
-        is : preview t p (length w) ≡ showing t p
+        is : preview t p (length w) ≡ previewOf t p
         is = unfold preview in (rw (ask-number ∙ g .first-no) refl)
 
     -- of an act count, where that of the receiver is `own`
