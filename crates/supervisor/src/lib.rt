@@ -85,7 +85,8 @@ fn other_refusal(x: Controller, y: Controller, owner: usize, current: bool, room
     if !current {
         return refusal::ACT_COUNT;
     }
-    let place = x.read[owner - 1];
+    let i = numbers::predecessor(owner);
+    let place = x.read[i];
     if y.length <= place {
         return refusal::NO_ENTRY;
     }

@@ -25,27 +25,35 @@ returns-2 : tie.Need-returns-2
 unfolding firstNo otherQuestions
 returns-2 c = rw (runs (c .before), not-true (c .before .before .args .current) (c .if2 .taken)) refl
 
--- past the read position
-abbrev asked : tie.After-struct-known → tie.Else2
-asked c = c .before .before
+-- from past the read position to the index, and from there to past question 21
+abbrev indexed : tie.After-struct-known → tie.After-predecessor
+indexed c = c .before .before
+
+abbrev asked : tie.After-predecessor → tie.Else2
+asked c = c .before
 
 returns-3 : tie.Need-returns-3
 unfolding firstNo otherQuestions unread
-returns-3 c = let k = asked (c .before) in rw (runs (k .before), is-current k, le-ltb _ _ (c .if3 .taken)) refl
+returns-3 c =
+    let i = indexed (c .before) in
+    let k = asked i in
+    rw (runs (k .before), is-current k, ← i .predecessor .ensures, le-ltb _ _ (c .if3 .taken)) refl
 
 returns-4 : tie.Need-returns-4
 unfolding firstNo otherQuestions unread scratchRoom
 returns-4 c =
     let d = c .before in
-    let k = asked (d .before) in
-    rw (runs (k .before), is-current k, lt-ltb _ _ (d .if3 .left), lt-leb _ _ (c .if4 .taken)) refl
+    let i = indexed (d .before) in
+    let k = asked i in
+    rw (runs (k .before), is-current k, ← i .predecessor .ensures, lt-ltb _ _ (d .if3 .left), lt-leb _ _ (c .if4 .taken)) refl
 
 returns-5 : tie.Need-returns-5
 unfolding firstNo otherQuestions unread scratchRoom
 returns-5 c =
     let d = c .before in
-    let k = asked (d .before) in
-    rw (runs (k .before), is-current k, lt-ltb _ _ (d .if3 .left), le-leb _ _ (c .if4 .left)) refl
+    let i = indexed (d .before) in
+    let k = asked i in
+    rw (runs (k .before), is-current k, ← i .predecessor .ensures, lt-ltb _ _ (d .if3 .left), le-leb _ _ (c .if4 .left)) refl
 
 pub other-refusal-spec : {M : Type 1} → statement M
 other-refusal-spec =
