@@ -52,111 +52,68 @@ pub fn goes_before(n: usize, p: Pending, q: Pending) -> usize
     count
 }
 
-// One more where the test passes.
-fn tallied(yes: bool, count: usize) -> usize
-    requires { ⌜ count < capacity ⌝ }
-    ensures { λ r. ⌜ r ≡ tally yes count ⌝ }
-{
-    if yes { count + 1 } else { count }
+// How many slots the first 64 bytes of scratch name: candidates from byte 0 up, the others in the buffer from byte 63 down.
+struct Split {
+    front: usize,
+    back: usize,
 }
 
-// The slots in the buffer, in order. Few are, so that all that follows goes through this list and not through all slots.
-struct Held {
-    size: usize,
-    slots: [u8; Table::MESSAGES],
-}
-
-// Each slot is written after those that are counted, and stays there if it is counted: a slot costs no branch.
-fn held_slots(pending: [Pending; Table::MESSAGES]) -> Held
-    ensures { λ r. ⌜ Listed pending capacity (r .size) (r .slots) ⌝ }
+// Line 15: each slot in the buffer goes to its end of the 64 bytes.
+fn split(n: usize, pending: [Pending; Table::MESSAGES], scratch: &mut [u8]) -> Split
 {
-    let mut slots = [0u8; Table::MESSAGES];
-    let mut size: usize = 0;
+    let m = majority(n);
+    let mut front: usize = 0;
+    let mut back: usize = 0;
     for s in 0..Table::MESSAGES {
-        slots[size] = s as u8;
-        size = tallied(0 < pending[s].held, size);
-    }
-    Held { size, slots }
-}
-
-// The candidates of line 15, and how many they are.
-struct Chosen {
-    count: usize,
-    members: [bool; Table::MESSAGES],
-}
-
-fn candidates(
-    n: usize,
-    pending: [Pending; Table::MESSAGES],
-    size: usize,
-    slots: [u8; Table::MESSAGES],
-) -> Chosen
-    requires { ⌜ Listed pending capacity size slots ⌝ }
-    ensures { λ r. ⌜ Candidates n pending size slots r ⌝ }
-{
-    let m = majority(n);
-    let mut members = [false; Table::MESSAGES];
-    let mut count: usize = 0;
-    for k in 0..size {
-        let s = slots[k] as usize;
-        let chosen = m <= mark_count(n, pending[s]);
-        members[s] = chosen;
-        count = tallied(chosen, count);
-    }
-    Chosen { count, members }
-}
-
-// Line 16's relation, as a flag: whether p goes before q, that is, at a majority.
-fn flag(n: usize, m: usize, p: Pending, q: Pending) -> u8
-    requires { ⌜ m ≡ majority n ⌝ }
-    ensures { λ r. ⌜ yes? r ≡ leb (majority n) (goesBefore n p q) ⌝ }
-{
-    numbers::flag(m <= goes_before(n, p, q))
-}
-
-// Row i of the matrix: whether slot i goes before each slot in the buffer.
-fn fill_row(
-    n: usize,
-    m: usize,
-    pending: [Pending; Table::MESSAGES],
-    size: usize,
-    slots: [u8; Table::MESSAGES],
-    i: usize,
-    scratch: &mut [u8],
-)
-    requires { ⌜ (scratchSize ≤ length (now scratch)) × Listed pending capacity size slots × (i < capacity) × (m ≡ majority n) ⌝ }
-    ensures { λ r. ⌜ RowFilled n pending slots i size (now (scratch .entry)) (now (scratch .exit)) ⌝ }
-{
-    let row = i * Table::MESSAGES;
-    let entry = pending[i];
-    for k in 0..size {
-        let t = slots[k] as usize;
-        scratch[row + t] = flag(n, m, entry, pending[t]);
-    }
-}
-
-// The rows of the candidates: of no other slot is it asked what it goes before.
-fn fill(
-    n: usize,
-    pending: [Pending; Table::MESSAGES],
-    size: usize,
-    slots: [u8; Table::MESSAGES],
-    members: [bool; Table::MESSAGES],
-    scratch: &mut [u8],
-)
-    requires { ⌜ (scratchSize ≤ length (now scratch)) × Listed pending capacity size slots ⌝ }
-    ensures { λ r. ⌜ RowsFilled n pending slots members size (now (scratch .entry)) (now (scratch .exit)) ⌝ }
-{
-    let m = majority(n);
-    for k in 0..size {
-        let s = slots[k] as usize;
-        if members[s] {
-            fill_row(n, m, pending, size, slots, s, scratch);
+        let p = pending[s];
+        if 0 < p.held {
+            if m <= mark_count(n, p) {
+                scratch[front] = s as u8;
+                front += 1;
+            } else {
+                back += 1;
+                scratch[Table::MESSAGES - back] = s as u8;
+            }
         }
     }
+    Split { front, back }
 }
 
-// The first 4,096 bytes become zero, or all where there are fewer.
+// Line 16: the non-members are taken one after the other, and each member is held against the one taken. One that does not go
+// before it gives its place to the last member, and joins the non-members.
+fn settle(
+    n: usize,
+    pending: [Pending; Table::MESSAGES],
+    front: usize,
+    back: usize,
+    scratch: &mut [u8],
+) -> usize
+{
+    let m = majority(n);
+    let mut members = front;
+    let mut others = back;
+    let mut taken: usize = 0;
+    let mut place: usize = 0;
+    'again: while taken < others {
+        let q = pending[scratch[Table::MESSAGES - 1 - taken] as usize];
+        while place < members {
+            let s = scratch[place];
+            if goes_before(n, pending[s as usize], q) < m {
+                members -= 1;
+                scratch[place] = scratch[members];
+                others += 1;
+                scratch[Table::MESSAGES - others] = s;
+                continue 'again;
+            }
+            place += 1;
+        }
+        place = 0;
+        taken += 1;
+    }
+    members
+}
+
+// The first 64 bytes become zero, or all where there are fewer.
 pub fn clear(scratch: &mut [u8])
     ensures { λ r. ⌜ now (scratch .exit) ≡ cleared (now (scratch .entry)) ⌝ }
 {
@@ -166,70 +123,17 @@ pub fn clear(scratch: &mut [u8])
     }
 }
 
-// Whether a member has to go in view of another slot in the buffer, whose flag stands at this index.
-fn bars(flags: &[u8], at: usize, member: bool) -> bool
-    requires { ⌜ at < length (now flags) ⌝ }
-    ensures { λ r. ⌜ r ≡ (not member && not (yes? (getD (now (flags .entry)) at 0))) ⌝ }
+// The set of the slots that the first bytes name.
+fn set_of(count: usize, slots: &[u8]) -> [bool; Table::MESSAGES]
 {
-    if member {
-        return false;
-    }
-    !(0 < flags[at])
-}
-
-// Line 16: the candidates without those that, one after the other, do not go before some non-member in the buffer.
-fn settle(
-    size: usize,
-    slots: [u8; Table::MESSAGES],
-    candidates: [bool; Table::MESSAGES],
-    flags: &[u8],
-) -> [bool; Table::MESSAGES]
-    requires { ⌜ Removable size slots candidates (now flags) ⌝ }
-    ensures { λ r. ⌜ r ≡ largest capacity (among size slots) (has candidates) (flag (now (flags .entry))) ⌝ }
-{
-    let mut members = candidates;
-    'again: loop {
-        for j in 0..size {
-            let s = slots[j] as usize;
-            if members[s] {
-                for k in 0..size {
-                    let t = slots[k] as usize;
-                    if bars(flags, s * Table::MESSAGES + t, members[t]) {
-                        members[s] = false;
-                        continue 'again;
-                    }
-                }
-            }
-        }
-        break;
+    let mut members = [false; Table::MESSAGES];
+    for k in 0..count {
+        members[slots[k] as usize] = true;
     }
     members
 }
 
-// The set that a controller of n applies with this buffer. Where there is no candidate, or nothing else in the buffer, it is
-// the candidates. Otherwise the first 4,096 bytes of scratch become the matrix of line 16's relation.
-fn applicable(
-    n: usize,
-    pending: [Pending; Table::MESSAGES],
-    scratch: &mut [u8],
-) -> [bool; Table::MESSAGES]
-    requires { ⌜ scratchSize ≤ length (now scratch) ⌝ }
-    ensures { λ r. ⌜ Settled n pending (now (scratch .entry)) r (now (scratch .exit)) ⌝ }
-{
-    let held = held_slots(pending);
-    let size = held.size;
-    let slots = held.slots;
-    let start = candidates(n, pending, size, slots);
-    let count = start.count;
-    let members = start.members;
-    if (count == 0) | (count == size) {
-        return members;
-    }
-    fill(n, pending, size, slots, members, scratch);
-    settle(size, slots, members, scratch)
-}
-
-// The set, and the first 4,096 bytes of scratch are zero afterwards; where there are fewer, no slot is answered and nothing
+// The set, and the first 64 bytes of scratch are zero afterwards; where there are fewer, no slot is answered and nothing
 // is written.
 pub fn apply(
     n: usize,
@@ -241,7 +145,9 @@ pub fn apply(
     if scratch.len() < Table::SCRATCH {
         return [false; Table::MESSAGES];
     }
-    let members = applicable(n, pending, scratch);
+    let start = split(n, pending, scratch);
+    let count = settle(n, pending, start.front, start.back, scratch);
+    let members = set_of(count, scratch);
     clear(scratch);
     members
 }

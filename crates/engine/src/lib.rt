@@ -8,7 +8,7 @@ ghost use Rattle.supervisor.specs.Supervised.{Asks};
 ghost use Rattle.engine.specs.Called.{Counted, DispatchLeaves, CommitLeaves, interface};
 
 // The state of the interface. It goes up whenever a struct, a constant, a refusal or a call changes that C or Rust see.
-const INTERFACE: usize = 3;
+const INTERFACE: usize = 4;
 
 // The number of the interface, by which a caller sees that its header is this library's.
 #[no_mangle]

@@ -111,12 +111,12 @@ bothWays t (suc c) x y = bothWays t c x y ++ (countBefore t (suc c) (name x) (na
 
 tracked : Table → List (List ℕ) → ℕ → ℕ → List (List ℕ)
 tracked t [] x y = bothWays t (t .n) x y ∷ []
-tracked t (r ∷ rs) x y = bothWays t (t .n) x y ∷ tracked (step t r 4096 .table) rs x y
+tracked t (r ∷ rs) x y = bothWays t (t .n) x y ∷ tracked (step t r 64 .table) rs x y
 
 played : Table → List (List ℕ) → Call → Given
 played t [] c = called t c
 played t (r ∷ rs) c =
-    let o = step t r 4096 in
+    let o = step t r 64 in
     let g = played (o .table) rs c in
     record { refusal = g .refusal; sets = setOf (o .answer) ∷ g .sets; shown = g .shown; finished = g .finished; lines = [] }
 
@@ -173,7 +173,7 @@ stamped x d c = record { value = x; stamp = record { date = d; writer = c } }
 
 -- an event whose answer has these sums, and whether it finishes an own sync
 abbrev sums : ℕ → ℕ → List (List ℕ) → List ℕ → List (List ℕ) → Bool → Sums → Row
-sums v n rs s ss f z = record { of = events v n rs (single s 4096); gives = record { refusal = 0; sets = ss; shown = summed z; finished = f; lines = [] } }
+sums v n rs s ss f z = record { of = events v n rs (single s 64); gives = record { refusal = 0; sets = ss; shown = summed z; finished = f; lines = [] } }
 
 -- the run of RULES.md, section 19 (The worked run), but for its last record
 worked : List (List ℕ)
@@ -224,7 +224,7 @@ backed (suc (suc k)) = backed (suc k) ++ (handover 1 (suc k) ∷ handover (suc (
 
 -- of n controllers, it takes the marks of m to apply a report
 abbrev takes : ℕ → ℕ → Row
-takes n m = case n (backed m) (handover 1 m) 4096 0 (times (2 * m - 1) ([] ∷ []) ++ ((101 ∷ []) ∷ []))
+takes n m = case n (backed m) (handover 1 m) 64 0 (times (2 * m - 1) ([] ∷ []) ++ ((101 ∷ []) ∷ []))
 
 -- a machine of one sends a sync and then a write, and applies each
 set : ℕ → ℕ → List (List ℕ)
@@ -300,12 +300,12 @@ unfolding report classed sync handover stop local write minus times worked force
 table =
     -- The check ends at the first row that fails, and so rows that refuse an edit of a definition stand first.
     -- P: the sets of the worked run; event 10 applies nothing
-    case 3 worked (handover 3 1) 4096 0 ([] ∷ [] ∷ [] ∷ (101 ∷ []) ∷ [] ∷ [] ∷ (101 ∷ []) ∷ (301 ∷ []) ∷ [] ∷ [] ∷ (101 ∷ 301 ∷ []) ∷ [])
+    case 3 worked (handover 3 1) 64 0 ([] ∷ [] ∷ [] ∷ (101 ∷ []) ∷ [] ∷ [] ∷ (101 ∷ []) ∷ (301 ∷ []) ∷ [] ∷ [] ∷ (101 ∷ 301 ∷ []) ∷ [])
     -- P: one message that is taken out forces another out; event 11 applies all three
-    ∷ case 3 forced (handover 1 1) 4096 0 (times 10 ([] ∷ []) ++ ((101 ∷ 201 ∷ 301 ∷ []) ∷ []))
+    ∷ case 3 forced (handover 1 1) 64 0 (times 10 ([] ∷ []) ++ ((101 ∷ 201 ∷ 301 ∷ []) ∷ []))
     -- P: n = 4, two marks: not applied; three: applied
-    ∷ quiet 4 (report 1 5 ∷ handover 1 1 ∷ handover 2 1 ∷ []) (handover 1 2) 4096 0 4
-    ∷ case 4 (report 1 5 ∷ handover 1 1 ∷ handover 2 1 ∷ handover 1 2 ∷ handover 3 1 ∷ []) (handover 1 3) 4096 0 ([] ∷ [] ∷ [] ∷ [] ∷ [] ∷ (101 ∷ []) ∷ [])
+    ∷ quiet 4 (report 1 5 ∷ handover 1 1 ∷ handover 2 1 ∷ []) (handover 1 2) 64 0 4
+    ∷ case 4 (report 1 5 ∷ handover 1 1 ∷ handover 2 1 ∷ handover 1 2 ∷ handover 3 1 ∷ []) (handover 1 3) 64 0 ([] ∷ [] ∷ [] ∷ [] ∷ [] ∷ (101 ∷ []) ∷ [])
     -- P: how many put one message before another, at a controller that has stopped and has both pending
     ∷ counted 1 101 102 1
     ∷ counted 1 102 101 0
@@ -337,14 +337,14 @@ table =
     (rivalSets ++ ([] ∷ [] ∷ (105 ∷ []) ∷ [] ∷ (105 ∷ []) ∷ [] ∷ (106 ∷ []) ∷ []))
     (noRegister ∷ noRegister ∷ stamped 900 2 1 ∷ noRegister ∷ noRegister ∷ noRegister ∷ noRegister ∷ noRegister ∷ [])
     -- The others. P: the lines of the worked run, with both sums
-    ∷ lists (1 ∷ 3 ∷ flatten (worked ++ (handover 3 1 ∷ []))) 4096 16384 0
+    ∷ lists (1 ∷ 3 ∷ flatten (worked ++ (handover 3 1 ∷ []))) 64 16384 0
     (52 ∷ 32 ∷ 49 ∷ 32 ∷ 51 ∷ 48 ∷ 32 ∷ 48 ∷ 32 ∷ 49 ∷ 46 ∷ 49 ∷ 10
     ∷ 55 ∷ 32 ∷ 50 ∷ 32 ∷ 51 ∷ 48 ∷ 32 ∷ 48 ∷ 32 ∷ 49 ∷ 46 ∷ 49 ∷ 10
     ∷ 56 ∷ 32 ∷ 50 ∷ 32 ∷ 51 ∷ 48 ∷ 32 ∷ 50 ∷ 32 ∷ 51 ∷ 46 ∷ 49 ∷ 10
     ∷ 49 ∷ 49 ∷ 32 ∷ 51 ∷ 32 ∷ 51 ∷ 48 ∷ 32 ∷ 50 ∷ 32 ∷ 49 ∷ 46 ∷ 49 ∷ 32 ∷ 51 ∷ 46 ∷ 49 ∷ 10
     ∷ [])
     -- P: n = 1
-    ∷ case 1 (report 1 5 ∷ []) (handover 1 1) 4096 0 ([] ∷ (101 ∷ []) ∷ [])
+    ∷ case 1 (report 1 5 ∷ []) (handover 1 1) 64 0 ([] ∷ (101 ∷ []) ∷ [])
     -- P: and for each other n the marks of a majority
     ∷ takes 2 2
     ∷ takes 3 2
@@ -352,43 +352,43 @@ table =
     ∷ takes 6 4
     ∷ takes 7 4
     -- P: amounts
-    ∷ quiet 1 [] (report 1 360) 4096 0 1
-    ∷ quiet 1 [] (report 1 361) 4096 9 0
-    ∷ quiet 1 [] (report 1 0) 4096 9 0
-    ∷ quiet 1 [] (report 1 (minus 360)) 4096 0 1
-    ∷ quiet 1 [] (report 1 (minus 361)) 4096 9 0
+    ∷ quiet 1 [] (report 1 360) 64 0 1
+    ∷ quiet 1 [] (report 1 361) 64 9 0
+    ∷ quiet 1 [] (report 1 0) 64 9 0
+    ∷ quiet 1 [] (report 1 (minus 360)) 64 0 1
+    ∷ quiet 1 [] (report 1 (minus 361)) 64 9 0
     -- P: of version 2, classes 1 to 4; a report of version 1 has none, whatever follows its record: a look shows it in class 0
-    ∷ quiet₂ 1 [] (classed 1 360 1) 4096 0 1
-    ∷ quiet₂ 1 [] (classed 1 360 4) 4096 0 1
-    ∷ quiet₂ 1 [] (classed 1 360 0) 4096 17 0
-    ∷ quiet₂ 1 [] (classed 1 360 5) 4096 17 0
-    ∷ quiet₂ 1 [] (classed 1 360 255) 4096 17 0
-    ∷ quiet 1 [] (report 1 360 ++ (5 ∷ [])) 4096 0 1
+    ∷ quiet₂ 1 [] (classed 1 360 1) 64 0 1
+    ∷ quiet₂ 1 [] (classed 1 360 4) 64 0 1
+    ∷ quiet₂ 1 [] (classed 1 360 0) 64 17 0
+    ∷ quiet₂ 1 [] (classed 1 360 5) 64 17 0
+    ∷ quiet₂ 1 [] (classed 1 360 255) 64 17 0
+    ∷ quiet 1 [] (report 1 360 ++ (5 ∷ [])) 64 0 1
     ∷ shows 1 1 ((report 1 360 ++ (4 ∷ [])) ∷ handover 1 1 ∷ []) 1 (each 1 101) (both 360 0) (both 360 0 ∷ noSums ∷ noSums ∷ noSums ∷ noSums ∷ [])
     -- P: the length of a report goes by the table's version; those of the other kinds do not
-    ∷ quiet 1 [] (classed 1 360 1) 4096 7 0
-    ∷ quiet₂ 1 [] (report 1 360 ++ (1 ∷ [])) 4096 7 0
-    ∷ quiet₂ 1 [] (sync 1) 4096 0 1
-    ∷ quiet₂ 1 [] (stop 1 0) 4096 0 1
-    ∷ quiet₂ 2 (classed 2 1 1 ∷ []) (handover 1 2) 4096 0 2
+    ∷ quiet 1 [] (classed 1 360 1) 64 7 0
+    ∷ quiet₂ 1 [] (report 1 360 ++ (1 ∷ [])) 64 7 0
+    ∷ quiet₂ 1 [] (sync 1) 64 0 1
+    ∷ quiet₂ 1 [] (stop 1 0) 64 0 1
+    ∷ quiet₂ 2 (classed 2 1 1 ∷ []) (handover 1 2) 64 0 2
     -- P: a second report while the first is pending, and the 64th; a sync is refused
-    ∷ quiet 2 (report 1 1 ∷ []) (report 1 1) 4096 0 2
-    ∷ quiet 2 (full 63) (report 1 1) 4096 0 64
-    ∷ quiet 2 (report 1 1 ∷ []) (sync 1) 4096 11 1
-    ∷ quiet 2 (report 1 1 ∷ report 1 1 ∷ []) (sync 1) 4096 11 2
+    ∷ quiet 2 (report 1 1 ∷ []) (report 1 1) 64 0 2
+    ∷ quiet 2 (full 63) (report 1 1) 64 0 64
+    ∷ quiet 2 (report 1 1 ∷ []) (sync 1) 64 11 1
+    ∷ quiet 2 (report 1 1 ∷ report 1 1 ∷ []) (sync 1) 64 11 2
     -- so is a sync after a sync, but not a report
-    ∷ quiet 2 (sync 1 ∷ []) (sync 1) 4096 11 1
-    ∷ quiet 2 (sync 1 ∷ []) (report 1 1) 4096 0 2
+    ∷ quiet 2 (sync 1 ∷ []) (sync 1) 64 11 1
+    ∷ quiet 2 (sync 1 ∷ []) (report 1 1) 64 0 2
     -- P: reports of one sender are applied in number order or, here, together; the entries of what was applied are passed over
-    ∷ case 1 (report 1 5 ∷ report 1 7 ∷ report 1 (minus 2) ∷ handover 1 1 ∷ handover 1 1 ∷ []) (handover 1 1) 4096 0 ([] ∷ [] ∷ [] ∷ (101 ∷ 102 ∷ 103 ∷ []) ∷ [] ∷ [] ∷ [])
+    ∷ case 1 (report 1 5 ∷ report 1 7 ∷ report 1 (minus 2) ∷ handover 1 1 ∷ handover 1 1 ∷ []) (handover 1 1) 64 0 ([] ∷ [] ∷ [] ∷ (101 ∷ 102 ∷ 103 ∷ []) ∷ [] ∷ [] ∷ [])
     -- a stop can then cut off what was applied
-    ∷ case 1 (report 1 5 ∷ report 1 7 ∷ handover 1 1 ∷ []) (stop 1 1) 4096 0 ([] ∷ [] ∷ (101 ∷ 102 ∷ []) ∷ [] ∷ [])
+    ∷ case 1 (report 1 5 ∷ report 1 7 ∷ handover 1 1 ∷ []) (stop 1 1) 64 0 ([] ∷ [] ∷ (101 ∷ 102 ∷ []) ∷ [] ∷ [])
     -- P: the run with reports under way: its sets, what a local read gives in it, and a local read that is refused in between
-    ∷ case 3 further (handover 3 2) 4096 0 (underwaySets ++ ((102 ∷ []) ∷ [] ∷ [] ∷ [] ∷ (101 ∷ []) ∷ (102 ∷ []) ∷ []))
+    ∷ case 3 further (handover 3 2) 64 0 (underwaySets ++ ((102 ∷ []) ∷ [] ∷ [] ∷ [] ∷ (101 ∷ []) ∷ (102 ∷ []) ∷ []))
     ∷ sums 1 3 underway (local 2) (underwaySets ++ ([] ∷ [])) false (both 30 0)
-    ∷ case 3 underway (local 1) 4096 18 underwaySets
+    ∷ case 3 underway (local 1) 64 18 underwaySets
     ∷ sums 1 3 further (local 1) (underwaySets ++ ((102 ∷ []) ∷ [] ∷ [] ∷ [] ∷ (101 ∷ []) ∷ [] ∷ [])) false (both 50 0)
-    ∷ lists (1 ∷ 3 ∷ flatten further) 4096 16384 0
+    ∷ lists (1 ∷ 3 ∷ flatten further) 64 16384 0
     (52 ∷ 32 ∷ 50 ∷ 32 ∷ 51 ∷ 48 ∷ 32 ∷ 48 ∷ 32 ∷ 49 ∷ 46 ∷ 49 ∷ 10
     ∷ 55 ∷ 32 ∷ 49 ∷ 32 ∷ 51 ∷ 48 ∷ 32 ∷ 48 ∷ 32 ∷ 49 ∷ 46 ∷ 49 ∷ 10
     ∷ 56 ∷ 32 ∷ 49 ∷ 32 ∷ 53 ∷ 48 ∷ 32 ∷ 48 ∷ 32 ∷ 49 ∷ 46 ∷ 50 ∷ 10
@@ -402,36 +402,36 @@ table =
     ∷ holds 1 2 sought 1 (wroteSets ++ ([] ∷ [] ∷ [] ∷ (201 ∷ []) ∷ (103 ∷ 202 ∷ []) ∷ []))
     (stamped 1500 1 2 ∷ noRegister ∷ noRegister ∷ noRegister ∷ noRegister ∷ noRegister ∷ noRegister ∷ noRegister ∷ [])
     -- a local read: 7 before 8 before 10 before 18 before 15
-    ∷ quiet 1 [] (1 ∷ 5 ∷ []) 4096 7 0
+    ∷ quiet 1 [] (1 ∷ 5 ∷ []) 64 7 0
     ∷ quiet 1 [] (3 ∷ 5 ∷ 9 ∷ 0 ∷ []) 0 7 0
-    ∷ quiet 2 [] (local 0) 4096 8 0
-    ∷ quiet 2 [] (local 3) 4096 8 0
+    ∷ quiet 2 [] (local 0) 64 8 0
+    ∷ quiet 2 [] (local 3) 64 8 0
     ∷ quiet 2 [] (local 8) 0 8 0
     ∷ quiet 2 (report 1 1 ∷ stop 1 1 ∷ []) (local 1) 0 10 2
     ∷ quiet 2 (report 1 1 ∷ []) (local 1) 0 18 1
     ∷ quiet 2 (sync 1 ∷ []) (local 1) 0 18 1
-    ∷ quiet 2 [] (local 1) 4095 15 0
+    ∷ quiet 2 [] (local 1) 63 15 0
     -- P: a write follows on an applied sync of its sender's own, and its latest message: not on nothing, on a report, on a sync before a report,
     -- on a write, or on another's sync
-    ∷ case 1 (sync 1 ∷ handover 1 1 ∷ []) (write 1 1 5) 4096 0 ([] ∷ (101 ∷ []) ∷ [] ∷ [])
-    ∷ row (events 2 1 (sync 1 ∷ handover 1 1 ∷ []) (single (write 1 1 5) 4096)) 0 ([] ∷ (101 ∷ []) ∷ [] ∷ [])
-    ∷ quiet 1 [] (write 1 1 5) 4096 20 0
-    ∷ case 1 (report 1 5 ∷ handover 1 1 ∷ []) (write 1 1 5) 4096 20 (each 1 101)
-    ∷ case 1 (sync 1 ∷ handover 1 1 ∷ report 1 5 ∷ handover 1 1 ∷ []) (write 1 1 5) 4096 20 (each 2 101)
-    ∷ case 1 (set 1 5) (write 1 1 6) 4096 20 (each 2 101)
-    ∷ case 2 (sync 2 ∷ handover 1 2 ∷ handover 1 1 ∷ []) (write 1 1 5) 4096 20 ([] ∷ [] ∷ (201 ∷ []) ∷ [])
+    ∷ case 1 (sync 1 ∷ handover 1 1 ∷ []) (write 1 1 5) 64 0 ([] ∷ (101 ∷ []) ∷ [] ∷ [])
+    ∷ row (events 2 1 (sync 1 ∷ handover 1 1 ∷ []) (single (write 1 1 5) 64)) 0 ([] ∷ (101 ∷ []) ∷ [] ∷ [])
+    ∷ quiet 1 [] (write 1 1 5) 64 20 0
+    ∷ case 1 (report 1 5 ∷ handover 1 1 ∷ []) (write 1 1 5) 64 20 (each 1 101)
+    ∷ case 1 (sync 1 ∷ handover 1 1 ∷ report 1 5 ∷ handover 1 1 ∷ []) (write 1 1 5) 64 20 (each 2 101)
+    ∷ case 1 (set 1 5) (write 1 1 6) 64 20 (each 2 101)
+    ∷ case 2 (sync 2 ∷ handover 1 2 ∷ handover 1 1 ∷ []) (write 1 1 5) 64 20 ([] ∷ [] ∷ (201 ∷ []) ∷ [])
     -- a message of another that is pending, or sent later, does not keep it from its sync
-    ∷ case 2 (sync 1 ∷ handover 2 1 ∷ handover 1 2 ∷ report 2 5 ∷ handover 1 2 ∷ []) (write 1 1 5) 4096 0 ([] ∷ [] ∷ (101 ∷ []) ∷ [] ∷ [] ∷ [] ∷ [])
+    ∷ case 2 (sync 1 ∷ handover 2 1 ∷ handover 1 2 ∷ report 2 5 ∷ handover 1 2 ∷ []) (write 1 1 5) 64 0 ([] ∷ [] ∷ (101 ∷ []) ∷ [] ∷ [] ∷ [] ∷ [])
     -- P: registers 1 to 8
-    ∷ case 1 (sync 1 ∷ handover 1 1 ∷ []) (write 1 0 5) 4096 19 (each 1 101)
-    ∷ case 1 (sync 1 ∷ handover 1 1 ∷ []) (write 1 8 5) 4096 0 (each 1 101 ++ ([] ∷ []))
-    ∷ case 1 (sync 1 ∷ handover 1 1 ∷ []) (write 1 9 5) 4096 19 (each 1 101)
-    ∷ case 1 (sync 1 ∷ handover 1 1 ∷ []) (write 1 255 5) 4096 19 (each 1 101)
+    ∷ case 1 (sync 1 ∷ handover 1 1 ∷ []) (write 1 0 5) 64 19 (each 1 101)
+    ∷ case 1 (sync 1 ∷ handover 1 1 ∷ []) (write 1 8 5) 64 0 (each 1 101 ++ ([] ∷ []))
+    ∷ case 1 (sync 1 ∷ handover 1 1 ∷ []) (write 1 9 5) 64 19 (each 1 101)
+    ∷ case 1 (sync 1 ∷ handover 1 1 ∷ []) (write 1 255 5) 64 19 (each 1 101)
     -- a write: 6, reaching to 6, before 7 before 8 before 19 before 10 before 11 before 12 before 20 before 15
     ∷ quiet 1 [] (2 ∷ 7 ∷ 1 ∷ []) 0 6 0
     ∷ quiet 1 [] (2 ∷ 6 ∷ 9 ∷ []) 0 7 0
     ∷ quiet 1 [] (8 ∷ 6 ∷ 9 ∷ 0 ∷ 0 ∷ 0 ∷ 0 ∷ 0 ∷ 0 ∷ []) 0 7 0
-    ∷ quiet 2 [] (write 0 1 5) 4096 8 0
+    ∷ quiet 2 [] (write 0 1 5) 64 8 0
     ∷ quiet 2 [] (write 3 0 5) 0 8 0
     ∷ quiet 2 (stop 1 0 ∷ []) (write 1 9 5) 0 19 1
     ∷ quiet 2 (report 1 1 ∷ stop 1 1 ∷ []) (write 1 8 5) 0 10 2
@@ -439,16 +439,16 @@ table =
     ∷ quiet 2 (full 64) (write 1 8 5) 0 11 64
     ∷ quiet 2 (full 64) (write 2 8 5) 0 12 64
     ∷ quiet 2 [] (write 2 8 5) 0 20 0
-    ∷ case 1 (sync 1 ∷ handover 1 1 ∷ []) (write 1 8 5) 4095 15 (each 1 101)
+    ∷ case 1 (sync 1 ∷ handover 1 1 ∷ []) (write 1 8 5) 63 15 (each 1 101)
     -- a write that is pending: a report may follow, a sync and another write may not
-    ∷ case 1 (sync 1 ∷ handover 1 1 ∷ write 1 1 5 ∷ []) (report 1 5) 4096 0 (each 1 101 ++ ([] ∷ [] ∷ []))
-    ∷ case 1 (sync 1 ∷ handover 1 1 ∷ write 1 1 5 ∷ []) (sync 1) 4096 11 (each 1 101 ++ ([] ∷ []))
-    ∷ case 1 (sync 1 ∷ handover 1 1 ∷ write 1 1 5 ∷ []) (write 1 1 5) 4096 11 (each 1 101 ++ ([] ∷ []))
+    ∷ case 1 (sync 1 ∷ handover 1 1 ∷ write 1 1 5 ∷ []) (report 1 5) 64 0 (each 1 101 ++ ([] ∷ [] ∷ []))
+    ∷ case 1 (sync 1 ∷ handover 1 1 ∷ write 1 1 5 ∷ []) (sync 1) 64 11 (each 1 101 ++ ([] ∷ []))
+    ∷ case 1 (sync 1 ∷ handover 1 1 ∷ write 1 1 5 ∷ []) (write 1 1 5) 64 11 (each 1 101 ++ ([] ∷ []))
     -- P: a stop at log length 3, highest read position 2
-    ∷ quiet 4 three (stop 1 1) 4096 14 7
-    ∷ quiet 4 three (stop 1 2) 4096 0 8
-    ∷ quiet 4 three (stop 1 3) 4096 0 8
-    ∷ quiet 4 three (stop 1 4) 4096 14 7
+    ∷ quiet 4 three (stop 1 1) 64 14 7
+    ∷ quiet 4 three (stop 1 2) 64 0 8
+    ∷ quiet 4 three (stop 1 3) 64 0 8
+    ∷ quiet 4 three (stop 1 4) 64 14 7
     -- an event: 4 before 5 before 6 before 7 before 8
     ∷ quiet 0 [] [] 0 4 0
     ∷ row (events 0 1 [] (single [] 0)) 4 []
@@ -461,28 +461,28 @@ table =
     -- P: the 64th message is accepted (above), and the 65th gives 12; a report: 10 before 12 before 15
     ∷ quiet 2 (full 64 ++ (stop 1 64 ∷ [])) (report 1 1) 0 10 65
     ∷ quiet 2 (full 64) (report 1 1) 0 12 64
-    ∷ quiet 1 [] (report 1 1) 4095 15 0
+    ∷ quiet 1 [] (report 1 1) 63 15 0
     -- a sync: 7 before 8 before 10 before 11 before 12 before 15; no controller 8 runs
     ∷ quiet 1 [] (3 ∷ 2 ∷ 9 ∷ 0 ∷ []) 0 7 0
     ∷ quiet 2 [] (sync 8) 0 8 0
     ∷ quiet 2 (report 1 1 ∷ stop 1 1 ∷ []) (sync 1) 0 10 2
     ∷ quiet 2 (full 64) (sync 1) 0 11 64
     ∷ quiet 2 (full 64) (sync 2) 0 12 64
-    ∷ quiet 1 [] (sync 1) 4095 15 0
+    ∷ quiet 1 [] (sync 1) 63 15 0
     -- a handover: 7 before 8 before 10 before 13 before 15
     ∷ quiet 1 [] (2 ∷ 3 ∷ 9 ∷ []) 0 7 0
     ∷ quiet 2 (stop 1 0 ∷ []) (handover 1 3) 0 8 1
     ∷ quiet 2 (stop 1 0 ∷ []) (handover 1 2) 0 10 1
     ∷ quiet 2 [] (handover 1 2) 0 13 0
-    ∷ quiet 2 (report 2 1 ∷ []) (handover 1 2) 4095 15 1
+    ∷ quiet 2 (report 2 1 ∷ []) (handover 1 2) 63 15 1
     -- a log owner need not run
-    ∷ quiet 2 (report 2 1 ∷ stop 2 1 ∷ []) (handover 1 2) 4096 0 3
+    ∷ quiet 2 (report 2 1 ∷ stop 2 1 ∷ []) (handover 1 2) 64 0 3
     -- a stop: 7 before 8 before 10 before 14 before 15
     ∷ quiet 1 [] (3 ∷ 4 ∷ 9 ∷ 0 ∷ []) 0 7 0
     ∷ quiet 2 [] (stop 8 1) 0 8 0
     ∷ quiet 2 (stop 1 0 ∷ []) (stop 1 1) 0 10 1
     ∷ quiet 2 [] (stop 1 1) 0 14 0
-    ∷ quiet 2 [] (stop 1 0) 4095 15 0
+    ∷ quiet 2 [] (stop 1 0) 63 15 0
     -- a file: 1 before 2 before 3 before 5; 16 where a line does not fit, which only an accepted event has
     ∷ row (file (1 ∷ [])) 1 []
     ∷ row (file (3 ∷ [])) 1 []
@@ -495,15 +495,15 @@ table =
     ∷ row (file (1 ∷ 3 ∷ [])) 0 []
     ∷ row (file (2 ∷ 3 ∷ [])) 0 []
     ∷ row (file (1 ∷ 1 ∷ 9 ∷ [])) 5 []
-    ∷ row (run (1 ∷ 1 ∷ report 1 5 ++ handover 1 1) 4095 0) 15 []
-    ∷ row (run (1 ∷ 1 ∷ report 1 5 ++ handover 1 1) 4096 11) 16 []
-    ∷ lists (1 ∷ 1 ∷ report 1 5 ++ handover 1 1) 4096 12 0 (50 ∷ 32 ∷ 49 ∷ 32 ∷ 53 ∷ 32 ∷ 48 ∷ 32 ∷ 49 ∷ 46 ∷ 49 ∷ 10 ∷ [])
+    ∷ row (run (1 ∷ 1 ∷ report 1 5 ++ handover 1 1) 63 0) 15 []
+    ∷ row (run (1 ∷ 1 ∷ report 1 5 ++ handover 1 1) 64 11) 16 []
+    ∷ lists (1 ∷ 1 ∷ report 1 5 ++ handover 1 1) 64 12 0 (50 ∷ 32 ∷ 49 ∷ 32 ∷ 53 ∷ 32 ∷ 48 ∷ 32 ∷ 49 ∷ 46 ∷ 49 ∷ 10 ∷ [])
     -- a local read counts as an event and has no line
-    ∷ lists (1 ∷ 1 ∷ local 1 ++ (report 1 5 ++ (handover 1 1 ++ local 1))) 4096 12 0 (51 ∷ 32 ∷ 49 ∷ 32 ∷ 53 ∷ 32 ∷ 48 ∷ 32 ∷ 49 ∷ 46 ∷ 49 ∷ 10 ∷ [])
+    ∷ lists (1 ∷ 1 ∷ local 1 ++ (report 1 5 ++ (handover 1 1 ++ local 1))) 64 12 0 (51 ∷ 32 ∷ 49 ∷ 32 ∷ 53 ∷ 32 ∷ 48 ∷ 32 ∷ 49 ∷ 46 ∷ 49 ∷ 10 ∷ [])
     -- the length of a record goes by the file's version
-    ∷ lists (2 ∷ 1 ∷ classed 1 5 2 ++ handover 1 1) 4096 12 0 (50 ∷ 32 ∷ 49 ∷ 32 ∷ 53 ∷ 32 ∷ 48 ∷ 32 ∷ 49 ∷ 46 ∷ 49 ∷ 10 ∷ [])
-    ∷ row (run (2 ∷ 1 ∷ report 1 5 ++ handover 1 1) 4096 12) 7 []
-    ∷ row (run (1 ∷ 1 ∷ classed 1 5 2 ++ handover 1 1) 4096 12) 7 []
+    ∷ lists (2 ∷ 1 ∷ classed 1 5 2 ++ handover 1 1) 64 12 0 (50 ∷ 32 ∷ 49 ∷ 32 ∷ 53 ∷ 32 ∷ 48 ∷ 32 ∷ 49 ∷ 46 ∷ 49 ∷ 10 ∷ [])
+    ∷ row (run (2 ∷ 1 ∷ report 1 5 ++ handover 1 1) 64 12) 7 []
+    ∷ row (run (1 ∷ 1 ∷ classed 1 5 2 ++ handover 1 1) 64 12) 7 []
     -- a fresh table: 2 before 3; versions 1 and 2, 1 to 7 controllers
     ∷ row (request 0 8) 2 []
     ∷ row (request 3 8) 2 []

@@ -7,6 +7,7 @@ pub mod Decimals
 pub mod Lengths
 pub mod Runs
 pub mod Largest
+pub mod Matrix
 pub mod Before
 pub mod Computed
 pub mod Cases

@@ -9,6 +9,7 @@ use lib.ListN.{length, length-drop}
 use lib.Dec.{eqb, leb, ltb}
 use borrow.Author.Tests.{ltb-true, leb-true, eqb-true, eqb-false, eq-eqb}
 use Rattle.lists.proofs.Tests.{cond-case, cond-true}
+use Rattle.model.specs.Tables.{scratchSize}
 use Rattle.model.specs.Events.{resulting}
 use Rattle.model.specs.Records.{size, afterRecord, decode}
 use Rattle.model.specs.WellFormed.{wellFormed}
@@ -79,9 +80,9 @@ module _ (t : Table) (s : List ℕ) (room : ℕ) where
     unfolding afterRecord
     accepted-shorter = rw accepted-rest (omega (arith, accepted-within, length-drop (size s + 1) s))
 
-    pub accepted-room : 4096 ≤ room
+    pub accepted-room : scratchSize ≤ room
     unfolding scratchRoom
-    accepted-room = leb-true 4096 room (no-no 14 (leb 4096 room) [] (step-asked t s room accepted-asked .2) .0)
+    accepted-room = leb-true scratchSize room (no-no 14 (leb scratchSize room) [] (step-asked t s room accepted-asked .2) .0)
 
 -- so too of an event call
 pub event-shorter : (t : Table) (s : List ℕ) (room : ℕ) → event t s room .answer .refusal ≡ 0 → length (event t s room .answer .rest) < length s

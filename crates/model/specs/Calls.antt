@@ -66,7 +66,7 @@ step t s room = settled t s (firstNo (stepQuestions t s room))
 unfoldable pub event : Table → List ℕ → ℕ → Outcome
 event t s room = settled t s (firstNo (lentTable t ∷ stepQuestions t s room))
 
--- the first 4,096 bytes zero, later ones as they were
+-- the first 64 bytes zero, later ones as they were
 unfoldable pub cleared : List ℕ → List ℕ
 cleared s = over (λ i. 0) scratchSize s
 

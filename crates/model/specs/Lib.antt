@@ -3,6 +3,7 @@ pub mod Sized
 pub mod Delivery
 pub mod Largest
 pub mod Rounds
+pub mod Matrix
 pub mod Registers
 pub mod Events
 pub mod Records

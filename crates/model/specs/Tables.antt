@@ -37,9 +37,9 @@ classCount = 5
 abbrev pub registerCount : ℕ
 registerCount = 8
 
--- the scratch bytes that an event asks for
+-- the scratch bytes that an event asks for, one for each message that can be pending
 abbrev pub scratchSize : ℕ
-scratchSize = 4096
+scratchSize = capacity
 
 -- c is one of n controllers
 pub record Among (n c : ℕ) : Type 0 where

@@ -189,7 +189,7 @@ impl Table {
     // The version of files whose reports name a class, and the last version.
     pub const CLASSED: usize = 2;
 
-    pub const SCRATCH: usize = 4096;
+    pub const SCRATCH: usize = Table::MESSAGES;
 
     pub const LONGEST_FILE: usize = 65535;
 

@@ -45,7 +45,7 @@ pub const NO_ENTRY: u8 = 13;
 // Is the length kept at most the log's, and at least every read position in it?
 pub const KEPT: u8 = 14;
 
-// Has the scratch area 4,096 bytes or more?
+// Has the scratch area 64 bytes or more?
 pub const SCRATCH: u8 = 15;
 
 // Does the line fit in what is left of the listing?

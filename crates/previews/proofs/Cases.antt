@@ -46,7 +46,7 @@ previewed a = record { refusal = a .refusal; set = map coded (a .names); acts = 
 
 called : Table → List Called → List Given
 called t [] = []
-called t (sends s ∷ more) = let o = step t s 4096 in answered o ∷ called (o .table) more
+called t (sends s ∷ more) = let o = step t s 64 in answered o ∷ called (o .table) more
 called t (asks p room ∷ more) = previewed (preview t (pair (p / 100) (p % 100)) room) ∷ called t more
 called t (commits p k room ∷ more) = let o = commit t (pair (p / 100) (p % 100)) k room in answered o ∷ called (o .table) more
 
@@ -59,10 +59,10 @@ abbrev row : ℕ → List (List ℕ) → List Called → List Given → Row
 row n rs cs gs = record { table = played (fresh 1 n) rs; calls = cs; gives = gs }
 
 abbrev ask : ℕ → Called
-ask p = asks p 4096
+ask p = asks p 64
 
 abbrev take : ℕ → ℕ → Called
-take p k = commits p k 4096
+take p k = commits p k 64
 
 -- an accepted ask: the set, and the act count
 abbrev shows : List ℕ → ℕ → Given
@@ -92,7 +92,7 @@ table =
     ∷ applies [] ∷ applies [] ∷ shows (101 ∷ 301 ∷ []) 3 ∷ applies (101 ∷ 301 ∷ []) ∷ [])
     -- P: 21 before 13 and 15: nothing to read, and no scratch; then 13 before 15; then 15
     ∷ row 2 (report 1 5 ∷ []) (commits 102 0 0 ∷ commits 102 2 0 ∷ commits 102 1 0 ∷ asks 102 0 ∷ []) (refuses 21 ∷ refuses 21 ∷ refuses 13 ∷ refuses 13 ∷ [])
-    ∷ row 2 (report 1 5 ∷ []) (commits 201 1 4096 ∷ commits 201 1 0 ∷ commits 201 0 4095 ∷ asks 201 4095 ∷ commits 201 0 0 ∷ asks 201 0 ∷ commits 201 0 4096 ∷ [])
+    ∷ row 2 (report 1 5 ∷ []) (commits 201 1 64 ∷ commits 201 1 0 ∷ commits 201 0 63 ∷ asks 201 63 ∷ commits 201 0 0 ∷ asks 201 0 ∷ commits 201 0 64 ∷ [])
     (refuses 21 ∷ refuses 21 ∷ refuses 15 ∷ refuses 15 ∷ refuses 15 ∷ refuses 15 ∷ applies [] ∷ [])
     -- P: 10 before 21, and before 13 and 15
     ∷ row 2 (report 1 5 ∷ stop 2 0 ∷ []) (take 201 0 ∷ take 201 1 ∷ commits 202 9 0 ∷ ask 201 ∷ asks 202 0 ∷ []) (refuses 10 ∷ refuses 10 ∷ refuses 10 ∷ refuses 10 ∷ refuses 10 ∷ [])
@@ -103,7 +103,7 @@ table =
     ∷ row 0 [] (asks 0 0 ∷ commits 0 0 0 ∷ []) (refuses 4 ∷ refuses 4 ∷ [])
     ∷ record {
       table = let t = played (fresh 1 2) (report 1 5 ∷ stop 2 0 ∷ []) in withController t 2 (withRead (at t 2) 2);
-      calls = asks 202 0 ∷ commits 202 9 0 ∷ asks 201 4096 ∷ [];
+      calls = asks 202 0 ∷ commits 202 9 0 ∷ asks 201 64 ∷ [];
       gives = refuses 4 ∷ refuses 4 ∷ refuses 4 ∷ [];
     }
     -- P: an entry that a stop cuts away gives 13, the count unchanged; one that it keeps is taken

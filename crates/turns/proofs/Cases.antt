@@ -71,7 +71,7 @@ called t (a ∷ more) =
 
 unfoldable pub played : Table → List (List ℕ) → Table
 played t [] = t
-played t (r ∷ rs) = played (step t r 4096 .table) rs
+played t (r ∷ rs) = played (step t r 64 .table) rs
 
 record Row : Type 0 where
   table : Table
@@ -83,7 +83,7 @@ abbrev row : ℕ → List (List ℕ) → List Asked → List Given → Row
 row n rs cs gs = record { table = played (fresh 1 n) rs; asks = cs; gives = gs }
 
 abbrev ask : ℕ → Asked
-ask p = record { named = p; room = 4096 }
+ask p = record { named = p; room = 64 }
 
 -- with this many bytes of scratch
 abbrev lent : ℕ → ℕ → Asked
@@ -131,7 +131,7 @@ table =
     ∷ row 2 (report 1 5 ∷ stop 1 1 ∷ stop 2 0 ∷ []) (ask 202 ∷ []) (none ∷ [])
     -- P: "none" with 0 bytes of scratch, and dirty scratch; 15 where an entry waits
     ∷ row 2 [] (lent 202 0 ∷ []) (none ∷ [])
-    ∷ row 2 (report 1 5 ∷ []) (lent 202 4095 ∷ lent 202 0 ∷ lent 202 4096 ∷ []) (refuses 15 ∷ refuses 15 ∷ serves 101 [] ∷ [])
+    ∷ row 2 (report 1 5 ∷ []) (lent 202 63 ∷ lent 202 0 ∷ lent 202 64 ∷ []) (refuses 15 ∷ refuses 15 ∷ serves 101 [] ∷ [])
     -- P: a pair with 0 or n + 1 gives 8, before 15, and also where nothing waits
     ∷ row 2 (report 1 5 ∷ []) (lent 1 0 ∷ lent 100 0 ∷ lent 301 0 ∷ lent 103 0 ∷ lent 0 0 ∷ []) (refuses 8 ∷ refuses 8 ∷ refuses 8 ∷ refuses 8 ∷ refuses 8 ∷ [])
     ∷ row 2 [] (ask 1 ∷ ask 200 ∷ ask 302 ∷ ask 203 ∷ ask 808 ∷ []) (refuses 8 ∷ refuses 8 ∷ refuses 8 ∷ refuses 8 ∷ refuses 8 ∷ [])
