@@ -1,4 +1,5 @@
-pub mod HeldSlots
-pub mod ScratchMatrix
-pub mod LargestByRemoval
+pub mod Times
+pub mod Named
+pub mod Division
+pub mod Sieve
 pub mod ApplyAnswer

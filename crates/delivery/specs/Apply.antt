@@ -1,21 +1,20 @@
--- What `apply` answers and leaves, for a scratch area of any length, and how its first 4,096 bytes serve meanwhile.
+-- What `apply` answers and leaves, for a scratch area of any length, and which slots its first 64 bytes name meanwhile.
 use mathlib.Core.Path.{_≡_}
-use mathlib.Core.Bool.{Bool, true, false, _&&_, cond}
+use mathlib.Core.Bool.{false, not, _&&_, cond}
 use mathlib.Core.List.{List}
-use Prim.Native.Nat.{ℕ, _+_, _*_, _≤_, _<_}
+use Prim.Native.Nat.{ℕ, _+_, _-_, _≤_, _<_}
 use lib.ListN.{length, getD, replicate}
 use lib.Dec.{eqb, leb, ltb}
-use Rattle.lists.specs.Below.{count}
+use Rattle.lists.specs.Below.{tally, count}
 use Rattle.lists.specs.Build.{tabulate}
-use Rattle.model.specs.Tables.{capacity, inBuffer, scratchSize, yes?, entry}
-use Rattle.model.specs.Delivery.{Slots, has}
+use Rattle.model.specs.Tables.{capacity, scratchSize, inBuffer}
+use Rattle.model.specs.Delivery.{Slots}
 use Rattle.model.specs.Rounds.{applicable}
-use Rattle.model.specs.Largest.{candidate, precedes}
+use Rattle.model.specs.Largest.{candidate}
 use Rattle.model.specs.Calls.{cleared}
 use Rattle.model.specs.declared.Pending.{Pending}
-use Rattle.delivery.specs.declared.Chosen.{Chosen}
 
--- the set, with this many bytes of scratch: no slot where they are fewer than the matrix needs
+-- the set, with this many bytes of scratch: no slot where they are fewer than 64
 unfoldable pub applyAnswer : ℕ → ℕ → List Pending → Slots
 applyAnswer room n P = cond (leb scratchSize room) (applicable n P) (replicate capacity false)
 
@@ -27,54 +26,39 @@ pub record Applied (n : ℕ) (P : List Pending) (s : List ℕ) (answer : Slots) 
   pub set : answer ≡ applyAnswer (length s) n P
   pub scratch : after ≡ applyScratch s
 
--- MEANWHILE
+-- MEANWHILE the bytes name slots: from byte 0 up the members of the set, from byte 63 down the others in the buffer
 
--- whether slot t is one of the first k of a list
-unfoldable pub among : ℕ → List ℕ → ℕ → Bool
-among k L t = ltb 0 (count k (λ j. eqb (getD L j 0) t))
+abbrev pub front : List ℕ → ℕ → ℕ
+front m j = getD m j 0
 
--- the first `size` slots of a list are those below s that are in the buffer
-pub record Listed (P : List Pending) (s size : ℕ) (L : List ℕ) : Type 0 where
-  pub few : size ≤ s
-  pub below : (k : ℕ) → k < size → getD L k 0 < s
-  pub whole : (t : ℕ) → t < s → among size L t ≡ yes? (entry P t .held)
+abbrev pub back : List ℕ → ℕ → ℕ
+back m j = getD m (scratchSize - 1 - j) 0
 
--- line 15: in the buffer, with the marks of a majority
-unfoldable pub candidates : ℕ → List Pending → Slots
-candidates n P = tabulate capacity (λ s. inBuffer P s && candidate n P s)
+-- how many of the first k numbers of f are t
+unfoldable pub times : (ℕ → ℕ) → ℕ → ℕ → ℕ
+times f k t = count k (λ j. eqb (f j) t)
 
--- the candidates, and how many of the listed slots they are
-pub record Candidates (n : ℕ) (P : List Pending) (size : ℕ) (L : List ℕ) (c : Chosen) : Type 0 where
-  pub members : c .members ≡ candidates n P
-  pub count-is : c .count ≡ count size (λ k. has (c .members) (getD L k 0))
+-- the slots that the first k bytes name
+unfoldable pub named : ℕ → List ℕ → Slots
+named k m = tabulate capacity (λ t. ltb 0 (times (front m) k t))
 
--- whether slot s goes before slot t, as the scratch area has it
-abbrev pub flag : List ℕ → ℕ → ℕ → Bool
-flag m s t = yes? (getD m (s * capacity + t) 0)
-
--- row i is filled in the columns of the first k listed slots, and no other row has changed
-pub record RowFilled (n : ℕ) (P : List Pending) (L : List ℕ) (i k : ℕ) (s m : List ℕ) : Type 0 where
-  pub size : length m ≡ length s
-  pub ahead : (x : ℕ) → x < i * capacity → getD m x 0 ≡ getD s x 0
-  pub beyond : (x : ℕ) → i * capacity + capacity ≤ x → getD m x 0 ≡ getD s x 0
-  pub flags : (t : ℕ) → t < capacity → among k L t ≡ true → flag m i t ≡ precedes n P i t
-
--- the rows of the members among the first k listed slots are filled, and no byte after the matrix has changed
-pub record RowsFilled (n : ℕ) (P : List Pending) (L : List ℕ) (S : Slots) (k : ℕ) (s m : List ℕ) : Type 0 where
+-- no byte after the 64 has changed
+pub record Kept (s m : List ℕ) : Type 0 where
   pub size : length m ≡ length s
   pub beyond : (x : ℕ) → scratchSize ≤ x → getD m x 0 ≡ getD s x 0
-  pub flags : (i t : ℕ) → i < capacity → t < capacity → among k L i ≡ true → has S i ≡ true → inBuffer P t ≡ true
-      → flag m i t ≡ precedes n P i t
 
--- what the removals rely on: the list's slots and the matrix are there, and each candidate is listed
-pub record Removable (size : ℕ) (L : List ℕ) (C : Slots) (m : List ℕ) : Type 0 where
-  pub few : size ≤ capacity
-  pub below : (k : ℕ) → k < size → getD L k 0 < capacity
-  pub room : scratchSize ≤ length m
-  pub listed : (s : ℕ) → s < capacity → has C s ≡ true → among size L s ≡ true
+-- line 15: of the slots below e that are in the buffer, c bytes name each candidate once, and o bytes each other once
+pub record Divided (n : ℕ) (P : List Pending) (e : ℕ) (m : List ℕ) (c o : ℕ) : Type 0 where
+  pub few : c + o ≤ e
+  pub candidates : (t : ℕ) → times (front m) c t ≡ tally (ltb t e && (inBuffer P t && candidate n P t)) 0
+  pub others : (t : ℕ) → times (back m) o t ≡ tally (ltb t e && (inBuffer P t && not (candidate n P t))) 0
 
--- the set is found, and no byte after the matrix has changed
-pub record Settled (n : ℕ) (P : List Pending) (s : List ℕ) (answer : Slots) (m : List ℕ) : Type 0 where
-  pub set : answer ≡ applicable n P
-  pub size : length m ≡ length s
-  pub beyond : (x : ℕ) → scratchSize ≤ x → getD m x 0 ≡ getD s x 0
+-- the first k bytes are there, and name slots
+pub record Listed (k : ℕ) (m : List ℕ) : Type 0 where
+  pub few : k ≤ length m
+  pub below : (j : ℕ) → j < k → front m j < capacity
+
+-- line 16: the first c bytes name the set
+pub record Settled (n : ℕ) (P : List Pending) (m : List ℕ) (c : ℕ) : Type 0 where
+  pub listed : Listed c m
+  pub set : named c m ≡ applicable n P

@@ -1,15 +1,11 @@
 // The delivery rule: which buffered messages a controller applies (lines 15 and 16 of Algorithm 1).
 ghost use mathlib.Core.Path.{_≡_};
-ghost use mathlib.Core.Bool.{not, _&&_};
-ghost use Prim.Native.Nat.{_<_, _≤_};
-ghost use lib.ListN.{length, getD};
-ghost use lib.Dec.{leb};
-ghost use Rattle.lists.specs.Below.{tally};
-ghost use Rattle.model.specs.Tables.{capacity, scratchSize, yes?};
-ghost use Rattle.model.specs.Delivery.{has, majority, markCount, goesBefore};
-ghost use Rattle.model.specs.Rounds.{largest};
+ghost use Prim.Native.Nat.{_≤_};
+ghost use lib.ListN.{length};
+ghost use Rattle.model.specs.Tables.{capacity, scratchSize};
+ghost use Rattle.model.specs.Delivery.{majority, markCount, goesBefore};
 ghost use Rattle.model.specs.Calls.{cleared};
-ghost use Rattle.delivery.specs.Apply.{Applied, among, Listed, Candidates, flag, RowFilled, RowsFilled, Removable, Settled};
+ghost use Rattle.delivery.specs.Apply.{Applied, Kept, Divided, Listed, Settled, named};
 use model::ForwardNumber;
 use model::Pending;
 use model::Table;
@@ -54,44 +50,50 @@ pub fn goes_before(n: usize, p: Pending, q: Pending) -> usize
 
 // How many slots the first 64 bytes of scratch name: candidates from byte 0 up, the others in the buffer from byte 63 down.
 struct Split {
-    front: usize,
-    back: usize,
+    candidates: usize,
+    others: usize,
 }
 
 // Line 15: each slot in the buffer goes to its end of the 64 bytes.
-fn split(n: usize, pending: [Pending; Table::MESSAGES], scratch: &mut [u8]) -> Split
+fn divide(n: usize, pending: [Pending; Table::MESSAGES], scratch: &mut [u8]) -> Split
+    requires { ⌜ scratchSize ≤ length (now scratch) ⌝ }
+    ensures { λ r. ⌜ Kept (now (scratch .entry)) (now (scratch .exit)) × Divided n pending capacity (now (scratch .exit)) (r .candidates) (r .others) ⌝ }
 {
     let m = majority(n);
-    let mut front: usize = 0;
-    let mut back: usize = 0;
+    let mut candidates: usize = 0;
+    let mut others: usize = 0;
     for s in 0..Table::MESSAGES {
         let p = pending[s];
-        if 0 < p.held {
-            if m <= mark_count(n, p) {
-                scratch[front] = s as u8;
-                front += 1;
-            } else {
-                back += 1;
-                scratch[Table::MESSAGES - back] = s as u8;
-            }
+        if p.held == 0 {
+            continue;
         }
+        if m <= mark_count(n, p) {
+            scratch[candidates] = s as u8;
+            candidates += 1;
+            continue;
+        }
+        others += 1;
+        scratch[Table::MESSAGES - others] = s as u8;
     }
-    Split { front, back }
+    Split { candidates, others }
 }
 
-// Line 16: the non-members are taken one after the other, and each member is held against the one taken. One that does not go
-// before it gives its place to the last member, and joins the non-members.
+// Line 16: the others are taken one after another, and each member is held against the one taken. A member that does not go
+// before it is removed: it gives its place to the last member, and joins the others. The place comes to `place` and `taken`
+// again, so that no two are compared twice.
 fn settle(
     n: usize,
     pending: [Pending; Table::MESSAGES],
-    front: usize,
-    back: usize,
+    candidates: usize,
+    rest: usize,
     scratch: &mut [u8],
 ) -> usize
+    requires { ⌜ (scratchSize ≤ length (now scratch)) × Divided n pending capacity (now scratch) candidates rest ⌝ }
+    ensures { λ r. ⌜ Kept (now (scratch .entry)) (now (scratch .exit)) × Settled n pending (now (scratch .exit)) r ⌝ }
 {
     let m = majority(n);
-    let mut members = front;
-    let mut others = back;
+    let mut members = candidates;
+    let mut others = rest;
     let mut taken: usize = 0;
     let mut place: usize = 0;
     'again: while taken < others {
@@ -113,6 +115,18 @@ fn settle(
     members
 }
 
+// The set of the slots that the first bytes name.
+fn set_of(count: usize, slots: &[u8]) -> [bool; Table::MESSAGES]
+    requires { ⌜ Listed count (now slots) ⌝ }
+    ensures { λ r. ⌜ r ≡ named count (now (slots .entry)) ⌝ }
+{
+    let mut members = [false; Table::MESSAGES];
+    for k in 0..count {
+        members[slots[k] as usize] = true;
+    }
+    members
+}
+
 // The first 64 bytes become zero, or all where there are fewer.
 pub fn clear(scratch: &mut [u8])
     ensures { λ r. ⌜ now (scratch .exit) ≡ cleared (now (scratch .entry)) ⌝ }
@@ -121,16 +135,6 @@ pub fn clear(scratch: &mut [u8])
     for k in 0..end {
         scratch[k] = 0;
     }
-}
-
-// The set of the slots that the first bytes name.
-fn set_of(count: usize, slots: &[u8]) -> [bool; Table::MESSAGES]
-{
-    let mut members = [false; Table::MESSAGES];
-    for k in 0..count {
-        members[slots[k] as usize] = true;
-    }
-    members
 }
 
 // The set, and the first 64 bytes of scratch are zero afterwards; where there are fewer, no slot is answered and nothing
@@ -145,8 +149,8 @@ pub fn apply(
     if scratch.len() < Table::SCRATCH {
         return [false; Table::MESSAGES];
     }
-    let start = split(n, pending, scratch);
-    let count = settle(n, pending, start.front, start.back, scratch);
+    let start = divide(n, pending, scratch);
+    let count = settle(n, pending, start.candidates, start.others, scratch);
     let members = set_of(count, scratch);
     clear(scratch);
     members

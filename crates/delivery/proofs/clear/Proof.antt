@@ -1,4 +1,4 @@
--- `clear` zeroes the first 4,096 bytes, or all of fewer. Assumes nothing.
+-- `clear` zeroes the first 64 bytes, or all of fewer. Assumes nothing.
 use mathlib.Core.Path.{_≡_, refl, sym}
 use Prim.Native.Nat.{_-_, _≤_}
 use native.Mathlib.Omega.{arith}
@@ -6,7 +6,7 @@ use lib.ListN.{length, length-set}
 use Rattle.lists.specs.Build.{over}
 use Rattle.lists.proofs.Build.{over-none, over-more}
 use borrow.Author.Needs.{needs}
-use Rattle.delivery.proofs.ScratchMatrix.{cleared-all}
+use Rattle.delivery.proofs.ApplyAnswer.{cleared-all}
 use Rattle.delivery.proofs.clear.Statement.{statement}
 use Rattle.delivery.proofs.clear.Tie as tie
 

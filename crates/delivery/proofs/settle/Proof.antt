@@ -1,172 +1,172 @@
--- `settle` ends in the largest set by the flags: the loop of line 16 is followed removal by removal. Assumes nothing.
-use mathlib.Core.Path.{_≡_, refl, sym, _∙_}
-use mathlib.Core.Bool.{true, false}
-use mathlib.Core.Logic.{⊎-elim}
+-- `settle` ends in the set applied: the loops of line 16 are followed comparison by comparison. Assumes nothing.
+use mathlib.Core.Path.{_≡_, refl, sym, ap, ap₂, subst, _∙_}
 use mathlib.Core.List.{List}
-use Prim.Native.Nat.{ℕ, _-_, _≤_, _<_}
+use Prim.Native.Nat.{ℕ, _+_, _*_, _-_, _≤_, _<_}
 use native.Mathlib.Omega.{arith}
-use lib.ListN.{length, getD}
-use Rattle.lists.specs.Below.{count}
-use Rattle.lists.proofs.Tests.{contradiction}
-use Rattle.model.specs.Tables.{capacity}
-use Rattle.model.specs.Delivery.{has}
-use Rattle.delivery.specs.Apply.{among}
-use Rattle.delivery.proofs.HeldSlots.{among-none, among-at, among-more}
-use Rattle.delivery.proofs.LargestByRemoval.{Removing, barred, removing-start, removed-fewer, removed-still, settled}
+use borrow.Author.Tests.{le-leb, lt-leb}
+use lib.Dec.{leb}
+use lib.ListN.{length, length-set}
+use Rattle.model.specs.Tables.{capacity, scratchSize, entry}
+use Rattle.model.specs.Delivery.{goesBefore}
+use Rattle.model.specs.Largest.{precedes}
+use Rattle.model.specs.declared.Pending.{Pending}
+use Rattle.delivery.specs.Apply.{Kept, front, back}
+use Rattle.delivery.proofs.Division.{kept-all, kept-removed}
+use Rattle.delivery.proofs.Sieve.{Sieve, sieve-start, member-below, other-below, sieve-pass, sieve-take, sieve-remove, sieve-end}
 use borrow.Author.Needs.{needs}
 use Rattle.delivery.proofs.settle.Statement.{statement}
 use Rattle.delivery.proofs.settle.Tie as tie
 
-abbrev Inv-loop2 : tie.InvT-loop2
-Inv-loop2 size flags slots members₀ j s k₀ members k =
-    (k ≤ size) × (members ≡ members₀) × ((t : ℕ) → among k slots t ≡ true → barred flags members₀ s t ≡ false)
-
-abbrev μ-loop2 : tie.MeasureT-loop2
-μ-loop2 size flags slots members₀ j s k₀ members k = size - k
-
+-- while a non-member is held against the members, nothing moves but the place
 abbrev Inv-loop : tie.InvT-loop
-Inv-loop size flags slots members₀ j₀ members j =
-    (j ≤ size) × (members ≡ members₀)
-    × ((s : ℕ) → among j slots s ≡ true → has members₀ s ≡ true → (t : ℕ) → among size slots t ≡ true → barred flags members₀ s t ≡ false)
+Inv-loop n candidates rest scratch₀ pending m members₀ others₀ taken place₀ q scratch members others place =
+    (scratch ≡ scratch₀) × (members ≡ members₀) × (others ≡ others₀) × (q ≡ entry pending (back scratch taken)) × Sieve n pending scratch members others taken place
 
 abbrev μ-loop : tie.MeasureT-loop
-μ-loop size flags slots members₀ j₀ members j = size - j
+μ-loop n candidates rest scratch₀ pending m members₀ others₀ taken place₀ q scratch members others place = members - place
 
 abbrev Inv-again : tie.InvT-again
-Inv-again size flags slots members₀ members = Removing size slots members₀ flags members
+Inv-again n candidates rest scratch₀ pending m members₀ others₀ taken₀ place₀ scratch members others taken place =
+    Kept scratch₀ scratch × Sieve n pending scratch members others taken place
 
+-- a removal takes one from the members and gives one to the others
 abbrev μ-again : tie.MeasureT-again
-μ-again size flags slots members₀ members = count capacity (has members)
+μ-again n candidates rest scratch₀ pending m members₀ others₀ taken₀ place₀ scratch members others taken place = 2 * members + (others - taken)
 
--- PLACES: the start, a pass, its turn at a member, and the turn there at another slot
+-- PLACES: the start, a non-member taken, a member held against it, and after the comparison
 abbrev Start : Type 0
-Start = tie.Start Inv-loop2 μ-loop2 Inv-loop μ-loop Inv-again μ-again
+Start = tie.Start Inv-loop μ-loop Inv-again μ-again
 
 abbrev At-again : Type 0
-At-again = tie.At-again Inv-loop2 μ-loop2 Inv-loop μ-loop Inv-again μ-again
+At-again = tie.At-again Inv-loop μ-loop Inv-again μ-again
+
+abbrev In-again : Type 0
+In-again = tie.In-again Inv-loop μ-loop Inv-again μ-again
 
 abbrev At-loop : Type 0
-At-loop = tie.At-loop Inv-loop2 μ-loop2 Inv-loop μ-loop Inv-again μ-again
+At-loop = tie.At-loop Inv-loop μ-loop Inv-again μ-again
 
 abbrev In-loop : Type 0
-In-loop = tie.In-loop Inv-loop2 μ-loop2 Inv-loop μ-loop Inv-again μ-again
+In-loop = tie.In-loop Inv-loop μ-loop Inv-again μ-again
 
-abbrev At-loop2 : Type 0
-At-loop2 = tie.At-loop2 Inv-loop2 μ-loop2 Inv-loop μ-loop Inv-again μ-again
-
-abbrev In-loop2 : Type 0
-In-loop2 = tie.In-loop2 Inv-loop2 μ-loop2 Inv-loop μ-loop Inv-again μ-again
-
-abbrev After-bars : Type 0
-After-bars = tie.After-bars Inv-loop2 μ-loop2 Inv-loop μ-loop Inv-again μ-again
+abbrev After-goes-before : Type 0
+After-goes-before = tie.After-goes-before Inv-loop μ-loop Inv-again μ-again
 
 abbrev start : At-again → Start
-start c = c .before .before
+start c = c .before .before .before
 
-abbrev slots : At-again → List ℕ
-slots c = start c .args .t2
+abbrev pass : At-loop → In-again
+pass c = c .before .before .before
 
-abbrev pass : At-loop → At-again
-pass c = c .before
+abbrev member : After-goes-before → In-loop
+member c = c .before .before .before
 
-abbrev at-member : At-loop2 → In-loop
-at-member c = c .before .before
-
-abbrev member : At-loop2 → At-loop
-member c = at-member c .before
-
-abbrev other : After-bars → At-loop2
-other c = c .before .before
+abbrev removal : tie.After-slice-known4 Inv-loop μ-loop Inv-again μ-again → In-loop
+removal c = member (c .before .before)
 
 -- WHAT THEY SAY
 
-whole-array : (c : Start) → length (c .args .candidates) ≡ capacity
-whole-array c = c .good .1 .1 .0 .1 .0 .1
+room : (c : At-again) → scratchSize ≤ length (c .again .scratch)
+room c = omega (arith, start c .pre .0, c .again .inv .0 .size)
 
--- the slots of both turns are below 64
-member-below : (c : In-loop) → getD (slots (pass (c .before))) (c .before .loop .j) 0 < capacity
-member-below c = start (pass (c .before)) .pre .below _ (omega arith)
+again-holds : tie.Need-again-holds Inv-loop μ-loop Inv-again μ-again
+again-holds c = (kept-all _, sieve-start _ _ _ _ _ (c .before .before .pre .1))
 
-other-below : (c : In-loop2) → getD (slots (pass (member (c .before)))) (c .before .loop2 .k) 0 < capacity
-other-below c = start (pass (member (c .before))) .pre .below _ (omega arith)
+taken-below : (c : In-again) → back (c .before .again .scratch) (c .before .again .taken) < capacity
+taken-below c = other-below _ _ _ _ _ _ _ (c .before .again .inv .1) _ (c .again-test .taken)
 
--- the members at both turns are those of the pass, and the member is one of them
-same-members : (c : After-bars) → other c .loop2 .members ≡ pass (member (other c)) .again .members
-same-members c = other c .loop2 .inv .1 ∙ member (other c) .loop .inv .1
+place-below : (c : In-loop) → front (c .before .loop .scratch) (c .before .loop .place) < capacity
+place-below c = member-below _ _ _ _ _ _ _ (c .before .loop .inv .4) _ (c .loop-test .taken)
 
-is-member : (c : At-loop2) → has (pass (member c) .again .members) (getD (slots (pass (member c))) (member c .loop .j) 0) ≡ true
-is-member c = rw (member c .loop .inv .1) at (c .before .if1 .taken)
+room-still : (c : At-loop) → scratchSize ≤ length (c .loop .scratch)
+room-still c = rw (c .loop .inv .0) (room (pass c .before))
 
-again-holds : tie.Need-again-holds Inv-loop2 μ-loop2 Inv-loop μ-loop Inv-again μ-again
-again-holds c = removing-start _ _ _ _ (whole-array (c .before)) (c .before .pre)
+kept-still : (c : At-loop) → Kept (start (pass c .before) .args .scratch .now) (c .loop .scratch)
+kept-still c = subst (Kept (start (pass c .before) .args .scratch .now)) (sym (c .loop .inv .0)) (pass c .before .again .inv .0)
 
-bars-requires : tie.Need-bars-requires Inv-loop2 μ-loop2 Inv-loop μ-loop Inv-again μ-again
-bars-requires c κs = omega (arith, member-below (at-member (c .before)), other-below c)
+place-within : (c : In-loop) → c .before .loop .place < scratchSize
+place-within c = omega (arith, c .before .loop .inv .4 .few, c .loop-test .taken)
 
-again-less : tie.Need-again-less Inv-loop2 μ-loop2 Inv-loop μ-loop Inv-again μ-again
-again-less c =
-    let b = c .before in
-    rw (same-members b)
-    (removed-fewer _ _ _ _ _ (pass (member (other b)) .again .inv) _ (member-below (at-member (other b))) (is-member (other b)))
+abbrev n : In-loop → ℕ
+n c = start (pass (c .before) .before) .args .n
 
-again-again : tie.Need-again-again Inv-loop2 μ-loop2 Inv-loop μ-loop Inv-again μ-again
-again-again c =
-    let b = c .before in
-    rw (same-members b)
-    (removed-still _ _ _ _ _ (pass (member (other b)) .again .inv) _ _ (member-below (at-member (other b))) (other-below (b .before)) (is-member (other b))
-    (among-at _ _ _ (omega arith)) (rw (same-members b) at (sym (b .bars .ensures) ∙ c .if2 .taken)))
+abbrev buffer : In-loop → List Pending
+buffer c = start (pass (c .before) .before) .args .t2
 
-loop2-again : tie.Need-loop2-again Inv-loop2 μ-loop2 Inv-loop μ-loop Inv-again μ-again
-loop2-again c =
-    let b = c .before in
-    let i = other b .loop2 .inv in
-    (search needs, i .1, among-more _ _ _ (λ t _. i .2 t) (rw (i .1) at (sym (b .bars .ensures) ∙ c .if2 .left)))
+-- the count against the majority says whether the member goes before the one taken
+compared : (c : After-goes-before) → let l = member c in let p = pass (l .before) .before in
+    leb (p .before .majority .result) (c .goes-before .result)
+    ≡ precedes (n l) (buffer l) (front (l .before .loop .scratch) (l .before .loop .place)) (back (l .before .loop .scratch) (p .again .taken))
+compared c =
+    let l = member c in
+    ap₂ leb (pass (l .before) .before .before .majority .ensures)
+    (c .goes-before .ensures ∙ ap (goesBefore (n l) (entry (buffer l) (front (l .before .loop .scratch) (l .before .loop .place)))) (l .before .loop .inv .3))
 
-loop-again : tie.Need-loop-again Inv-loop2 μ-loop2 Inv-loop μ-loop Inv-again μ-again
+loop-again : tie.Need-loop-again Inv-loop μ-loop Inv-again μ-again
 loop-again c =
-    let i = c .before .before .loop .inv in (
-      search needs,
-      ⊎-elim (λ w. w .3 ∙ w .1 .inv .1 ∙ i .1) (λ w. w .1 ∙ i .1) (c .if1 .came),
-      among-more _ _ _ (λ s _. i .2 s)
-          (λ p t a. rw (← i .1)
-          (⊎-elim (λ w. let e : w .1 .k ≡ start (pass (c .before .before)) .args .size = omega arith in w .1 .inv .2 t (rw e a)) (λ w. contradiction p (rw (i .1) at (w .0 .left))) (c .if1 .came))),
-    )
+    let b = c .before in
+    let i = member b .before .loop .inv in
+    (i .0, i .1, i .2, i .3, sieve-pass _ _ _ _ _ _ _ (i .4) (member b .loop-test .taken) (sym (compared b) ∙ le-leb _ _ (c .if1 .left)))
 
-returns : tie.Need-returns Inv-loop2 μ-loop2 Inv-loop μ-loop Inv-again μ-again
-returns c =
-    let l = c .before in
-    let e : l .loop .j ≡ start (pass l) .args .size = omega arith in
-    l .loop .inv .1 ∙ settled _ _ _ _ _ (pass l .again .inv) (λ s a. l .loop .inv .2 s (rw e a))
+again-less : tie.Need-again-less Inv-loop μ-loop Inv-again μ-again
+again-less c =
+    let l = member (c .before .before) in
+    let i = l .before .loop .inv in
+    omega (arith, i .1, i .2, l .loop-test .taken, pass (l .before) .again-test .taken)
+
+again-again : tie.Need-again-again Inv-loop μ-loop Inv-again μ-again
+again-again c =
+    let b = c .before .before in
+    let l = member b in
+    let i = l .before .loop .inv in
+    let p = pass (l .before) in
+    (kept-removed _ _ _ _ _ _ (place-within l) (kept-still (l .before)),
+    sieve-remove _ _ _ _ _ _ _ (i .4) (room-still (l .before)) (omega (arith, i .2, p .again-test .taken)) (l .loop-test .taken) (sym (compared b) ∙ lt-leb _ _ (c .before .if1 .taken)))
+
+again-again-2 : tie.Need-again-again-2 Inv-loop μ-loop Inv-again μ-again
+again-again-2 c =
+    let i = c .before .loop .inv in
+    let p = pass (c .before) in
+    (kept-still (c .before), sieve-take _ _ _ _ _ _ _ (i .4) (omega (arith, i .2, p .again-test .taken)) (c .loop-test .left))
+
+returns : tie.Need-returns Inv-loop μ-loop Inv-again μ-again
+returns c = let i = c .before .again .inv in (i .0, sieve-end _ _ _ _ _ _ _ (i .1) (room (c .before)) (c .again-test .left))
 
 pub settle-spec : {M : Type 1} → statement M
 settle-spec =
     tie.close
     (tie.spec
-    Inv-loop2
-    μ-loop2
     Inv-loop
     μ-loop
     Inv-again
     μ-again
+    (λ c κs. search needs)
     again-holds
-    (λ c. (search needs, refl, λ s a. contradiction a (among-none _ s)))
     (λ c. search needs)
     (λ c. search needs)
-    (λ c. let h = member-below c in search needs)
-    (λ c. (search needs, refl, λ t a. contradiction a (among-none _ t)))
+    (λ c. let h = room (c .before .before) in search needs)
+    (λ c. let h = taken-below (c .before) in search needs)
+    (λ c. let h = taken-below (c .before) in search needs)
+    (λ c. let h = taken-below (c .before) in search needs)
+    (λ c. (refl, refl, refl, refl, c .before .before .before .again .inv .1))
+    (λ c. let r = room-still (c .before .before) in let h = place-within (c .before) in search needs)
+    (λ c. let h = place-below (c .before) in search needs)
+    (λ c. let h = place-below (c .before) in search needs)
+    (λ c. let h = place-below (c .before) in search needs)
+    (λ c κs. search needs)
     (λ c. search needs)
-    (λ c. search needs)
-    (λ c. let h = member-below (at-member (c .before)) in search needs)
-    (λ c. omega (arith, member-below (at-member (c .before)), other-below c))
-    (λ c. let h = other-below c in search needs)
-    bars-requires
-    (λ c. let h = member-below (at-member (other (c .before))) in search needs)
+    (λ c. let r = room-still (removal c .before) in let h = place-within (removal c) in let f = removal c .before .loop .inv .4 .few in search needs)
+    (λ c. let r = room-still (removal c .before) in let h = place-within (removal c) in search needs)
+    (λ c. let f = removal c .before .loop .inv .4 .few in search needs)
+    (λ c. let f = removal c .before .loop .inv .4 .few in search needs)
+    (λ c. simp length-set (omega (arith, room-still (removal c .before))))
     again-less
     again-again
-    (λ c. search needs)
-    (λ c. search needs)
-    loop2-again
-    (λ c. search needs)
+    (λ c. let h = place-within (member (c .before)) in search needs)
     (λ c. search needs)
     loop-again
+    (λ c. let f = c .before .loop .inv .4 .few in search needs)
+    (λ c. let i = c .before .loop .inv in search needs)
+    again-again-2
+    (λ c. let i = c .before .again .inv .0 .size in search needs)
     returns)
