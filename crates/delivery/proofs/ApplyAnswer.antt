@@ -15,6 +15,8 @@ use Rattle.model.specs.Tables.{scratchSize, capacity}
 use Rattle.model.specs.Delivery.{Slots}
 use Rattle.model.specs.Rounds.{applicable}
 use Rattle.model.specs.Calls.{cleared}
+use Rattle.model.specs.Matrix.{byMatrix}
+use Rattle.model.proofs.Matrix.{matrix-agrees}
 use Rattle.model.specs.declared.Pending.{Pending}
 use Rattle.delivery.specs.Apply.{applyAnswer, applyScratch, Applied, Kept}
 
@@ -54,3 +56,8 @@ applied-with-room n P s m after answer l e k c = record {
 pub applied-without-room : (n : ℕ) (P : List Pending) (s : List ℕ) → length s < scratchSize → Applied n P s (replicate capacity false) s
 unfolding applyAnswer applyScratch
 applied-without-room n P s l = record { set = rw (lt-leb scratchSize (length s) l); scratch = rw (lt-leb scratchSize (length s) l) }
+
+-- THE 4,096-BYTE WAY, and every scratch area of 64 bytes: the same set, whatever the buffer
+pub answers-agree : (n : ℕ) (P : List Pending) (s after : List ℕ) (answer : Slots) → scratchSize ≤ length s → Applied n P s answer after → answer ≡ byMatrix n P
+unfolding applyAnswer
+answers-agree n P s after answer l r = r .set ∙ rw (le-leb scratchSize (length s) l) (sym (matrix-agrees n P))

@@ -1,5 +1,5 @@
 pub mod Times
 pub mod Named
 pub mod Division
-pub mod Sieve
+pub mod LargestByRemoval
 pub mod ApplyAnswer

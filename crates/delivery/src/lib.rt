@@ -78,33 +78,33 @@ fn divide(n: usize, pending: [Pending; Table::MESSAGES], scratch: &mut [u8]) -> 
     Split { candidates, others }
 }
 
-// Line 16: the others are taken one after another, and each member is held against the one taken. A member that does not go
-// before it is removed: it gives its place to the last member, and joins the others. The place comes to `place` and `taken`
-// again, so that no two are compared twice.
+// Line 16: the slots outside the set are taken one after another, from byte 63 down, and each member is held against the one
+// taken. A member that does not go before it gives its place to the last member, and joins those outside. `taken` and `place`
+// say how far this has come, so that it goes on where it was left, and no two slots are compared twice.
 fn settle(
     n: usize,
     pending: [Pending; Table::MESSAGES],
     candidates: usize,
-    rest: usize,
+    others: usize,
     scratch: &mut [u8],
 ) -> usize
-    requires { ⌜ (scratchSize ≤ length (now scratch)) × Divided n pending capacity (now scratch) candidates rest ⌝ }
+    requires { ⌜ (scratchSize ≤ length (now scratch)) × Divided n pending capacity (now scratch) candidates others ⌝ }
     ensures { λ r. ⌜ Kept (now (scratch .entry)) (now (scratch .exit)) × Settled n pending (now (scratch .exit)) r ⌝ }
 {
     let m = majority(n);
     let mut members = candidates;
-    let mut others = rest;
+    let mut outside = others;
     let mut taken: usize = 0;
     let mut place: usize = 0;
-    'again: while taken < others {
+    'again: while taken < outside {
         let q = pending[scratch[Table::MESSAGES - 1 - taken] as usize];
         while place < members {
             let s = scratch[place];
             if goes_before(n, pending[s as usize], q) < m {
                 members -= 1;
                 scratch[place] = scratch[members];
-                others += 1;
-                scratch[Table::MESSAGES - others] = s;
+                outside += 1;
+                scratch[Table::MESSAGES - outside] = s;
                 continue 'again;
             }
             place += 1;

@@ -8,7 +8,7 @@ use native.Mathlib.Omega.{arith}
 use Rattle.lists.proofs.Build.{getD-tabulate}
 use Rattle.model.specs.Tables.{capacity, inBuffer, yes?, flagged}
 use Rattle.model.specs.Delivery.{Slots}
-use Rattle.model.specs.Rounds.{largest, applicable}
+use Rattle.model.specs.Rounds.{applicable}
 use Rattle.model.specs.Largest.{Closed, Largest, candidate, precedes}
 use Rattle.model.specs.Matrix.{matrix, byMatrix}
 use Rattle.model.specs.declared.Pending.{Pending}

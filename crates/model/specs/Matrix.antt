@@ -1,7 +1,7 @@
 -- The set by a matrix in 4,096 bytes, as engines before this one worked it out. That it is the set applied, for every n and every buffer:
 -- proofs/Matrix.antt, `matrix-agrees`.
 use Prim.Native.Nat.{ℕ, _+_, _*_, _/_, _%_}
-use mathlib.Core.Bool.{Bool, cond}
+use mathlib.Core.Bool.{cond}
 use mathlib.Core.List.{List}
 use Rattle.lists.specs.Build.{tabulate}
 use Rattle.model.specs.Tables.{capacity, inBuffer, flagged}

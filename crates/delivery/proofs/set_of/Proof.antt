@@ -1,6 +1,6 @@
 -- `set_of` makes a member of each slot that the first bytes name. Assumes nothing.
 use mathlib.Core.Path.{_≡_}
-use Prim.Native.Nat.{ℕ, _-_, _≤_, _<_}
+use Prim.Native.Nat.{_-_, _≤_, _<_}
 use native.Mathlib.Omega.{arith}
 use Rattle.model.specs.Tables.{capacity}
 use Rattle.delivery.specs.Apply.{front}

@@ -12,26 +12,26 @@ use Rattle.model.specs.Largest.{precedes}
 use Rattle.model.specs.declared.Pending.{Pending}
 use Rattle.delivery.specs.Apply.{Kept, front, back}
 use Rattle.delivery.proofs.Division.{kept-all, kept-removed}
-use Rattle.delivery.proofs.Sieve.{Sieve, sieve-start, member-below, other-below, sieve-pass, sieve-take, sieve-remove, sieve-end}
+use Rattle.delivery.proofs.LargestByRemoval.{Removing, removing-start, member-below, other-below, removing-pass, removing-take, removing-remove, removing-end}
 use borrow.Author.Needs.{needs}
 use Rattle.delivery.proofs.settle.Statement.{statement}
 use Rattle.delivery.proofs.settle.Tie as tie
 
 -- while a non-member is held against the members, nothing moves but the place
 abbrev Inv-loop : tie.InvT-loop
-Inv-loop n candidates rest scratch₀ pending m members₀ others₀ taken place₀ q scratch members others place =
-    (scratch ≡ scratch₀) × (members ≡ members₀) × (others ≡ others₀) × (q ≡ entry pending (back scratch taken)) × Sieve n pending scratch members others taken place
+Inv-loop n candidates others scratch₀ pending m members₀ outside₀ taken place₀ q scratch members outside place =
+    (scratch ≡ scratch₀) × (members ≡ members₀) × (outside ≡ outside₀) × (q ≡ entry pending (back scratch taken)) × Removing n pending scratch members outside taken place
 
 abbrev μ-loop : tie.MeasureT-loop
-μ-loop n candidates rest scratch₀ pending m members₀ others₀ taken place₀ q scratch members others place = members - place
+μ-loop n candidates others scratch₀ pending m members₀ outside₀ taken place₀ q scratch members outside place = members - place
 
 abbrev Inv-again : tie.InvT-again
-Inv-again n candidates rest scratch₀ pending m members₀ others₀ taken₀ place₀ scratch members others taken place =
-    Kept scratch₀ scratch × Sieve n pending scratch members others taken place
+Inv-again n candidates others scratch₀ pending m members₀ outside₀ taken₀ place₀ scratch members outside taken place =
+    Kept scratch₀ scratch × Removing n pending scratch members outside taken place
 
 -- a removal takes one from the members and gives one to the others
 abbrev μ-again : tie.MeasureT-again
-μ-again n candidates rest scratch₀ pending m members₀ others₀ taken₀ place₀ scratch members others taken place = 2 * members + (others - taken)
+μ-again n candidates others scratch₀ pending m members₀ outside₀ taken₀ place₀ scratch members outside taken place = 2 * members + (outside - taken)
 
 -- PLACES: the start, a non-member taken, a member held against it, and after the comparison
 abbrev Start : Type 0
@@ -70,7 +70,7 @@ room : (c : At-again) → scratchSize ≤ length (c .again .scratch)
 room c = omega (arith, start c .pre .0, c .again .inv .0 .size)
 
 again-holds : tie.Need-again-holds Inv-loop μ-loop Inv-again μ-again
-again-holds c = (kept-all _, sieve-start _ _ _ _ _ (c .before .before .pre .1))
+again-holds c = (kept-all _, removing-start _ _ _ _ _ (c .before .before .pre .1))
 
 taken-below : (c : In-again) → back (c .before .again .scratch) (c .before .again .taken) < capacity
 taken-below c = other-below _ _ _ _ _ _ _ (c .before .again .inv .1) _ (c .again-test .taken)
@@ -106,7 +106,7 @@ loop-again : tie.Need-loop-again Inv-loop μ-loop Inv-again μ-again
 loop-again c =
     let b = c .before in
     let i = member b .before .loop .inv in
-    (i .0, i .1, i .2, i .3, sieve-pass _ _ _ _ _ _ _ (i .4) (member b .loop-test .taken) (sym (compared b) ∙ le-leb _ _ (c .if1 .left)))
+    (i .0, i .1, i .2, i .3, removing-pass _ _ _ _ _ _ _ (i .4) (member b .loop-test .taken) (sym (compared b) ∙ le-leb _ _ (c .if1 .left)))
 
 again-less : tie.Need-again-less Inv-loop μ-loop Inv-again μ-again
 again-less c =
@@ -121,16 +121,16 @@ again-again c =
     let i = l .before .loop .inv in
     let p = pass (l .before) in
     (kept-removed _ _ _ _ _ _ (place-within l) (kept-still (l .before)),
-    sieve-remove _ _ _ _ _ _ _ (i .4) (room-still (l .before)) (omega (arith, i .2, p .again-test .taken)) (l .loop-test .taken) (sym (compared b) ∙ lt-leb _ _ (c .before .if1 .taken)))
+    removing-remove _ _ _ _ _ _ _ (i .4) (room-still (l .before)) (omega (arith, i .2, p .again-test .taken)) (l .loop-test .taken) (sym (compared b) ∙ lt-leb _ _ (c .before .if1 .taken)))
 
 again-again-2 : tie.Need-again-again-2 Inv-loop μ-loop Inv-again μ-again
 again-again-2 c =
     let i = c .before .loop .inv in
     let p = pass (c .before) in
-    (kept-still (c .before), sieve-take _ _ _ _ _ _ _ (i .4) (omega (arith, i .2, p .again-test .taken)) (c .loop-test .left))
+    (kept-still (c .before), removing-take _ _ _ _ _ _ _ (i .4) (omega (arith, i .2, p .again-test .taken)) (c .loop-test .left))
 
 returns : tie.Need-returns Inv-loop μ-loop Inv-again μ-again
-returns c = let i = c .before .again .inv in (i .0, sieve-end _ _ _ _ _ _ _ (i .1) (room (c .before)) (c .again-test .left))
+returns c = let i = c .before .again .inv in (i .0, removing-end _ _ _ _ _ _ _ (i .1) (room (c .before)) (c .again-test .left))
 
 pub settle-spec : {M : Type 1} → statement M
 settle-spec =

@@ -4,12 +4,12 @@ use mathlib.Core.Path.{_≡_, refl, sym, ap, ap₂, _∙_}
 use mathlib.Core.Logic.{_≢_}
 use mathlib.Core.Bool.{Bool, true, false, not, _&&_}
 use mathlib.Core.List.{List}
-use Prim.Native.Nat.{ℕ, zero, suc, _+_, _-_, _≤_, _<_}
+use Prim.Native.Nat.{ℕ, _+_, _-_, _≤_, _<_}
 use native.Mathlib.Nat.{not-suc-le-zero}
 use native.Mathlib.Decide.{ℕ-discrete}
 use native.Mathlib.Omega.{arith}
-use borrow.Author.Tests.{ltb-true, ltb-false, lt-ltb, le-ltb, eqb-true, eq-eqb, ne-eqb}
-use lib.ListN.{length, getD, set, length-set}
+use borrow.Author.Tests.{ltb-true, ltb-false, lt-ltb, eqb-true, ne-eqb}
+use lib.ListN.{length, set, length-set}
 use lib.Seq.{getD-set-same, getD-set-other}
 use lib.Dec.{eqb, ltb}
 use Rattle.lists.specs.Below.{tally}
@@ -18,11 +18,10 @@ use Rattle.lists.proofs.Below.{Found}
 use Rattle.lists.proofs.Build.{length-tabulate, getD-tabulate}
 use Rattle.model.specs.Tables.{capacity, scratchSize, inBuffer}
 use Rattle.model.specs.Delivery.{Slots, has}
-use Rattle.model.specs.Rounds.{applicable}
 use Rattle.model.specs.Largest.{Closed, candidate, precedes}
 use Rattle.model.proofs.Largest.{applicable-unique}
 use Rattle.model.specs.declared.Pending.{Pending}
-use Rattle.delivery.specs.Apply.{Divided, Listed, Settled, front, back, times, named}
+use Rattle.delivery.specs.Apply.{Divided, Settled, front, back, times, named}
 use Rattle.delivery.proofs.Times.{times-at, times-found, times-ext, moved}
 use Rattle.delivery.proofs.Division.{stored-back}
 
@@ -55,7 +54,7 @@ module _ (n : ℕ) (P : List Pending) where
   IsClosed = Closed capacity (inBuffer P) (candidate n P) (precedes n P)
 
   -- c members and o others, of which d are taken; the members at the first i places were held against the one that is taken next
-  pub record Sieve (m : List ℕ) (c o d i : ℕ) : Type 0 where
+  pub record Removing (m : List ℕ) (c o d i : ℕ) : Type 0 where
     pub few : c + o ≤ capacity
     pub taken : d ≤ o
     pub place : i ≤ c
@@ -67,8 +66,8 @@ module _ (n : ℕ) (P : List Pending) where
 
   -- THE START
 
-  pub sieve-start : (m : List ℕ) (c o : ℕ) → Divided n P capacity m c o → Sieve m c o 0 0
-  sieve-start m c o d = record {
+  pub removing-start : (m : List ℕ) (c o : ℕ) → Divided n P capacity m c o → Removing m c o 0 0
+  removing-start m c o d = record {
     few = d .few;
     taken = omega arith;
     place = omega arith;
@@ -79,7 +78,7 @@ module _ (n : ℕ) (P : List Pending) where
     contains = λ R r t h e. rw (d .candidates t, lt-ltb t capacity h, r .chosen t h e) (omega arith);
   }
 
-  module _ (m : List ℕ) (c o d i : ℕ) (v : Sieve m c o d i) where
+  module _ (m : List ℕ) (c o d i : ℕ) (v : Removing m c o d i) where
     -- what is named is a slot in the buffer
     named-in : (t : ℕ) → 0 < times (front m) c t + times (back m) o t → (t < capacity) × (inBuffer P t ≡ true)
     named-in t h =
@@ -101,8 +100,8 @@ module _ (n : ℕ) (P : List Pending) where
 
     -- A MEMBER GOES BEFORE THE ONE TAKEN
 
-    pub sieve-pass : i < c → precedes n P (front m i) (back m d) ≡ true → Sieve m c o d (i + 1)
-    sieve-pass h e = record {
+    pub removing-pass : i < c → precedes n P (front m i) (back m d) ≡ true → Removing m c o d (i + 1)
+    removing-pass h e = record {
       few = v .few;
       taken = v .taken;
       place = omega arith;
@@ -115,8 +114,8 @@ module _ (n : ℕ) (P : List Pending) where
 
     -- ALL DO
 
-    pub sieve-take : d < o → c ≤ i → Sieve m c o (d + 1) 0
-    sieve-take h l = record {
+    pub removing-take : d < o → c ≤ i → Removing m c o (d + 1) 0
+    removing-take h l = record {
       few = v .few;
       taken = omega arith;
       place = omega arith;
@@ -169,8 +168,8 @@ module _ (n : ℕ) (P : List Pending) where
           (refuted (has R (back m d)) (λ y. omega (arith, v .contains R r (back m d) (other-below d h) y, other-out d h))))
           e
 
-      pub sieve-remove : precedes n P (front m i) (back m d) ≡ false → Sieve removed (c - 1) (o + 1) d i
-      sieve-remove e = record {
+      pub removing-remove : precedes n P (front m i) (back m d) ≡ false → Removing removed (c - 1) (o + 1) d i
+      removing-remove e = record {
         few = omega (arith, v .few);
         taken = omega arith;
         place = omega arith;
@@ -194,9 +193,9 @@ module _ (n : ℕ) (P : List Pending) where
 
     -- ALL ARE TAKEN
 
-    pub sieve-end : scratchSize ≤ length m → o ≤ d → Settled n P m c
+    pub removing-end : scratchSize ≤ length m → o ≤ d → Settled n P m c
     unfolding named
-    sieve-end room h = record {
+    removing-end room h = record {
       listed = record { few = omega (arith, v .few); below = member-below };
       set = applicable-unique n P (named c m) (record {
         size = length-tabulate capacity _;
