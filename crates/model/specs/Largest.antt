@@ -1,4 +1,4 @@
--- "The largest set" of RULES.md, section 8 (Apply), and the sets that the loop of line 16 reaches. That `Delivery.applicable` is this set, that
+-- "The largest set" of RULES.md, section 8 (Apply), and the sets that the loop of line 16 reaches. That `Rounds.applicable` is this set, that
 -- there is no other, and that the loop ends in it whatever it removes first: proofs/Largest.antt.
 use mathlib.Core.Path.{_≡_}
 use mathlib.Core.Bool.{Bool, true, false, _&&_}
