@@ -5,9 +5,10 @@ use mathlib.Core.Path.{_≡_, refl}
 use Prim.Native.Nat.{ℕ, zero, suc, _+_, _*_, _/_, _%_, _-_}
 use mathlib.Core.Bool.{Bool, true, false, cond}
 use mathlib.Core.List.{List, [], _∷_, _++_, map, flatten}
+use lib.ListN.{replicate}
 use lib.Dec.{eqb}
 use Rattle.model.specs.Tables.{messageNumber, noSums, noRegister, noPanel, fresh, at, withController, withRead}
-use Rattle.model.specs.Calls.{EventAnswer, step, event, freshTable, look, countBefore}
+use Rattle.model.specs.Calls.{EventAnswer, step, event, scratchAfter, freshTable, look, countBefore}
 use Rattle.model.specs.Runs.{progress, fileRun}
 use Rattle.model.specs.declared.Name.{Name}
 use Rattle.model.specs.declared.Sums.{Sums}
@@ -64,6 +65,8 @@ data Case : Type 0 where
   -- the count of "goes before" at each of n controllers, of one message and another and then of the other and the one: at the start and
   -- after each of the events
   counts : ℕ → List (List ℕ) → ℕ → ℕ → Case
+  -- a single event after those of a list, lent 63, 64 and 65 bytes of scratch
+  edge : ℕ → ℕ → List (List ℕ) → List ℕ → Case
   -- a look at controller 1 of two, in a fresh table but for its read position in its own log, which passes that log's end
   astray : Case
   -- a request for a fresh table
@@ -72,9 +75,11 @@ data Case : Type 0 where
   file : List ℕ → Case
   -- the records of a file past question 3, and how many bytes of scratch and of listing
   run : List ℕ → ℕ → ℕ → Case
+  -- a file, lent 63, 64 and 65 bytes of scratch
+  fileEdge : List ℕ → Case
 
--- the number; the set of each accepted event, a message as 100 times its sender plus its number, or what is counted; what a look shows, or
--- in its sums the answer's sums; whether an own sync is finished; and the lines of a run
+-- the number; the set of each accepted event, a message as 100 times its sender plus its number, or what is counted, or what is left of each
+-- scratch area; what a look shows, or in its sums the answer's sums; whether an own sync is finished; and the lines of a run
 record Given : Type 0 where
   refusal : ℕ
   sets : List (List ℕ)
@@ -120,15 +125,32 @@ played t (r ∷ rs) c =
     let g = played (o .table) rs c in
     record { refusal = g .refusal; sets = setOf (o .answer) ∷ g .sets; shown = g .shown; finished = g .finished; lines = [] }
 
+-- the table that accepted events leave
+left : Table → List (List ℕ) → Table
+left t [] = t
+left t (r ∷ rs) = left (step t r 64 .table) rs
+
+-- the number that an event gives with k bytes of scratch, each 7, and what is left of these bytes; the same of a file
+lent : Table → List ℕ → ℕ → List ℕ
+lent t s k = let x = event t s k .answer .refusal in x ∷ scratchAfter x (replicate k 7)
+
+lentFile : List ℕ → ℕ → List ℕ
+lentFile s k = let o = fileRun s [] (replicate k 7) in o .answer .refusal ∷ o .scratch
+
+around : (ℕ → List ℕ) → Given
+around f = record { refusal = 0; sets = f 63 ∷ f 64 ∷ f 65 ∷ []; shown = noPanel; finished = false; lines = [] }
+
 given : Case → Given
 given (events v n rs c) = played (fresh v n) rs c
 given (counts n rs x y) = record { refusal = 0; sets = tracked (fresh 1 n) rs x y; shown = noPanel; finished = false; lines = [] }
+given (edge v n rs s) = around (lent (left (fresh v n) rs) s)
 given astray = let t = fresh 1 2 in called (withController t 1 (withRead (at t 1) 1)) (panel 1)
 given (request v n) = record { refusal = freshTable v n .refusal; sets = []; shown = noPanel; finished = false; lines = [] }
 given (file s) = record { refusal = fileRun s [] [] .answer .refusal; sets = []; shown = noPanel; finished = false; lines = [] }
 given (run s room space) =
     let p = progress s room space in
     record { refusal = p .refusal; sets = []; shown = noPanel; finished = false; lines = p .lines }
+given (fileEdge s) = around (lentFile s)
 
 record Row : Type 0 where
   of : Case
@@ -136,6 +158,10 @@ record Row : Type 0 where
 
 abbrev row : Case → ℕ → List (List ℕ) → Row
 row c k ss = record { of = c; gives = record { refusal = k; sets = ss; shown = noPanel; finished = false; lines = [] } }
+
+-- 63 bytes of scratch give 15 and are left as they were; 64 are enough, and become zero; a 65th is left
+abbrev enough : Case → Row
+enough c = row c 0 ((15 ∷ replicate 63 7) ∷ (0 ∷ replicate 64 0) ∷ ((0 ∷ replicate 64 0) ++ (7 ∷ [])) ∷ [])
 
 -- a run and its lines
 abbrev lists : List ℕ → ℕ → ℕ → ℕ → List ℕ → Row
@@ -186,6 +212,20 @@ forced : List (List ℕ)
 unfolding report handover
 forced =
     report 1 1 ∷ report 2 2 ∷ report 3 4 ∷ handover 2 1 ∷ handover 3 2 ∷ handover 1 3 ∷ handover 1 2 ∷ handover 1 2 ∷ handover 1 3 ∷ handover 1 1 ∷ []
+
+-- This follows 1.1, 1.2, 2.1 and 2.2, whichever was sent first. When 2 then reads 1.1 in log 3, 1.2 is taken out: it does not go before 2.2,
+-- which is no candidate. 2.1 goes before 2.2, and 1.2 forces it out. 1.1 is applied.
+overtaken : List (List ℕ)
+unfolding handover times
+overtaken = handover 3 1 ∷ handover 1 2 ∷ times 3 (handover 2 1 ∷ []) ++ times 4 (handover 2 2 ∷ [])
+
+-- When 2 then reads 1.1 in log 3, 1.3 is taken out: it does not go before 2.4, which is no candidate. 1.3 forces 2.1 out, which goes before 2.4,
+-- and 2.1 forces 1.2 out, which goes before 2.4 and 1.3. 1.1 is applied.
+chained : List (List ℕ)
+unfolding report handover times
+chained =
+    report 1 1 ∷ report 1 2 ∷ report 1 4 ∷ report 2 8 ∷ handover 3 1 ∷ handover 1 2 ∷ handover 2 1 ∷ handover 2 1 ∷ report 2 16 ∷ handover 2 1 ∷ handover 2 1
+    ∷ times 5 (handover 2 2 ∷ [])
 
 -- the run of RULES.md, section 25 (A run with classes), and its sets
 graded : List (List ℕ)
@@ -296,13 +336,18 @@ numbered zero x = []
 numbered (suc k) x = x ∷ numbered k (suc x)
 
 table : List Row
-unfolding report classed sync handover stop local write minus times worked forced graded gradedSets underway further underwaySets three backed set settled rivals rivalSets finished asked finishedSets wrote wroteSets sought heard counted full each numbered
+unfolding report classed sync handover stop local write minus times worked forced overtaken chained graded gradedSets underway further underwaySets three backed set settled rivals rivalSets finished asked finishedSets wrote wroteSets sought heard counted full each numbered
 table =
     -- The check ends at the first row that fails, and so rows that refuse an edit of a definition stand first.
     -- P: the sets of the worked run; event 10 applies nothing
     case 3 worked (handover 3 1) 64 0 ([] ∷ [] ∷ [] ∷ (101 ∷ []) ∷ [] ∷ [] ∷ (101 ∷ []) ∷ (301 ∷ []) ∷ [] ∷ [] ∷ (101 ∷ 301 ∷ []) ∷ [])
     -- P: one message that is taken out forces another out; event 11 applies all three
     ∷ case 3 forced (handover 1 1) 64 0 (times 10 ([] ∷ []) ++ ((101 ∷ 201 ∷ 301 ∷ []) ∷ []))
+    -- P: 1.2 is taken out and forces 2.1 out: 1.2 stands in a later slot than 2.1, and in an earlier one; 1.1 is applied
+    ∷ case 3 (report 2 4 ∷ report 2 8 ∷ report 1 1 ∷ report 1 2 ∷ overtaken) (handover 2 3) 64 0 (times 13 ([] ∷ []) ++ ((101 ∷ []) ∷ []))
+    ∷ case 3 (report 1 1 ∷ report 1 2 ∷ report 2 4 ∷ report 2 8 ∷ overtaken) (handover 2 3) 64 0 (times 13 ([] ∷ []) ++ ((101 ∷ []) ∷ []))
+    -- P: a chain of three: 1.3 is taken out and forces 2.1 out, in a later slot, which forces 1.2 out, in an earlier one; 1.1 is applied
+    ∷ case 3 chained (handover 2 3) 64 0 (times 16 ([] ∷ []) ++ ((101 ∷ []) ∷ []))
     -- P: n = 4, two marks: not applied; three: applied
     ∷ quiet 4 (report 1 5 ∷ handover 1 1 ∷ handover 2 1 ∷ []) (handover 1 2) 64 0 4
     ∷ case 4 (report 1 5 ∷ handover 1 1 ∷ handover 2 1 ∷ handover 1 2 ∷ handover 3 1 ∷ []) (handover 1 3) 64 0 ([] ∷ [] ∷ [] ∷ [] ∷ [] ∷ (101 ∷ []) ∷ [])
@@ -311,7 +356,16 @@ table =
     ∷ counted 1 102 101 0
     -- P: a table in which a read position passes a log's end gives 4
     ∷ row astray 4 []
-    -- a report: 8 before 9 before 10; 7, 12 and 15 stand below
+    -- P: 63, 64 and 65 bytes of scratch: of each kind of record, and of a file
+    ∷ enough (edge 1 1 [] (report 1 1))
+    ∷ enough (edge 2 1 [] (classed 1 1 1))
+    ∷ enough (edge 1 1 [] (sync 1))
+    ∷ enough (edge 1 1 (report 1 1 ∷ []) (handover 1 1))
+    ∷ enough (edge 1 1 [] (stop 1 0))
+    ∷ enough (edge 1 1 [] (local 1))
+    ∷ enough (edge 1 1 (sync 1 ∷ handover 1 1 ∷ []) (write 1 1 5))
+    ∷ enough (fileEdge (1 ∷ 1 ∷ report 1 1))
+    -- a report: 8 before 9 before 10; 7 and 12 stand below
     ∷ quiet 1 [] (report 2 361) 0 8 0
     ∷ quiet 2 (stop 1 0 ∷ []) (report 1 361) 0 9 1
     ∷ quiet 2 (report 1 1 ∷ stop 1 1 ∷ []) (report 1 360) 0 10 2
@@ -410,7 +464,6 @@ table =
     ∷ quiet 2 (report 1 1 ∷ stop 1 1 ∷ []) (local 1) 0 10 2
     ∷ quiet 2 (report 1 1 ∷ []) (local 1) 0 18 1
     ∷ quiet 2 (sync 1 ∷ []) (local 1) 0 18 1
-    ∷ quiet 2 [] (local 1) 63 15 0
     -- P: a write follows on an applied sync of its sender's own, and its latest message: not on nothing, on a report, on a sync before a report,
     -- on a write, or on another's sync
     ∷ case 1 (sync 1 ∷ handover 1 1 ∷ []) (write 1 1 5) 64 0 ([] ∷ (101 ∷ []) ∷ [] ∷ [])
@@ -439,7 +492,6 @@ table =
     ∷ quiet 2 (full 64) (write 1 8 5) 0 11 64
     ∷ quiet 2 (full 64) (write 2 8 5) 0 12 64
     ∷ quiet 2 [] (write 2 8 5) 0 20 0
-    ∷ case 1 (sync 1 ∷ handover 1 1 ∷ []) (write 1 8 5) 63 15 (each 1 101)
     -- a write that is pending: a report may follow, a sync and another write may not
     ∷ case 1 (sync 1 ∷ handover 1 1 ∷ write 1 1 5 ∷ []) (report 1 5) 64 0 (each 1 101 ++ ([] ∷ [] ∷ []))
     ∷ case 1 (sync 1 ∷ handover 1 1 ∷ write 1 1 5 ∷ []) (sync 1) 64 11 (each 1 101 ++ ([] ∷ []))
@@ -461,20 +513,17 @@ table =
     -- P: the 64th message is accepted (above), and the 65th gives 12; a report: 10 before 12 before 15
     ∷ quiet 2 (full 64 ++ (stop 1 64 ∷ [])) (report 1 1) 0 10 65
     ∷ quiet 2 (full 64) (report 1 1) 0 12 64
-    ∷ quiet 1 [] (report 1 1) 63 15 0
     -- a sync: 7 before 8 before 10 before 11 before 12 before 15; no controller 8 runs
     ∷ quiet 1 [] (3 ∷ 2 ∷ 9 ∷ 0 ∷ []) 0 7 0
     ∷ quiet 2 [] (sync 8) 0 8 0
     ∷ quiet 2 (report 1 1 ∷ stop 1 1 ∷ []) (sync 1) 0 10 2
     ∷ quiet 2 (full 64) (sync 1) 0 11 64
     ∷ quiet 2 (full 64) (sync 2) 0 12 64
-    ∷ quiet 1 [] (sync 1) 63 15 0
     -- a handover: 7 before 8 before 10 before 13 before 15
     ∷ quiet 1 [] (2 ∷ 3 ∷ 9 ∷ []) 0 7 0
     ∷ quiet 2 (stop 1 0 ∷ []) (handover 1 3) 0 8 1
     ∷ quiet 2 (stop 1 0 ∷ []) (handover 1 2) 0 10 1
     ∷ quiet 2 [] (handover 1 2) 0 13 0
-    ∷ quiet 2 (report 2 1 ∷ []) (handover 1 2) 63 15 1
     -- a log owner need not run
     ∷ quiet 2 (report 2 1 ∷ stop 2 1 ∷ []) (handover 1 2) 64 0 3
     -- a stop: 7 before 8 before 10 before 14 before 15
@@ -482,7 +531,6 @@ table =
     ∷ quiet 2 [] (stop 8 1) 0 8 0
     ∷ quiet 2 (stop 1 0 ∷ []) (stop 1 1) 0 10 1
     ∷ quiet 2 [] (stop 1 1) 0 14 0
-    ∷ quiet 2 [] (stop 1 0) 63 15 0
     -- a file: 1 before 2 before 3 before 5; 16 where a line does not fit, which only an accepted event has
     ∷ row (file (1 ∷ [])) 1 []
     ∷ row (file (3 ∷ [])) 1 []
@@ -495,7 +543,6 @@ table =
     ∷ row (file (1 ∷ 3 ∷ [])) 0 []
     ∷ row (file (2 ∷ 3 ∷ [])) 0 []
     ∷ row (file (1 ∷ 1 ∷ 9 ∷ [])) 5 []
-    ∷ row (run (1 ∷ 1 ∷ report 1 5 ++ handover 1 1) 63 0) 15 []
     ∷ row (run (1 ∷ 1 ∷ report 1 5 ++ handover 1 1) 64 11) 16 []
     ∷ lists (1 ∷ 1 ∷ report 1 5 ++ handover 1 1) 64 12 0 (50 ∷ 32 ∷ 49 ∷ 32 ∷ 53 ∷ 32 ∷ 48 ∷ 32 ∷ 49 ∷ 46 ∷ 49 ∷ 10 ∷ [])
     -- a local read counts as an event and has no line
@@ -572,5 +619,5 @@ pub record AllCases : Type 0 where
   hold : results table ≡ expected table
 
 pub all-cases : AllCases
-unfolding computed flatten results expected table called bothWays tracked played given report classed sync handover stop local write minus times worked forced graded gradedSets underway further underwaySets three backed set settled rivals rivalSets finished asked finishedSets wrote wroteSets sought heard counted full each numbered
+unfolding computed flatten results expected table called bothWays tracked played left lent lentFile around given report classed sync handover stop local write minus times worked forced overtaken chained graded gradedSets underway further underwaySets three backed set settled rivals rivalSets finished asked finishedSets wrote wroteSets sought heard counted full each numbered
 all-cases = record { hold = refl }

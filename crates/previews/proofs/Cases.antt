@@ -11,7 +11,7 @@ use Rattle.model.specs.declared.Sums.{Sums}
 use Rattle.model.specs.declared.Table.{Table}
 use Rattle.model.proofs.Computed.{computed}
 use Rattle.turns.specs.Dispatcher.{pair}
-use Rattle.turns.proofs.Cases.{report, sync, handover, stop, coded, played, DispatcherCases, dispatcher-cases}
+use Rattle.turns.proofs.Cases.{report, sync, handover, stop, dirty, clear, coded, played, DispatcherCases, dispatcher-cases}
 use Rattle.previews.specs.Previews.{sendsBy, readsBy, actCount, actsOf, askQuestions, Preview, previewOf, preview, commitQuestions, taking, commit}
 
 -- CASES: n controllers, the records of accepted events, and calls, each on the table that the last one left
@@ -27,7 +27,7 @@ data Called : Type 0 where
   commits : (pair acts room : ℕ) → Called
 
 -- what it gives: the number; the set, each message as 100 times its sender plus its number; the act count; whether an own sync is finished,
--- and the answer's sums; and what is left of a scratch area that begins with 7 and 8
+-- and the answer's sums; and what is left of 65 bytes of scratch, each 7
 record Given : Type 0 where
   refusal : ℕ
   set : List ℕ
@@ -39,10 +39,10 @@ record Given : Type 0 where
 answered : Outcome → Given
 answered o =
     let a = o .answer in
-    record { refusal = a .refusal; set = map coded (a .names); acts = 0; finished = a .finished; sums = a .sums; scratch = scratchAfter (a .refusal) (7 ∷ 8 ∷ []) }
+    record { refusal = a .refusal; set = map coded (a .names); acts = 0; finished = a .finished; sums = a .sums; scratch = scratchAfter (a .refusal) dirty }
 
 previewed : Preview → Given
-previewed a = record { refusal = a .refusal; set = map coded (a .names); acts = a .acts; finished = false; sums = noSums; scratch = scratchAfter (a .refusal) (7 ∷ 8 ∷ []) }
+previewed a = record { refusal = a .refusal; set = map coded (a .names); acts = a .acts; finished = false; sums = noSums; scratch = scratchAfter (a .refusal) dirty }
 
 called : Table → List Called → List Given
 called t [] = []
@@ -66,21 +66,21 @@ take p k = commits p k 64
 
 -- an accepted ask: the set, and the act count
 abbrev shows : List ℕ → ℕ → Given
-shows ms k = record { refusal = 0; set = ms; acts = k; finished = false; sums = noSums; scratch = 0 ∷ 0 ∷ [] }
+shows ms k = record { refusal = 0; set = ms; acts = k; finished = false; sums = noSums; scratch = clear }
 
 -- an accepted event or commit that applies this set: it finishes no sync, or finishes one, with both sums
 abbrev applies : List ℕ → Given
 applies ms = shows ms 0
 
 abbrev finishes : List ℕ → ℕ → ℕ → Given
-finishes ms a w = record { refusal = 0; set = ms; acts = 0; finished = true; sums = record { added = a; withdrawn = w }; scratch = 0 ∷ 0 ∷ [] }
+finishes ms a w = record { refusal = 0; set = ms; acts = 0; finished = true; sums = record { added = a; withdrawn = w }; scratch = clear }
 
 -- an accepted local read
 abbrev reads : ℕ → ℕ → Given
-reads a w = record { refusal = 0; set = []; acts = 0; finished = false; sums = record { added = a; withdrawn = w }; scratch = 0 ∷ 0 ∷ [] }
+reads a w = record { refusal = 0; set = []; acts = 0; finished = false; sums = record { added = a; withdrawn = w }; scratch = clear }
 
 abbrev refuses : ℕ → Given
-refuses k = record { refusal = k; set = []; acts = 0; finished = false; sums = noSums; scratch = 7 ∷ 8 ∷ [] }
+refuses k = record { refusal = k; set = []; acts = 0; finished = false; sums = noSums; scratch = dirty }
 
 table : List Row
 unfolding report sync handover stop read
@@ -90,10 +90,10 @@ table =
     (ask 102 ∷ take 102 2 ∷ sends (report 3 65534) ∷ sends (handover 2 3) ∷ ask 202 ∷ take 202 2 ∷ ask 202 ∷ take 202 3 ∷ sends (handover 3 2) ∷ sends (handover 3 2) ∷ ask 301 ∷ take 301 3 ∷ [])
     (shows (101 ∷ []) 2 ∷ applies (101 ∷ []) ∷ applies [] ∷ applies [] ∷ shows (101 ∷ []) 2 ∷ applies (101 ∷ []) ∷ shows (301 ∷ []) 3 ∷ applies (301 ∷ [])
     ∷ applies [] ∷ applies [] ∷ shows (101 ∷ 301 ∷ []) 3 ∷ applies (101 ∷ 301 ∷ []) ∷ [])
-    -- P: 21 before 13 and 15: nothing to read, and no scratch; then 13 before 15; then 15
+    -- P: 21 before 13 and 15: nothing to read, and no scratch; then 13 before 15; then 15, with 63 bytes or none; 64 are enough
     ∷ row 2 (report 1 5 ∷ []) (commits 102 0 0 ∷ commits 102 2 0 ∷ commits 102 1 0 ∷ asks 102 0 ∷ []) (refuses 21 ∷ refuses 21 ∷ refuses 13 ∷ refuses 13 ∷ [])
-    ∷ row 2 (report 1 5 ∷ []) (commits 201 1 64 ∷ commits 201 1 0 ∷ commits 201 0 63 ∷ asks 201 63 ∷ commits 201 0 0 ∷ asks 201 0 ∷ commits 201 0 64 ∷ [])
-    (refuses 21 ∷ refuses 21 ∷ refuses 15 ∷ refuses 15 ∷ refuses 15 ∷ refuses 15 ∷ applies [] ∷ [])
+    ∷ row 2 (report 1 5 ∷ []) (commits 201 1 64 ∷ commits 201 1 0 ∷ commits 201 0 63 ∷ asks 201 63 ∷ commits 201 0 0 ∷ asks 201 0 ∷ asks 201 64 ∷ commits 201 0 64 ∷ [])
+    (refuses 21 ∷ refuses 21 ∷ refuses 15 ∷ refuses 15 ∷ refuses 15 ∷ refuses 15 ∷ shows [] 0 ∷ applies [] ∷ [])
     -- P: 10 before 21, and before 13 and 15
     ∷ row 2 (report 1 5 ∷ stop 2 0 ∷ []) (take 201 0 ∷ take 201 1 ∷ commits 202 9 0 ∷ ask 201 ∷ asks 202 0 ∷ []) (refuses 10 ∷ refuses 10 ∷ refuses 10 ∷ refuses 10 ∷ refuses 10 ∷ [])
     -- P: 8 with 0 and n + 1 in each place, before all that follows

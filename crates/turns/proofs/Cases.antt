@@ -4,7 +4,8 @@
 use mathlib.Core.Path.{_≡_, refl}
 use Prim.Native.Nat.{ℕ, _+_, _*_, _/_, _%_}
 use mathlib.Core.Bool.{Bool, true, false}
-use mathlib.Core.List.{List, [], _∷_, map}
+use mathlib.Core.List.{List, [], _∷_, _++_, map}
+use lib.ListN.{replicate}
 use Rattle.model.specs.Tables.{noSums, fresh, at, withController, withRead}
 use Rattle.model.specs.Calls.{step}
 use Rattle.model.specs.declared.Name.{Name}
@@ -36,7 +37,7 @@ record Asked : Type 0 where
   room : ℕ
 
 -- what it gives: the number; the pair, and the set, each message as 100 times its sender plus its number; whether an own sync is finished,
--- and the answer's sums; whether it says "none"; and what is left of a scratch area that begins with 7 and 8
+-- and the answer's sums; whether it says "none"; and what is left of 65 bytes of scratch, each 7
 record Given : Type 0 where
   refusal : ℕ
   pair : ℕ
@@ -45,6 +46,13 @@ record Given : Type 0 where
   sums : Sums
   none : Bool
   scratch : List ℕ
+
+-- these bytes, and what a handover leaves of them
+abbrev pub dirty : List ℕ
+dirty = replicate 65 7
+
+abbrev pub clear : List ℕ
+clear = replicate 64 0 ++ (7 ∷ [])
 
 abbrev pub coded : Name → ℕ
 coded m = m .sender * 100 + m .number .0
@@ -60,7 +68,7 @@ givenBy d =
       finished = a .finished;
       sums = a .sums;
       none = saysNone d;
-      scratch = scratchServed p (7 ∷ 8 ∷ []);
+      scratch = scratchServed p dirty;
     }
 
 called : Table → List Asked → List Given
@@ -91,17 +99,17 @@ lent p room = record { named = p; room = room }
 
 -- a handover of this pair, which applies this set and finishes no sync
 abbrev serves : ℕ → List ℕ → Given
-serves p ms = record { refusal = 0; pair = p; set = ms; finished = false; sums = noSums; none = false; scratch = 0 ∷ 0 ∷ [] }
+serves p ms = record { refusal = 0; pair = p; set = ms; finished = false; sums = noSums; none = false; scratch = clear }
 
 -- one that finishes a sync: both sums
 abbrev finishes : ℕ → List ℕ → ℕ → ℕ → Given
-finishes p ms a w = record { refusal = 0; pair = p; set = ms; finished = true; sums = record { added = a; withdrawn = w }; none = false; scratch = 0 ∷ 0 ∷ [] }
+finishes p ms a w = record { refusal = 0; pair = p; set = ms; finished = true; sums = record { added = a; withdrawn = w }; none = false; scratch = clear }
 
 abbrev none : Given
-none = record { refusal = 0; pair = 0; set = []; finished = false; sums = noSums; none = true; scratch = 7 ∷ 8 ∷ [] }
+none = record { refusal = 0; pair = 0; set = []; finished = false; sums = noSums; none = true; scratch = dirty }
 
 abbrev refuses : ℕ → Given
-refuses k = record { refusal = k; pair = 0; set = []; finished = false; sums = noSums; none = false; scratch = 7 ∷ 8 ∷ [] }
+refuses k = record { refusal = k; pair = 0; set = []; finished = false; sums = noSums; none = false; scratch = dirty }
 
 table : List Row
 unfolding report sync handover stop
@@ -129,7 +137,7 @@ table =
     ∷ row 2 (report 2 5 ∷ stop 2 1 ∷ []) (ask 202 ∷ ask 102 ∷ ask 101 ∷ []) (serves 102 [] ∷ serves 101 (201 ∷ []) ∷ none ∷ [])
     -- where nobody runs, nothing waits
     ∷ row 2 (report 1 5 ∷ stop 1 1 ∷ stop 2 0 ∷ []) (ask 202 ∷ []) (none ∷ [])
-    -- P: "none" with 0 bytes of scratch, and dirty scratch; 15 where an entry waits
+    -- P: "none" with 0 bytes of scratch, and dirty scratch; where an entry waits, 63 bytes give 15, as does none, and 64 are enough
     ∷ row 2 [] (lent 202 0 ∷ []) (none ∷ [])
     ∷ row 2 (report 1 5 ∷ []) (lent 202 63 ∷ lent 202 0 ∷ lent 202 64 ∷ []) (refuses 15 ∷ refuses 15 ∷ serves 101 [] ∷ [])
     -- P: a pair with 0 or n + 1 gives 8, before 15, and also where nothing waits
