@@ -1,8 +1,9 @@
 /* Writes every field of a table from C, one at a time, and sees through the calls that the engine reads it there, and that it
  * reads nothing else; sees that equal calls make equal tables byte for byte, whatever stood in their memory before; writes
  * every record, and files into places that are too small; sees that the dispatcher makes the handover that is next, as the event
- * would, that an ask shows the set of a handover and its receiver's act count, and that a commit with that count makes it; and
- * lends random bytes as a table, which the engine answers like any other. */
+ * would, that an ask shows the set of a handover and its receiver's act count, and that a commit with that count makes it; lends
+ * every call too little scratch, enough and more, and looks at each byte of it and around it; and lends random bytes as a table,
+ * which the engine answers like any other. */
 #include <limits.h>
 #include <stdio.h>
 #include <stdlib.h>
@@ -920,6 +921,228 @@ static void committed_sync(void) {
     expect_not_shown(&fresh.table, 1, 1, 0, FURNACEJADE_REFUSED_NO_ENTRY, "ask after the sync", 0);
 }
 
+/* A call that is lent scratch, and what it does where scratch is long enough: this number refuses it, or none, its set has this many
+ * messages, and it clears the first 64 bytes or leaves all as they were. */
+typedef struct {
+    const char *name;
+    enum { EVENT, DISPATCH, ASK, COMMIT, RUN } call;
+    const furnacejade_table *before; /* the table that is lent, or the one that a run begins with */
+    furnacejade_record record;       /* of an event */
+    furnacejade_pair pair;           /* of a dispatch the pair named, of an ask or a commit the handover */
+    size_t acts;                     /* of a commit */
+    const uint8_t *file;             /* of a run, and the two below */
+    size_t size, listing_length;
+    uint8_t refusal, set;
+    int clears;
+} lent_call;
+
+/* What comes of a call: its number, its set (of a run the number of bytes written), and the table that it leaves. */
+typedef struct {
+    uint8_t refusal;
+    size_t size;
+    furnacejade_name names[FURNACEJADE_MESSAGES];
+    furnacejade_table table;
+} outcome;
+
+static outcome outcome_of(const lent_call *lent, uint8_t *area, size_t length) {
+    static uint8_t listing[64];
+    outcome got = {0, 0, {{0, {0}}}, *lent->before};
+    furnacejade_answer answer;
+    furnacejade_run_answer run;
+    memset(&answer, 0xA5, sizeof answer);
+    memset(&run, 0xA5, sizeof run);
+    switch (lent->call) {
+    case EVENT: furnacejade_play(&got.table, lent->record, area, length, &answer); break;
+    case DISPATCH: answer = dispatch(&got.table, lent->pair.receiver, lent->pair.owner, area, length).answer; break;
+    case COMMIT: answer = commit(&got.table, lent->pair.receiver, lent->pair.owner, lent->acts, area, length); break;
+    case ASK: {
+        furnacejade_ask_answer shown = ask(&got.table, lent->pair.receiver, lent->pair.owner, area, length);
+        answer.refusal = shown.refusal;
+        answer.size = shown.size;
+        memcpy(answer.names, shown.names, sizeof answer.names);
+        break;
+    }
+    case RUN:
+        furnacejade_run(lent->file, lent->size, listing, lent->listing_length, area, length, &run);
+        answer.refusal = run.refusal;
+        answer.size = run.written;
+        memset(answer.names, 0, sizeof answer.names);
+        got.table = run.table;
+    }
+    got.refusal = answer.refusal;
+    got.size = answer.size;
+    memcpy(got.names, answer.names, sizeof got.names);
+    return got;
+}
+
+static void expect_outcome(const outcome *got, const outcome *wanted, const char *field, size_t room) {
+    expect(got->refusal, wanted->refusal, field, room, 0);
+    expect((uint8_t)(got->size == wanted->size), 1, field, room, 1);
+    expect((uint8_t)(memcmp(got->names, wanted->names, sizeof got->names) == 0), 1, field, room, 2);
+    expect((uint8_t)(memcmp(&got->table, &wanted->table, sizeof got->table) == 0), 1, field, room, 3);
+}
+
+/* Lends the call scratch of each length, dirty and in the middle of dirty memory. With less than 64 bytes question 15 refuses a
+ * call that would clear them. With 64 or more the same comes of the call, whatever they hold, and it clears the first 64 or none.
+ * All other bytes stay, those of scratch and those around it. */
+static void expect_lent(const lent_call *lent) {
+    enum { GUARD = 61, MOST = 4096 };
+    static const size_t rooms[] = {0, 1, FURNACEJADE_SCRATCH - 1, FURNACEJADE_SCRATCH, FURNACEJADE_SCRATCH + 1, MOST};
+    static uint8_t memory[GUARD + MOST + GUARD];
+    const outcome refused = {FURNACEJADE_REFUSED_SCRATCH, 0, {{0, {0}}}, *lent->before};
+    memset(scratch, 0, sizeof scratch);
+    const outcome enough = outcome_of(lent, scratch, sizeof scratch);
+    expect(enough.refusal, lent->refusal, lent->name, sizeof scratch, 0);
+    if (lent->call != RUN) expect((uint8_t)enough.size, lent->set, lent->name, sizeof scratch, 1);
+    for (size_t i = 0; i < sizeof rooms / sizeof rooms[0]; i++) {
+        int little = lent->clears && rooms[i] < FURNACEJADE_SCRATCH;
+        size_t cleared = lent->clears && !little ? FURNACEJADE_SCRATCH : 0, k = 0;
+        for (size_t j = 0; j < sizeof memory; j++) memory[j] = (uint8_t)(1 + j % 255);
+        const outcome got = outcome_of(lent, memory + GUARD, rooms[i]);
+        expect_outcome(&got, little ? &refused : &enough, lent->name, rooms[i]);
+        while (k < sizeof memory && memory[k] == (k >= GUARD && k < GUARD + cleared ? 0 : 1 + k % 255)) k++;
+        if (k < sizeof memory) printf("byte %ld of scratch: ", (long)k - GUARD);
+        expect((uint8_t)(k == sizeof memory), 1, lent->name, rooms[i], 4);
+    }
+}
+
+/* Seven controllers have 64 reports under way, and read the logs in a circle, so that the logs have them in seven orders. Answers
+ * the first handover that applies something, which applies all 64, and the table before it. The handover before that one is of
+ * the same pair, and the table before it is answered too. There 63 reports have the marks of a majority, and all 63 are taken out
+ * of the set. */
+static furnacejade_pair circle(furnacejade_table *none, furnacejade_table *all) {
+    enum { N = FURNACEJADE_CONTROLLERS };
+    static furnacejade_fresh_answer fresh;
+    furnacejade_answer answer;
+    furnacejade_pair pair = {0, 0};
+    furnacejade_fresh(1, N, &fresh);
+    for (size_t s = 0; s < FURNACEJADE_MESSAGES; s++)
+        expect(play(&fresh.table, furnacejade_record_report(1 + s % N, 1), &answer), 0, "report in a circle", s, 0);
+    for (size_t turn = 0; answer.size == 0; turn++) { /* each reads its own log, then that of the next, and so on */
+        pair.receiver = 1 + turn % N;
+        pair.owner = 1 + (turn % N + turn / N) % N;
+        do {
+            *none = *all;
+            *all = fresh.table;
+        } while (play(&fresh.table, furnacejade_record_handover(pair.receiver, pair.owner), &answer) == 0 && answer.size == 0);
+    }
+    expect((uint8_t)answer.size, FURNACEJADE_MESSAGES, "handover in a circle", pair.receiver, pair.owner);
+    expect((uint8_t)(none->controllers[pair.receiver - 1].read[pair.owner - 1]), FURNACEJADE_MESSAGES - 2, "handover before it", 0, 0);
+    return pair;
+}
+
+/* 64 messages are pending at the receiver, and all but slots 5 and 63 go before both of these. Slot 63 lacks marks, and so takes
+ * slot 5 out, which has the marks of a majority. */
+static void take_one_out(furnacejade_table *table, size_t receiver) {
+    furnacejade_pending *pending = table->controllers[receiver - 1].pending;
+    for (size_t s = 0; s < FURNACEJADE_MESSAGES; s++) memset(pending[s].marks, (int)s + 1, sizeof pending[s].marks);
+    memset(pending[5].marks, FURNACEJADE_MESSAGES, 4);
+    memset(pending[5].marks + 4, FURNACEJADE_ABSENT, 3);
+    memset(pending[63].marks, 1, 3);
+    memset(pending[63].marks + 3, FURNACEJADE_ABSENT, 4);
+}
+
+/* The tables of the calls that are lent scratch. */
+typedef struct {
+    furnacejade_table one, two;        /* fresh ones of three controllers, of versions 1 and 2 */
+    furnacejade_table some;            /* 3 has applied its sync, 1 has a report pending, and 2 applies 3.1 when it reads its own log */
+    furnacejade_table none, most, all; /* 64 messages are pending at a receiver, and a handover applies none, 62 or all of them */
+    furnacejade_pair last;             /* that handover */
+} tables_to_lend;
+
+#define CLEARS .clears = 1
+#define REFUSED(name) .refusal = FURNACEJADE_REFUSED_##name
+#define EXPECT_LENT(calls) \
+    for (size_t i = 0; i < sizeof calls / sizeof calls[0]; i++) expect_lent(&calls[i])
+
+/* Every kind of event. */
+static void lent_to_events(const tables_to_lend *on) {
+    static const furnacejade_table zero;
+    const furnacejade_record last = furnacejade_record_handover(on->last.receiver, on->last.owner);
+    const lent_call calls[] = {
+        {"report", EVENT, &on->some, furnacejade_record_report(1, 5), CLEARS},
+        {"report of 361", EVENT, &on->some, furnacejade_record_report(1, 361), REFUSED(AMOUNT)},
+        {"report with a class", EVENT, &on->two, furnacejade_record_classed_report(1, 5, FURNACEJADE_CLASS_S), CLEARS},
+        {"report of class 5", EVENT, &on->two, furnacejade_record_classed_report(1, 5, 5), REFUSED(CLASS)},
+        {"sync", EVENT, &on->some, furnacejade_record_sync(2), CLEARS},
+        {"sync while a report is pending", EVENT, &on->some, furnacejade_record_sync(1), REFUSED(OWN_PENDING)},
+        {"handover", EVENT, &on->some, furnacejade_record_handover(2, 2), .set = 1, CLEARS},
+        {"handover of 64 pending, none applied", EVENT, &on->none, last, CLEARS},
+        {"handover of 64 pending, 62 applied", EVENT, &on->most, last, .set = 62, CLEARS},
+        {"handover of 64 pending, all applied", EVENT, &on->all, last, .set = 64, CLEARS},
+        {"handover without an entry", EVENT, &on->some, furnacejade_record_handover(2, 1), REFUSED(NO_ENTRY)},
+        {"stop", EVENT, &on->some, furnacejade_record_stop(1, 1), CLEARS},
+        {"stop that keeps too little", EVENT, &on->some, furnacejade_record_stop(1, 0), REFUSED(KEPT)},
+        {"local read", EVENT, &on->some, furnacejade_record_local_read(2), CLEARS},
+        {"local read while a report is pending", EVENT, &on->some, furnacejade_record_local_read(1), REFUSED(READ_PENDING)},
+        {"write", EVENT, &on->some, furnacejade_record_write(3, 8, 1500), CLEARS},
+        {"write without a sync", EVENT, &on->some, furnacejade_record_write(2, 8, 1500), REFUSED(NOT_SYNCED)},
+        {"event in a table of zeros", EVENT, &zero, furnacejade_record_report(1, 5), REFUSED(TABLE)},
+        {"event of no bytes", EVENT, &on->some, REFUSED(RECORD)},
+    };
+    EXPECT_LENT(calls);
+}
+
+/* The dispatcher, ask and commit. */
+static void lent_to_calls(const tables_to_lend *on) {
+    const furnacejade_pair before = {on->last.receiver, on->last.owner - 1};
+    const size_t acts = ask(&on->most, on->last.receiver, on->last.owner, scratch, sizeof scratch).acts;
+    const lent_call calls[] = {
+        {"dispatch", DISPATCH, &on->some, .pair = {2, 1}, .set = 1, CLEARS},
+        {"dispatch of 64 pending", DISPATCH, &on->most, .pair = before, .set = 62, CLEARS},
+        {"none", DISPATCH, &on->one, .pair = {3, 3}},
+        {"dispatch after no controller", DISPATCH, &on->some, .pair = {3, 4}, REFUSED(CONTROLLER)},
+        {"ask", ASK, &on->some, .pair = {2, 2}, .set = 1, CLEARS},
+        {"ask of 64 pending, none shown", ASK, &on->none, .pair = on->last, CLEARS},
+        {"ask of 64 pending, 62 shown", ASK, &on->most, .pair = on->last, .set = 62, CLEARS},
+        {"ask without an entry", ASK, &on->some, .pair = {2, 1}, REFUSED(NO_ENTRY)},
+        {"commit", COMMIT, &on->some, .pair = {2, 2}, .acts = 2, .set = 1, CLEARS},
+        {"commit of 64 pending", COMMIT, &on->most, .pair = on->last, .acts = acts, .set = 62, CLEARS},
+        {"commit with another count", COMMIT, &on->some, .pair = {2, 2}, .acts = 3, REFUSED(ACT_COUNT)},
+    };
+    EXPECT_LENT(calls);
+}
+
+/* The run of a file. */
+static void lent_to_runs(const tables_to_lend *on) {
+    static const uint8_t reads[] = {1, 3, 2, 5, 1, 2, 5, 2}, stranger[] = {1, 3, 2, 2, 4}, version_3[] = {3, 3}, eight[] = {1, 8};
+    const lent_call calls[] = {
+        {"run", RUN, &on->one, .file = plain, .size = sizeof plain, .listing_length = 64, CLEARS},
+        {"run of version 2", RUN, &on->two, .file = classed, .size = sizeof classed, .listing_length = 64, CLEARS},
+        {"run of local reads", RUN, &on->one, .file = reads, .size = sizeof reads, CLEARS},
+        {"run that is cut", RUN, &on->one, .file = plain, .size = sizeof plain - 1, .listing_length = 64, REFUSED(RECORD), CLEARS},
+        {"run without a listing", RUN, &on->one, .file = plain, .size = sizeof plain, REFUSED(LISTING), CLEARS},
+        {"run whose first record is refused", RUN, &on->one, .file = stranger, .size = sizeof stranger, REFUSED(CONTROLLER)},
+        {"run of no records", RUN, &on->one, .file = plain, .size = FURNACEJADE_HEAD},
+        {"run of one byte", RUN, &on->one, .file = plain, .size = 1, REFUSED(FILE_LENGTH)},
+        {"run of version 3", RUN, &on->one, .file = version_3, .size = sizeof version_3, REFUSED(VERSION)},
+        {"run of eight controllers", RUN, &on->one, .file = eight, .size = sizeof eight, REFUSED(CONTROLLER_COUNT)},
+    };
+    EXPECT_LENT(calls);
+}
+
+/* What each call leaves of scratch, accepted and refused. */
+static void scratches(void) {
+    static tables_to_lend on;
+    static furnacejade_fresh_answer fresh;
+    furnacejade_answer answer;
+    const furnacejade_record played[] = {
+        furnacejade_record_sync(3),      furnacejade_record_handover(2, 3), furnacejade_record_handover(3, 2),
+        furnacejade_record_report(1, 5), furnacejade_record_handover(2, 1),
+    };
+    furnacejade_fresh(2, 3, &fresh);
+    on.two = fresh.table;
+    furnacejade_fresh(1, 3, &fresh);
+    on.one = on.some = fresh.table;
+    for (size_t i = 0; i < sizeof played / sizeof played[0]; i++) expect(play(&on.some, played[i], &answer), 0, "before a call", i, 0);
+    on.last = circle(&on.none, &on.all);
+    on.most = on.all;
+    take_one_out(&on.most, on.last.receiver);
+    lent_to_events(&on);
+    lent_to_calls(&on);
+    lent_to_runs(&on);
+}
+
 static void random_tables(void) {
     uint64_t state = 1;
     for (int i = 0; i < 20000; i++) {
@@ -973,6 +1196,7 @@ int main(void) {
     acts();
     commits();
     committed_sync();
+    scratches();
     random_tables();
     printf("%u fields and tables as expected\n", tests);
     return EXIT_SUCCESS;

@@ -45,12 +45,13 @@ extern "C" {
 #endif
 
 enum {
-    FURNACEJADE_INTERFACE = 3,      /* the state of this header; furnacejade_interface() answers that of the library */
+    FURNACEJADE_INTERFACE = 4,      /* the state of this header; furnacejade_interface() answers that of the library */
     FURNACEJADE_CONTROLLERS = 7,    /* the most controllers that a run can have */
     FURNACEJADE_MESSAGES = 64,      /* the most messages that a run can have */
     FURNACEJADE_CLASSES = 5,        /* the classes of which a panel shows sums, FURNACEJADE_CLASS_NONE among them */
     FURNACEJADE_REGISTERS = 8,      /* the registers that a panel shows */
-    FURNACEJADE_SCRATCH = 4096,     /* the bytes of scratch that an event, a dispatched handover, an ask or a commit needs */
+    FURNACEJADE_SCRATCH = 64,       /* the bytes of scratch that an event, a dispatched handover, an ask or a commit needs: one
+                                       for each message that can be pending */
     FURNACEJADE_LISTING = 16384,    /* more bytes of listing than any run file fills */
     FURNACEJADE_HEAD = 2,           /* the bytes that a run file begins with: its version and the number of controllers */
     FURNACEJADE_LONGEST_RECORD = 8, /* the bytes of the longest record, a write */
@@ -85,7 +86,7 @@ enum {
     X(12, FULL, "Has the run fewer than 64 messages?")                                            \
     X(13, NO_ENTRY, "Does the log have an entry that the receiver has not read?")                 \
     X(14, KEPT, "Is the length kept at most the log's, and at least every read position in it?")  \
-    X(15, SCRATCH, "Has the scratch area 4,096 bytes or more?")                                   \
+    X(15, SCRATCH, "Has the scratch area 64 bytes or more?")                                      \
     X(16, LISTING, "Does the line fit in what is left of the listing?")                           \
     X(17, CLASS, "Is the class of a report of version 2 from 1 to 4?")                            \
     X(18, READ_PENDING, "Has the controller of a local read no message of its own pending?")      \
@@ -587,8 +588,8 @@ void furnacejade_fresh(size_t version, size_t n, furnacejade_fresh_answer *answe
  * version says how long a report is. Questions 4 to 8, 10 and 15 are put to every record; besides them 9 and 12 to a report,
  * and 17 after 9 in version 2; 11 and 12 to a sync; 13 to a handover; 14 to a stop; 18 to a local read; 19, 11, 12 and 20 to a
  * write. Returns how many bytes are left: the unread rest is that many bytes at the end of bytes. An accepted event leaves the
- * table as the rules say and the first 4,096 scratch bytes zero. A refused one leaves table and scratch as they were, and the
- * record in the rest: a loop that goes on must step over it, by 1 + its length byte. Takes 24 KB of stack.
+ * table as the rules say, the first 64 scratch bytes zero and later ones as they were. A refused one leaves table and scratch as
+ * they were, and the record in the rest: a loop that goes on must step over it, by 1 + its length byte. Takes 24 KB of stack.
  *
  *     while (size > 0) {
  *         size_t left = furnacejade_event(table, bytes, size, scratch, sizeof scratch, &answer);
@@ -688,8 +689,8 @@ void furnacejade_count_before(const furnacejade_table *t, size_t c, const furnac
 /* A whole run file, from a fresh table of its own, which has the file's version, up to the first refusal. Its lines, one for
  * each set applied, are written into the listing from the start on; the bytes after them stay. A local read counts as an
  * event and has no line. Where a record is refused, the listing keeps the lines of the events before it, the answer has the
- * table that they left, and the first 4,096 scratch bytes are zero if any event was accepted. A file refused by questions 1 to
- * 3 changes neither listing nor scratch. Takes 16 KB of stack.
+ * table that they left, and the first 64 scratch bytes are zero if any event was accepted; later ones are as they were. A file
+ * refused by questions 1 to 3 changes neither listing nor scratch. Takes 16 KB of stack.
  *
  *     static uint8_t listing[FURNACEJADE_LISTING];
  *     furnacejade_run(file, size, listing, sizeof listing, scratch, sizeof scratch, &run);

@@ -8,7 +8,7 @@ use core::str::FromStr;
 
 /// The interface that this package was written for. It goes up whenever a struct, a constant, a refusal or a call
 /// changes. [`interface`](crate::interface) says which one the library was built with.
-pub const INTERFACE: usize = 3;
+pub const INTERFACE: usize = 4;
 
 /// The greatest number of controllers of a run.
 pub const CONTROLLERS: usize = 7;
@@ -22,8 +22,9 @@ pub const CLASSES: usize = 5;
 /// The number of registers that a panel shows.
 pub const REGISTERS: usize = 8;
 
-/// The bytes of scratch that an event, a handover of the dispatcher, an ask or a commit needs.
-pub const SCRATCH: usize = 4096;
+/// The bytes of scratch that an event, a handover of the dispatcher, an ask or a commit needs: one for each message that
+/// can be pending.
+pub const SCRATCH: usize = 64;
 
 /// The bytes of a listing in which the lines of every run file fit.
 pub const LISTING: usize = 16384;

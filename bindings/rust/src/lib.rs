@@ -31,7 +31,7 @@
 //! with the first question that is answered no, a [`Refusal`], and a refused call changes nothing that was lent to it.
 //! Only the [`run`] of a file, which ends at the first record that is refused, keeps what the records before it did:
 //! their lines in the listing, and zeros in the first [`SCRATCH`] bytes of scratch if an event was accepted. A file
-//! that is refused by questions 1 to 3 changes nothing.
+//! that is refused by questions 1 to 3 changes nothing. No call changes a byte of scratch after the first [`SCRATCH`].
 //!
 //! # Report weight classes
 //!
@@ -317,8 +317,8 @@ pub fn fresh(version: u8, n: u8) -> Result<Table, Refusal> {
 /// the set applied, and the sums of a finished sync or of a local read. The table's version says whether a report has a
 /// class byte.
 ///
-/// An accepted event needs [`SCRATCH`] bytes of scratch, and leaves them zero. A refused one leaves table and scratch
-/// as they were.
+/// An accepted event needs [`SCRATCH`] bytes of scratch, and leaves them zero and later ones as they were. A refused one
+/// leaves table and scratch as they were.
 ///
 /// # Errors
 ///
@@ -360,8 +360,8 @@ pub fn dispatch(table: &mut Table, after: Pair, scratch: &mut [u8]) -> Result<Op
 /// Shows the set that a handover would apply, without making it. The preview also has what [`commit`] is given to take
 /// this very set.
 ///
-/// The table stays as it is. An accepted ask needs [`SCRATCH`] bytes of scratch, and leaves them zero. A refused one
-/// leaves scratch as it was.
+/// The table stays as it is. An accepted ask needs [`SCRATCH`] bytes of scratch, and leaves them zero and later ones as
+/// they were. A refused one leaves scratch as it was.
 ///
 /// # Errors
 ///

@@ -5,7 +5,7 @@ use crate::{Answer, Asked, DispatchAnswer, Name, Pair, Panel, Preview, Record, R
 use core::fmt::{Debug, Formatter};
 use core::ops::RangeInclusive;
 
-/// A machine: a [`Table`] that is always well formed, and the scratch that events need. It takes 10 KB and allocates
+/// A machine: a [`Table`] that is always well formed, and the scratch that events need. It takes 6 KB and allocates
 /// nothing.
 ///
 /// ```
@@ -90,7 +90,7 @@ impl Machine {
     }
 
     /// Shows the set that a handover would apply, without making it: [`ask`] of the machine's table. The scratch for it
-    /// stands on the stack, 4 KB, so that the machine is only read.
+    /// stands on the stack, 64 bytes, so that the machine is only read.
     ///
     /// # Errors
     ///

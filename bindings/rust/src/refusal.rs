@@ -85,7 +85,7 @@ refusals! {
     (12, Full, "Has the run fewer than 64 messages?"),
     (13, NoEntry, "Does the log have an entry that the receiver has not read?"),
     (14, Kept, "Is the length kept at most the log's, and at least every read position in it?"),
-    (15, Scratch, "Has the scratch area 4,096 bytes or more?"),
+    (15, Scratch, "Has the scratch area 64 bytes or more?"),
     (16, Listing, "Does the line fit in what is left of the listing?"),
     (17, Class, "Is the class of a report of version 2 from 1 to 4?"),
     (18, ReadPending, "Has the controller of a local read no message of its own pending?"),
