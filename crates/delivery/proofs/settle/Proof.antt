@@ -119,9 +119,10 @@ again-again c =
     let b = c .before .before in
     let l = member b in
     let i = l .before .loop .inv in
-    let p = pass (l .before) in
-    (kept-removed _ _ _ _ _ _ (place-within l) (kept-still (l .before)),
-    removing-remove _ _ _ _ _ _ _ (i .4) (room-still (l .before)) (omega (arith, i .2, p .again-test .taken)) (l .loop-test .taken) (sym (compared b) ∙ lt-leb _ _ (c .before .if1 .taken)))
+    let p = pass (l .before) in (
+      kept-removed _ _ _ _ _ _ (place-within l) (kept-still (l .before)),
+      removing-remove _ _ _ _ _ _ _ (i .4) (room-still (l .before)) (omega (arith, i .2, p .again-test .taken)) (l .loop-test .taken) (sym (compared b) ∙ lt-leb _ _ (c .before .if1 .taken)),
+    )
 
 again-again-2 : tie.Need-again-again-2 Inv-loop μ-loop Inv-again μ-again
 again-again-2 c =
