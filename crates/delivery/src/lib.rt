@@ -101,6 +101,7 @@ fn settle(
         while place < members {
             let s = scratch[place];
             if goes_before(n, pending[s as usize], q) < m {
+                // The last member is read first: with 64 in the buffer, the removed one may go to its byte.
                 members -= 1;
                 scratch[place] = scratch[members];
                 outside += 1;
