@@ -5,7 +5,7 @@ mod broken_tables;
 mod dispatched;
 pub mod files;
 mod lists;
-mod odd;
+pub mod odd;
 mod pairs;
 mod previews;
 pub mod random;
