@@ -8,7 +8,8 @@
 //!     faults random [DIR [NAME]]   the same by random cases alone, for all faults or for one; the cases found are
 //!                           made small and written to DIR
 //!     faults demand3        which faults the checker of demand 3 sees alone
-//!     reference N SEED      the reference alone: the folder, the edges, and its applied sets over all subsets
+//!     reference N SEED      the reference alone: the folder, the edges, and its applied sets by all subsets and by the
+//!                           matrix
 //!     program PATH N SEED   an executable's output for N run files, and the library's
 //!     tables PATH N SEED    the functions over a table, on the tables of N random cases: in Rust, and in C through the
 //!                           program `bindings/c/tables.c` at PATH

@@ -61,7 +61,7 @@ pub fn run_table(n: usize) -> (Table, Vec<u8>) {
 
 /// The table that a file leaves.
 pub fn last_table(file: &[u8]) -> Table {
-    to_table(&run_file(file, &mut vec![0; LISTING], &mut vec![0; SCRATCH]).state.expect("a run"))
+    to_table(&run_file(file, &mut vec![0; LISTING], &mut [0; SCRATCH]).state.expect("a run"))
 }
 
 /// A file of a version and of seven controllers with 64 messages and every handover; with a stop of each at its end,

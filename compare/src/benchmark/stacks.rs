@@ -5,6 +5,7 @@ use super::inputs::{
     applying_write, dense_files, file_of_reads, last_table, last_two, of_sixty_four, pending_table, run_table,
     waiting_table, with_writes,
 };
+use super::LENT;
 use crate::cases::records::{classed_report, file_of, handover, local_read, report, stop, sync, write};
 use crate::edges::long_runs::{by_log, in_a_circle, under_way_run};
 use crate::engines::pair;
@@ -15,7 +16,7 @@ use furnacejade::{
 };
 
 fn event_stack(table: &Table, bytes: &[u8]) -> usize {
-    let (mut t, mut scratch, mut answer) = (table.clone(), vec![0xA5; SCRATCH], Answer::BLANK);
+    let (mut t, mut scratch, mut answer) = (table.clone(), vec![0xA5; LENT], Answer::BLANK);
     needed(|| {
         calls::event(&mut t, bytes, &mut scratch, &mut answer);
     })
@@ -25,7 +26,7 @@ fn event_stack(table: &Table, bytes: &[u8]) -> usize {
 fn dispatch_stack(table: &Table) -> usize {
     let mut answer = DispatchAnswer::BLANK;
     let named = [(0, 0), (1, 1), (1, 2), (1, 3), (3, 3), (7, 7), (4, 4)].map(pair);
-    let calls = named.into_iter().flat_map(|pair| [63, SCRATCH].map(|length| (pair, length)));
+    let calls = named.into_iter().flat_map(|pair| [SCRATCH - 1, LENT].map(|length| (pair, length)));
     let stacks = calls.map(|(pair, length)| {
         let (mut t, mut scratch) = (table.clone(), vec![0xA5; length]);
         needed(|| calls::dispatch(&mut t, pair, &mut scratch, &mut answer))
@@ -39,7 +40,7 @@ const PAIRS: [(usize, usize); 8] = [(0, 0), (1, 1), (1, 2), (1, 3), (2, 1), (3, 
 /// Asks of a table, with too little scratch too.
 fn ask_stack(table: &Table) -> usize {
     let mut answer = AskAnswer::BLANK;
-    let asked = PAIRS.map(pair).into_iter().flat_map(|pair| [63, SCRATCH].map(|length| (pair, length)));
+    let asked = PAIRS.map(pair).into_iter().flat_map(|pair| [SCRATCH - 1, LENT].map(|length| (pair, length)));
     let stacks = asked.map(|(pair, length)| {
         let mut scratch = vec![0xA5; length];
         needed(|| calls::ask(table, pair, &mut scratch, &mut answer))
@@ -51,8 +52,9 @@ fn ask_stack(table: &Table) -> usize {
 fn commit_stack(table: &Table) -> usize {
     let (mut shown, mut answer) = (AskAnswer::BLANK, Answer::BLANK);
     let mut stacks = vec![];
-    for (pair, length) in PAIRS.map(pair).into_iter().flat_map(|pair| [63, SCRATCH].map(|length| (pair, length))) {
-        calls::ask(table, pair, &mut [0xA5; SCRATCH], &mut shown);
+    for (pair, length) in PAIRS.map(pair).into_iter().flat_map(|pair| [SCRATCH - 1, LENT].map(|length| (pair, length)))
+    {
+        calls::ask(table, pair, &mut [0xA5; LENT], &mut shown);
         for acts in [shown.acts, shown.acts + 1] {
             let (mut t, mut scratch) = (table.clone(), vec![0xA5; length]);
             stacks.push(needed(|| calls::commit(&mut t, pair, acts, &mut scratch, &mut answer)));
@@ -75,7 +77,7 @@ fn count_stack(table: &Table) -> usize {
 }
 
 fn run_stack(file: &[u8]) -> usize {
-    let (mut listing, mut scratch, mut answer) = (vec![0; LISTING], vec![0; SCRATCH], Box::new(RunAnswer::BLANK));
+    let (mut listing, mut scratch, mut answer) = (vec![0; LISTING], vec![0; LENT], Box::new(RunAnswer::BLANK));
     needed(|| calls::run(file, &mut listing, &mut scratch, &mut answer))
 }
 

@@ -2,6 +2,7 @@
 //! clock. A row is the least of several means.
 
 use super::inputs::*;
+use super::LENT;
 use crate::cases::records::{classed_report, file_of, handover, local_read, report, stop, write};
 use crate::cases::Asked;
 use crate::edges::long_runs::{by_log, in_a_circle, under_way_run};
@@ -30,7 +31,7 @@ fn timed<T>(call: impl FnOnce() -> T) -> Duration {
 }
 
 fn event(engine: &dyn Engine, table: &Table, bytes: &[u8]) -> f64 {
-    let (mut scratch, mut answer) = (vec![0xA5; SCRATCH], Answer::BLANK);
+    let (mut scratch, mut answer) = (vec![0xA5; LENT], Answer::BLANK);
     mean(|| {
         scratch.fill(0xA5);
         let mut t = table.clone();
@@ -40,7 +41,7 @@ fn event(engine: &dyn Engine, table: &Table, bytes: &[u8]) -> f64 {
 
 /// A call of the dispatcher.
 fn dispatch(engine: &dyn Engine, table: &Table, named: Pair) -> f64 {
-    let (mut scratch, mut answer) = (vec![0xA5; SCRATCH], DispatchAnswer::BLANK);
+    let (mut scratch, mut answer) = (vec![0xA5; LENT], DispatchAnswer::BLANK);
     mean(|| {
         scratch.fill(0xA5);
         let mut t = table.clone();
@@ -49,7 +50,7 @@ fn dispatch(engine: &dyn Engine, table: &Table, named: Pair) -> f64 {
 }
 
 fn ask(engine: &dyn Engine, table: &Table, pair: Pair) -> f64 {
-    let (mut t, mut scratch, mut answer) = (table.clone(), vec![0xA5; SCRATCH], AskAnswer::BLANK);
+    let (mut t, mut scratch, mut answer) = (table.clone(), vec![0xA5; LENT], AskAnswer::BLANK);
     mean(|| {
         scratch.fill(0xA5);
         timed(|| engine.ask(&mut t, pair, &mut scratch, &mut answer))
@@ -57,7 +58,7 @@ fn ask(engine: &dyn Engine, table: &Table, pair: Pair) -> f64 {
 }
 
 fn commit(engine: &dyn Engine, table: &Table, pair: Pair, acts: usize) -> f64 {
-    let (mut scratch, mut answer) = (vec![0xA5; SCRATCH], Answer::BLANK);
+    let (mut scratch, mut answer) = (vec![0xA5; LENT], Answer::BLANK);
     mean(|| {
         scratch.fill(0xA5);
         let mut t = table.clone();
@@ -67,7 +68,7 @@ fn commit(engine: &dyn Engine, table: &Table, pair: Pair, acts: usize) -> f64 {
 
 /// The nanoseconds for each handover of the dispatcher alone, from a table to "none".
 fn driven(engine: &dyn Engine, table: &Table) -> f64 {
-    let (mut scratch, mut answer) = (vec![0xA5; SCRATCH], DispatchAnswer::BLANK);
+    let (mut scratch, mut answer) = (vec![0xA5; LENT], DispatchAnswer::BLANK);
     let (mut t, mut last, mut handovers) = (table.clone(), Pair { receiver: table.n, owner: table.n }, 0);
     let time = timed(|| loop {
         engine.dispatch(&mut t, last, &mut scratch, &mut answer);
@@ -81,7 +82,7 @@ fn driven(engine: &dyn Engine, table: &Table) -> f64 {
 
 /// The nanoseconds for each of these events, one by one, from a table on.
 fn events(engine: &dyn Engine, table: &Table, records: &[Vec<u8>]) -> f64 {
-    let (mut t, mut scratch, mut answer) = (table.clone(), vec![0xA5; SCRATCH], Answer::BLANK);
+    let (mut t, mut scratch, mut answer) = (table.clone(), vec![0xA5; LENT], Answer::BLANK);
     let time = timed(|| {
         for record in records {
             engine.event(&mut t, record, &mut scratch, &mut answer);
@@ -99,7 +100,7 @@ fn count(engine: &dyn Engine, table: &Table, controller: usize) -> f64 {
 
 /// The nanoseconds for each event of one run of each file.
 fn runs(engine: &dyn Engine, files: &[Vec<u8>]) -> f64 {
-    let (mut listing, mut scratch) = (vec![0xA5; LISTING], vec![0xA5; SCRATCH]);
+    let (mut listing, mut scratch) = (vec![0xA5; LISTING], vec![0xA5; LENT]);
     let mut run = |file: &Vec<u8>| engine.run(file, &mut listing, &mut scratch);
     let events: usize = files.iter().map(|file| run(file).events).sum();
     let time: Duration = files.iter().map(|file| timed(|| run(file))).sum();
@@ -108,7 +109,7 @@ fn runs(engine: &dyn Engine, files: &[Vec<u8>]) -> f64 {
 
 /// The nanoseconds for each event of a file whose records are carried out one by one.
 fn single_events(engine: &dyn Engine, file: &[u8]) -> f64 {
-    let (mut scratch, mut answer) = (vec![0xA5; SCRATCH], Answer::BLANK);
+    let (mut scratch, mut answer) = (vec![0xA5; LENT], Answer::BLANK);
     let (mut t, mut rest, mut events) = (engine.fresh(file[0] as usize, file[1] as usize).table, &file[2..], 0);
     let time = timed(|| {
         while !rest.is_empty() {

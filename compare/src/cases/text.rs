@@ -4,8 +4,8 @@
 //! not as in a fresh table of version 1, and a head `fresh` names its version if that is not 1. Bytes are hexadecimal;
 //! `(00*512)` stands for 512 bytes 00, and `(020501*90)` for 90 times these three. Lent memory is given by its length;
 //! what it holds at first is the same dirt in every case. `before 3 3.1 1.1` asks how many put 3.1 before 1.1 at 3, and
-//! `dispatch 2 1 scratch 4096` calls the dispatcher, which is told that it served receiver 2 and owner 1 last.
-//! `ask 2 1 scratch 4096` asks what the handover to 2 from 1 would apply, and `commit 2 1 acts 7 scratch 4096` makes that
+//! `dispatch 2 1 scratch 64` calls the dispatcher, which is told that it served receiver 2 and owner 1 last.
+//! `ask 2 1 scratch 64` asks what the handover to 2 from 1 would apply, and `commit 2 1 acts 7 scratch 64` makes that
 //! handover if 7 is the act count of 2.
 
 use super::fields::{plain_table, set_field, table_text};

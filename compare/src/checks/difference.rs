@@ -1,10 +1,10 @@
 //! Runs one case through two engines, and finds the first difference: in an answer, in lent memory and its guards, or
-//! in what the tables mean.
+//! in what the tables mean. What holds of each call by itself is tried too.
 
 use super::side::{numbers, register, set, shown, Lent, Side};
-use super::{counts, previews, served};
+use super::{counts, previews, served, sets};
 use crate::cases::{asked_in, Asked, Call, Case, Head};
-use crate::engines::Engine;
+use crate::engines::{pair, Engine};
 use crate::reference::calls::LOCAL_READ;
 use crate::reference::{meaning, well_formed};
 use furnacejade::{LookAnswer, Pair, RefusalNumber, RunAnswer, Table};
@@ -67,6 +67,9 @@ fn event(a: &mut Side, b: &mut Side, bytes: &[u8], scratch: usize) -> Result<(),
     if bytes[1] == LOCAL_READ {
         differ_plain("event: table of a local read", before.as_bytes() == b.table.as_bytes())?;
     }
+    if bytes[1] == sets::HANDOVER {
+        sets::law(&before, pair((bytes[2].into(), bytes[3].into())), &set(&found.answer))?;
+    }
     differ_plain("event: a table that is no longer well formed", well_formed(&b.table))?;
     differ_plain("event: table", same_table(&a.table, &b.table))
 }
@@ -78,12 +81,15 @@ fn dispatch(a: &mut Side, b: &mut Side, named: Pair, scratch: usize) -> Result<(
     let (right, found) = (a.dispatch(named, scratch), b.dispatch(named, scratch));
     differ("dispatch: refusal", right.answer.answer.refusal, found.answer.answer.refusal)?;
     differ("dispatch: pair", numbers(right.answer.pair), numbers(found.answer.pair))?;
-    served::laws(b.engine, before, scratch, &found, &b.table)?;
+    served::laws(b.engine, before.clone(), scratch, &found, &b.table)?;
     differ("dispatch: set", set(&right.answer.answer), set(&found.answer.answer))?;
     differ("dispatch: finished", right.answer.answer.finished, found.answer.answer.finished)?;
     differ("dispatch: sums", right.answer.answer.sums, found.answer.answer.sums)?;
     differ_plain("dispatch: answer", right.answer == found.answer)?;
     differ_plain("dispatch: scratch", right.scratch == found.scratch)?;
+    if found.answer.pair != Pair::BLANK {
+        sets::law(&before, found.answer.pair, &set(&found.answer.answer))?;
+    }
     differ_plain("dispatch: table", same_table(&a.table, &b.table))
 }
 
@@ -97,6 +103,9 @@ fn ask(a: &mut Side, b: &mut Side, pair: Pair, scratch: usize) -> Result<(), Str
     differ_plain("ask: answer", right.answer == found.answer)?;
     differ_plain("ask: scratch", right.scratch == found.scratch)?;
     differ_plain("ask: table", before.as_bytes() == b.table.as_bytes())?;
+    if found.answer.refusal == RefusalNumber::ACCEPTED {
+        sets::law(&before, pair, &shown(&found.answer))?;
+    }
     previews::laws(b.engine, &before, pair, scratch, &found)
 }
 
@@ -111,6 +120,9 @@ fn commit(a: &mut Side, b: &mut Side, pair: Pair, acts: usize, scratch: usize) -
     differ("commit: sums", right.answer.sums, found.answer.sums)?;
     differ_plain("commit: answer", right.answer == found.answer)?;
     differ_plain("commit: scratch", right.scratch == found.scratch)?;
+    if found.answer.refusal == RefusalNumber::ACCEPTED {
+        sets::law(&before, pair, &set(&found.answer))?;
+    }
     previews::commit_law(b.engine, &before, pair, scratch, &found, &b.table)?;
     differ_plain("commit: table", same_table(&a.table, &b.table))
 }

@@ -6,10 +6,12 @@ pub mod counts;
 pub mod demand3;
 mod difference;
 pub mod dispatched;
+pub mod matrix;
 pub mod never_stale;
 pub mod previews;
 pub mod replay;
 mod served;
+pub mod sets;
 pub mod side;
 pub mod subsets;
 

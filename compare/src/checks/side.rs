@@ -6,7 +6,10 @@ use crate::engines::library::DIRTY_SUMS;
 use crate::engines::Engine;
 use furnacejade::{Answer, AskAnswer, DispatchAnswer, MessageNumber, Name, Pair, RefusalNumber, Register, Sums, Table};
 
+/// The guard before lent memory, and the one after it. A call that clears 4,096 bytes, however few it is lent, stays
+/// within the second.
 const GUARD: usize = 64;
+const GUARD_AFTER: usize = 4096;
 
 /// Lent memory: dirty at first, with a guard on either side.
 pub struct Lent {
@@ -16,11 +19,22 @@ pub struct Lent {
 
 impl Lent {
     pub fn new(length: usize) -> Lent {
-        let dirt = |i: usize| (i.wrapping_mul(37) as u8) | 1;
-        Lent { memory: (0..length + 2 * GUARD).map(dirt).collect(), length }
+        Lent::with(length, |i| (i.wrapping_mul(37) as u8) | 1)
     }
+
+    /// With dirt of any sort, by its place in the memory.
+    pub fn with(length: usize, dirt: impl Fn(usize) -> u8) -> Lent {
+        Lent { memory: (0..GUARD + length + GUARD_AFTER).map(dirt).collect(), length }
+    }
+
     pub fn lent(&mut self) -> &mut [u8] {
         &mut self.memory[GUARD..GUARD + self.length]
+    }
+
+    /// The memory as it is once the first bytes of what is lent are zero.
+    pub fn cleared(mut self, bytes: usize) -> Vec<u8> {
+        self.lent()[..bytes].fill(0);
+        self.memory
     }
 }
 

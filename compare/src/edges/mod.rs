@@ -10,6 +10,7 @@ mod local_reads;
 pub mod long_runs;
 mod previews;
 mod reports;
+mod scratch;
 mod script;
 mod tables;
 pub mod whole_runs;
@@ -29,5 +30,6 @@ pub fn check(engine: &dyn Engine) -> Result<(), String> {
     counts::check(engine)?;
     dispatcher::check(engine)?;
     previews::check(engine)?;
+    scratch::check(engine)?;
     long_runs::check(engine)
 }

@@ -12,7 +12,7 @@ use furnacejade::{Answer, AskAnswer, RefusalNumber, Table};
 type Pair = (usize, usize);
 
 /// Lengths of scratch that are too short.
-const SHORT: [usize; 5] = [0, 1, 63, 64, SCRATCH - 1];
+const SHORT: [usize; 4] = [0, 1, SCRATCH - 2, SCRATCH - 1];
 
 impl Script<'_> {
     /// Whether an ask answers only this number, and leaves table and scratch as they were.
@@ -75,7 +75,7 @@ fn worked(engine: &dyn Engine) -> Result<(), String> {
 
 /// Questions 4, 8 of both numbers, 10, 21, 13 and 15, in this order, with counts and lengths of every sort.
 fn questions(engine: &dyn Engine) -> Result<(), String> {
-    let lengths = [0, 64, SCRATCH - 1, SCRATCH, SCRATCH + 1];
+    let lengths = [0, 1, SCRATCH - 1, SCRATCH, SCRATCH + 1];
     for n in [1, 2, 3, 7] {
         let far = [0, n + 1, 8, 255, 256, 257, (1 << 32) + 1, (1 << 63) + 1, usize::MAX];
         let off = far.into_iter().flat_map(|c| [(c, 1), (1, c), (c, n), (n, c), (c, c)]);
@@ -110,24 +110,6 @@ fn questions(engine: &dyn Engine) -> Result<(), String> {
     }
     let mut blank = Script { engine, table: Table::BLANK };
     expect(blank.ask_is((0, 0), 0, 4) && blank.commit_is((0, 0), 0, 0, 4), "an ask of the zero table")
-}
-
-/// Both leave the first 4,096 bytes of scratch zero, and the others as they were; an ask leaves every byte of the table.
-fn scratch(engine: &dyn Engine) -> Result<(), String> {
-    for length in [SCRATCH, SCRATCH + 1, 2 * SCRATCH] {
-        let (mut s, mut area) = (Script::fresh(engine, 1, 2), vec![7; length]);
-        expect(s.refusal(report(1, 5)) == 0, "a report")?;
-        let (mut shown, mut taken, before) = (AskAnswer::BLANK, Answer::BLANK, s.table.clone());
-        let cleared = |area: &[u8]| {
-            area[..SCRATCH].iter().all(|byte| *byte == 0) && area[SCRATCH..].iter().all(|byte| *byte == 7)
-        };
-        engine.ask(&mut s.table, pair((2, 1)), &mut area, &mut shown);
-        expect(cleared(&area) && before.as_bytes() == s.table.as_bytes(), "scratch after an ask")?;
-        area.fill(7);
-        engine.commit(&mut s.table, pair((2, 1)), shown.acts, &mut area, &mut taken);
-        expect(cleared(&area) && taken.refusal == RefusalNumber::ACCEPTED, "scratch after a commit")?;
-    }
-    Ok(())
 }
 
 /// Stops in between: of the owner, which cuts the entry away (13) or keeps it, and of the receiver (10).
@@ -183,7 +165,6 @@ fn most(engine: &dyn Engine) -> Result<(), String> {
 pub fn check(engine: &dyn Engine) -> Result<(), String> {
     worked(engine)?;
     questions(engine)?;
-    scratch(engine)?;
     stops(engine)?;
     finishes(engine)?;
     most(engine)

@@ -69,7 +69,7 @@ impl WholeRun {
     fn check(&self, engine: &dyn Engine) -> Result<Table, String> {
         let (lines, events, number) = self.listing_and_end();
         let mut listing = vec![7; LISTING];
-        let run = engine.run(&self.file, &mut listing, &mut vec![7; SCRATCH]);
+        let run = engine.run(&self.file, &mut listing, &mut [7; SCRATCH]);
         expect((run.events, run.refusal.0) == (events, number), &format!("{}: its answer", self.name))?;
         expect(listing[..run.written] == *lines.as_bytes(), &format!("{}: its listing", self.name))?;
         if number == 0 {

@@ -2,7 +2,7 @@
 //! calls in between; runs that it drives to "none", with stops and without; and calls that name anything.
 
 use super::files::legal_file;
-use super::odd::{any_calls, any_pair, any_scratch, any_version, as_calls};
+use super::odd::{any_calls, any_pair, any_scratch, any_version, as_calls, long_scratch, short_scratch};
 use super::previews::every_ask;
 use super::random::Random;
 use super::runs::{follow_dispatch, highest_read, legal_run, Policy};
@@ -44,7 +44,7 @@ impl Dispatching {
         match random.below(3) {
             0 => _ = self.call(any_pair(random, self.state.n), SCRATCH),
             1 => _ = self.call(self.last, any_scratch(random)),
-            _ => _ = self.call(self.last, random.pick(&[0, 63, 4095])),
+            _ => _ = self.call(self.last, short_scratch(random)),
         }
     }
 
@@ -167,11 +167,12 @@ pub fn on_table(random: &mut Random) -> Case {
     making.calls.extend(every_ask(random, n));
     if random.one_in(4) {
         for (receiver, owner) in (0..=n + 1).flat_map(|r| (0..=n + 1).map(move |o| (r, o))) {
-            making.call(Pair { receiver, owner }, random.pick(&[0, 63, 64, 4095]));
+            making.call(Pair { receiver, owner }, short_scratch(random));
         }
     }
     for _ in 0..random.between(1, 6) {
-        making.call(any_pair(random, n), random.pick(&[SCRATCH, SCRATCH, 4097, 8192]));
+        let scratch = if random.one_in(2) { SCRATCH } else { long_scratch(random) };
+        making.call(any_pair(random, n), scratch);
     }
     let calls = if count > 8 { random.between(1, 6) } else { random.pick(&[4, n * n, 3 * n * n]) };
     making.chain(random, &Policy::even(3), calls, 20);

@@ -2,10 +2,11 @@
 //! are made of.
 
 mod broken_tables;
+pub mod buffers;
 mod dispatched;
 pub mod files;
 mod lists;
-mod odd;
+pub mod odd;
 mod pairs;
 mod previews;
 pub mod random;
@@ -14,6 +15,7 @@ pub mod tables;
 
 use crate::cases::Case;
 use broken_tables::table_broken;
+use buffers::crowded_buffers;
 use dispatched::{after_file, dispatched, driven, on_table};
 use files::{file_limits, file_long, file_mangled, file_questions};
 use lists::{boundaries, cut_off, drained, fresh_any, full, list, readings, rivals, set_points, under_way};
@@ -24,7 +26,7 @@ use tables::{table_flipped, table_good, table_random};
 /// A kind of case: its name, and how to make one.
 pub type CaseKind = (&'static str, fn(&mut Random) -> Case);
 
-pub const KINDS: [CaseKind; 29] = [
+pub const KINDS: [CaseKind; 31] = [
     ("list", list),
     ("table", table_good),
     ("broken table", table_broken),
@@ -35,6 +37,7 @@ pub const KINDS: [CaseKind; 29] = [
     ("table", table_good),
     ("reports under way", under_way),
     ("boundaries", boundaries),
+    ("crowded buffers", crowded_buffers),
     ("set points", set_points),
     ("broken table", table_broken),
     ("file questions", file_questions),
@@ -48,6 +51,7 @@ pub const KINDS: [CaseKind; 29] = [
     ("list", list),
     ("table", table_good),
     ("random table", table_random),
+    ("crowded buffers", crowded_buffers),
     ("dispatched list", dispatched),
     ("dispatched table", on_table),
     ("driven to none", |random| if random.one_in(3) { after_file(random) } else { driven(random) }),

@@ -1,4 +1,4 @@
-//! Odd values and calls: numbers and records at the boundaries of their questions, mangled bytes, scratch of any size,
+//! Odd values and calls: numbers and records at the boundaries of their questions, mangled bytes, scratch of any length,
 //! and calls of any kind in a row.
 
 use super::previews::any_preview;
@@ -10,10 +10,24 @@ use crate::engines::pair;
 use crate::reference::{State, SCRATCH};
 use furnacejade::{Name, Pair};
 
+/// Far more scratch than is asked for.
+pub const MUCH: usize = 4096;
+
+/// Too little scratch: none, one byte, or one byte less than is asked for.
+pub fn short_scratch(random: &mut Random) -> usize {
+    random.pick(&[0, 1, SCRATCH - 2, SCRATCH - 1, SCRATCH - 1])
+}
+
+/// More scratch than is asked for: by one byte, or by far.
+pub fn long_scratch(random: &mut Random) -> usize {
+    random.pick(&[SCRATCH + 1, SCRATCH + 1, SCRATCH + 2, MUCH, MUCH, 2 * MUCH])
+}
+
+/// Scratch of any length. Two thirds of the calls are lent just what is asked for.
 pub fn any_scratch(random: &mut Random) -> usize {
     match random.below(12) {
-        0 => random.pick(&[0, 1, 63, 64, 4094, 4095]),
-        1 => random.pick(&[4095, 4097, 4098, 5000, 8192]),
+        0 => short_scratch(random),
+        1..=3 => long_scratch(random),
         _ => SCRATCH,
     }
 }

@@ -148,13 +148,33 @@ fn set_messages(random: &mut Random, t: &mut Table) -> Option<()> {
     Some(())
 }
 
+/// How a table is made: one controller in `stopped` has stopped; of ten messages, a log has some `share`, and of ten that
+/// a controller knows, it has some `held` pending.
+pub struct Shape {
+    pub stopped: usize,
+    pub share: usize,
+    pub held: usize,
+}
+
+impl Shape {
+    fn any(random: &mut Random) -> Shape {
+        let mut some = || random.pick(&[0, 1, 5, 9, 10]);
+        let (share, held) = (some(), some());
+        Shape { stopped: random.pick(&[2, 5, 50]), share, held }
+    }
+}
+
 /// A random well-formed table with junk wherever nothing is read; most are reached by no run.
 pub fn good_table(random: &mut Random, n: usize, count: usize) -> Table {
+    table_of(random, n, count, Shape::any)
+}
+
+/// The same, of a shape that is chosen anew until a table has it.
+pub fn table_of(random: &mut Random, n: usize, count: usize, shape: fn(&mut Random) -> Shape) -> Table {
     loop {
         let mut t = junk_table(random);
         (t.version, t.n, t.count) = (any_version(random), n, count);
-        let (stopped, share, held) =
-            (random.pick(&[2, 5, 50]), random.pick(&[0, 1, 5, 9, 10]), random.pick(&[0, 1, 5, 9, 10]));
+        let Shape { stopped, share, held } = shape(random);
         for c in &mut t.controllers[..n] {
             c.running = if random.one_in(stopped) { 0 } else { yes(random) };
             let mut log: Vec<usize> = (0..count).filter(|_| random.below(10) < share || random.one_in(10)).collect();

@@ -7,6 +7,7 @@ use crate::checks::counts::pending;
 use crate::checks::dispatched;
 use crate::checks::never_stale::Tally;
 use crate::checks::replay::ledger_of;
+use crate::checks::sets;
 use crate::engines::Reference;
 use crate::generate;
 use crate::reference::{calls, to_state, well_formed, MAX_MESSAGES, SCRATCH};
@@ -38,6 +39,7 @@ struct Counts {
     dispatched: dispatched::Tally,
     previews: Previews,
     as_shown: as_shown::Tally,
+    sets: sets::Tally,
 }
 
 /// How often each ask and each commit was answered, by number; how many asks showed a set, and of how many messages at
@@ -132,6 +134,7 @@ impl Counts {
                 syncs: 0,
             },
             as_shown: as_shown::Tally::default(),
+            sets: sets::Tally::default(),
         }
     }
 
@@ -166,14 +169,18 @@ impl Counts {
         self.previews.sets += (answer.size > 0) as usize;
         self.previews.most = self.previews.most.max(answer.size);
         if answer.refusal == RefusalNumber::ACCEPTED {
+            self.looked_for(table, pair);
             self.previews.stopped_owner += (table.controllers[pair.owner - 1].running == 0) as usize;
         }
     }
 
     fn commit(&mut self, table: &mut Table, pair: Pair, acts: usize, scratch: usize) {
-        let mut answer = Answer::BLANK;
+        let (before, mut answer) = (table.clone(), Answer::BLANK);
         calls::commit(table, pair, acts, &mut vec![0; scratch], &mut answer);
         self.previews.commits[answer.refusal.0 as usize] += 1;
+        if answer.refusal == RefusalNumber::ACCEPTED {
+            self.looked_for(&before, pair);
+        }
         self.previews.taken_sets += (answer.size > 0) as usize;
         self.previews.syncs += answer.finished as usize;
     }
@@ -194,6 +201,7 @@ impl Counts {
             self.served.short_nones += (scratch < SCRATCH) as usize;
             return;
         }
+        self.looked_for(&before, pair);
         self.served.all += 1;
         self.served.stopped_owner += (before.controllers[pair.owner - 1].running == 0) as usize;
         self.served.named += (pair == named) as usize;
@@ -214,7 +222,7 @@ impl Counts {
     }
 
     fn event(&mut self, table: &mut Table, bytes: &[u8], scratch: usize) {
-        let mut answer = Answer::BLANK;
+        let (before, mut answer) = (table.clone(), Answer::BLANK);
         calls::event(table, bytes, &mut vec![0; scratch], &mut answer);
         self.events[answer.refusal.0 as usize] += 1;
         self.sizes[answer.size] += 1;
@@ -223,6 +231,9 @@ impl Counts {
         if answer.refusal == RefusalNumber::ACCEPTED {
             if bytes[1] == Payload::WRITE {
                 self.write(table);
+            }
+            if bytes[1] == sets::HANDOVER {
+                self.looked_for(&before, Pair { receiver: bytes[2].into(), owner: bytes[3].into() });
             }
             let own = |c: usize, slot: usize| table.messages[slot].sender as usize == c + 1;
             let waits = |c: usize, slot: usize| own(c, slot) && table.controllers[c].pending[slot].held != 0;
@@ -238,6 +249,11 @@ impl Counts {
             self.most_pending = self.most_pending.max(left + answer.size);
             self.kept_pending += (left > 0) as usize;
         }
+    }
+
+    /// A set was looked for at the receiver of a handover, on the table before it.
+    fn looked_for(&mut self, before: &Table, pair: Pair) {
+        self.sets.see(before.n, &sets::buffer(before, pair));
     }
 
     /// A write that was accepted is the table's last message.
@@ -330,6 +346,19 @@ impl Counts {
         println!("in lists: asks accepted {asks}, with a set {sets}; commits of what was shown {taken}, with a set {taken_sets}");
         println!("of these after acts of others {others_acted}; refused because the entry was cut away {cut_away}");
         println!("refused where the receiver had acted {acted}; handovers of what was shown, by any call {handed}");
+        self.print_sets();
+    }
+
+    fn print_sets(&self) {
+        let sets::Tally { all, most, full, mixed, none_out, all_out, some_out, .. } = self.sets;
+        println!("sets looked for {all}, with at most {most} pending, with 64 pending {full}");
+        println!("with candidates and others pending {mixed}");
+        println!("no candidate was taken out {none_out}, all were {all_out}, some were {some_out}");
+        let sets::Tally { rounds, most_rounds, forced_before, forced_after, .. } = self.sets;
+        println!("by rounds of removals, up to seven and more {rounds:?}, the most {most_rounds}");
+        println!(
+            "a message taken out forces out one before it in slot order {forced_before}, one after it {forced_after}"
+        );
     }
 }
 

@@ -6,11 +6,13 @@ pub mod faults;
 pub mod program;
 
 use crate::cases::{kept, Call, Case, Head};
-use crate::checks::{failure, report_and_exit, subsets};
+use crate::checks::{failure, report_and_exit, sets};
 use crate::engines::library::Library;
-use crate::engines::{Engine, Reference};
-use crate::reference::{self, calls, State};
+use crate::engines::{pair, Engine, Reference};
+use crate::generate::random::Random;
+use crate::reference::{self, calls, Marks, Name, State, SCRATCH};
 use crate::{edges, generate};
+use furnacejade::Pair;
 use std::io::{Read, Write};
 use std::process::exit;
 
@@ -68,11 +70,17 @@ pub fn compare(cases: usize, seed: u64) {
     println!("{kept} kept cases and {cases} random ones: library and reference agree");
 }
 
+/// Buffers in no table, for each case.
+const BUFFERS: usize = 20;
+
 /// The reference against its edges, demand 3 and the definition of the set that is applied.
 pub fn reference(cases: usize, seed: u64) {
     let kept = check_all(cases, seed, |_| &Reference);
-    let sets: usize = (0..cases).map(|index| check_subsets(&generate::case(seed, index).1)).sum();
-    println!("{kept} kept cases, {cases} random ones, {sets} sets: the reference agrees with all subsets");
+    let sets: usize = (0..cases).map(|index| check_sets(&generate::case(seed, index).1)).sum();
+    let (mut random, buffers) = (Random(seed), BUFFERS * cases);
+    (0..buffers).for_each(|_| check_buffer(&mut random));
+    println!("{kept} kept cases, {cases} random ones, {sets} sets, {buffers} buffers in no table");
+    println!("the reference agrees with all subsets and with the matrix");
 }
 
 /// One case of a seed, printed and compared.
@@ -82,11 +90,19 @@ pub fn one(seed: u64, index: usize) {
     println!("{:?}", failure(&case, &Library { twice: true }));
 }
 
-/// The applied set against all subsets, after every event of a case at which few messages are pending. Answers how many
-/// sets were not empty.
-fn check_subsets(case: &Case) -> usize {
-    let Some(mut state) = first_state(case) else { return 0 };
+/// The applied set by all three ways, after every event of a case and every handover of its file. Answers how many sets
+/// were not empty.
+fn check_sets(case: &Case) -> usize {
+    let Some((mut state, mut rest)) = beginning(case) else { return 0 };
     let mut checked = 0;
+    while !rest.is_empty() {
+        let (before, (answer, left)) = (state.clone(), state.event(rest, &mut [0; SCRATCH]));
+        if answer.refusal == 0 && rest[1] == sets::HANDOVER {
+            check_applied(&before, pair((rest[2].into(), rest[3].into())), &answer, case);
+            checked += sets_of(&state, case);
+        }
+        rest = if answer.refusal == 0 { left } else { &[] };
+    }
     for call in &case.calls {
         match call {
             Call::Event { bytes, scratch } => _ = state.event(bytes, &mut vec![0; *scratch]),
@@ -98,26 +114,55 @@ fn check_subsets(case: &Case) -> usize {
             }
             Call::Look(_) | Call::CountBefore(_) | Call::Ask { .. } => continue,
         }
-        for c in state.controllers.iter().filter(|c| c.pending.len() <= subsets::MOST) {
-            let right = subsets::largest(state.n, &c.pending);
-            if right != reference::largest(state.n, &c.pending) {
-                println!("FAILED over all subsets: {:?}\n{}", c.pending, case.text());
-                exit(1);
-            }
-            checked += !right.is_empty() as usize;
-        }
+        checked += sets_of(&state, case);
     }
     checked
 }
 
-/// The state that a case begins with, unless it begins with a file or with no well-formed table.
-fn first_state(case: &Case) -> Option<State> {
-    let table = match &case.head {
-        Head::Table(t) => (**t).clone(),
-        Head::Fresh { version, n } => calls::fresh(*version, *n).table,
-        Head::File { .. } => return None,
+/// The set that a handover of a file applied.
+fn check_applied(before: &State, pair: Pair, answer: &reference::Answer, case: &Case) {
+    let set: Vec<(usize, usize)> = answer.set.iter().map(|x| (x.sender, x.number)).collect();
+    if let Err(text) = sets::law(&reference::to_table(before), pair, &set) {
+        println!("FAILED {text}\n{}", case.text());
+        exit(1);
+    }
+}
+
+/// How many controllers would apply a set at this moment. The set of each must be that of all three ways.
+fn sets_of(state: &State, case: &Case) -> usize {
+    let set = |c: &reference::Controller| match sets::agreed(state.n, &c.pending) {
+        Ok(set) => set,
+        Err(text) => {
+            println!("FAILED {text}: {:?}\n{}", c.pending, case.text());
+            exit(1);
+        }
     };
-    reference::well_formed(&table).then(|| reference::to_state(&table))
+    state.controllers.iter().filter(|c| !set(c).is_empty()).count()
+}
+
+/// A buffer in no table: the set of the reference is that of the two other ways.
+fn check_buffer(random: &mut Random) {
+    let (n, buffer) = generate::buffers::buffer(random);
+    let named = |(slot, marks): (&usize, &Marks)| (Name { sender: *slot, number: 1 }, *marks);
+    let pending = sets::pending(&buffer).iter().map(named).collect();
+    if let Err(text) = sets::agreed(n, &pending) {
+        println!("FAILED {text}: n = {n}, {pending:?}");
+        exit(1);
+    }
+}
+
+/// The state that a case begins with, and the records of its file, if it has one. A case may begin with no well-formed
+/// table.
+fn beginning(case: &Case) -> Option<(State, &[u8])> {
+    let (table, rest) = match &case.head {
+        Head::Table(t) => ((**t).clone(), &[][..]),
+        Head::Fresh { version, n } => (calls::fresh(*version, *n).table, &[][..]),
+        Head::File { bytes, .. } => match bytes[..] {
+            [version, n, ref records @ ..] => (calls::fresh(version.into(), n.into()).table, records),
+            _ => return None,
+        },
+    };
+    reference::well_formed(&table).then(|| (reference::to_state(&table), rest))
 }
 
 /// What the program prints for the file on standard input.

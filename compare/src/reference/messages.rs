@@ -8,7 +8,8 @@ pub const MAX_MESSAGES: usize = 64;
 /// The weight classes 1 to 4, and 0 for none.
 pub const CLASSES: usize = 5;
 pub const REGISTERS: usize = 8;
-pub const SCRATCH: usize = 4096;
+/// The scratch that a call needs: a byte for each message that can be pending.
+pub const SCRATCH: usize = MAX_MESSAGES;
 pub const LISTING: usize = 16_384;
 
 /// A message's name. Names are ordered as in answers and listings.

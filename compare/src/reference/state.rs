@@ -235,7 +235,7 @@ impl State {
     }
 }
 
-/// What an accepted event leaves in scratch.
+/// What an accepted call leaves in scratch: zeros as far as it asks for bytes, and the rest as it was.
 pub(super) fn clear(scratch: &mut [u8]) {
     scratch[..SCRATCH].fill(0);
 }

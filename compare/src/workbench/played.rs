@@ -27,7 +27,7 @@ impl Played<'_> {
 
 /// The run of a file.
 pub fn run_of(bytes: &[u8]) -> Run {
-    run_file(bytes, &mut vec![0; LISTING], &mut vec![0; SCRATCH])
+    run_file(bytes, &mut vec![0; LISTING], &mut [0; SCRATCH])
 }
 
 /// The bytes of the first records of a file.
