@@ -140,13 +140,16 @@ fn sets_of(state: &State, case: &Case) -> usize {
     state.controllers.iter().filter(|c| !set(c).is_empty()).count()
 }
 
-/// A buffer in no table: the set of the reference is that of the two other ways.
+/// A buffer in no table, with anything in the slots that are not held: the set of the reference is that of the two other
+/// ways.
 fn check_buffer(random: &mut Random) {
     let (n, buffer) = generate::buffers::buffer(random);
-    let named = |(slot, marks): (&usize, &Marks)| (Name { sender: *slot, number: 1 }, *marks);
-    let pending = sets::pending(&buffer).iter().map(named).collect();
-    if let Err(text) = sets::agreed(n, &pending) {
-        println!("FAILED {text}: n = {n}, {pending:?}");
+    let named = |(slot, marks): (usize, Marks)| (Name { sender: slot, number: 1 }, marks);
+    let pending = sets::pending(&buffer).into_iter().map(named).collect();
+    let slots: Vec<usize> = reference::largest(n, &pending).iter().map(|x| x.sender).collect();
+    let others = sets::by_both_ways(n, &buffer);
+    if others.as_ref() != Ok(&slots) {
+        println!("FAILED: the reference gives slots {slots:?}, the other ways {others:?}: n = {n}, {pending:?}");
         exit(1);
     }
 }

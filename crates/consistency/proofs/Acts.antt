@@ -9,7 +9,7 @@ use lib.Dec.{eqb}
 use borrow.Author.Tests.{eq-eqb, ne-eqb}
 use Rattle.lists.specs.Below.{tally, count, sum}
 use Rattle.lists.specs.Build.{tabulate, tabulateFrom}
-use Rattle.lists.proofs.Below.{sum-ext, sum-bound, sum-raised}
+use Rattle.lists.proofs.Below.{tally-plus, sum-ext, sum-bound, sum-raised}
 use Rattle.lists.proofs.Grow.{tabulate-suc}
 use Rattle.model.specs.Tables.{Among, at, messageIn}
 use Rattle.model.specs.Events.{subject}
@@ -25,7 +25,7 @@ use Rattle.consistency.specs.Courses.{Course}
 use Rattle.consistency.proofs.Recorded.{sentAt, Recorded}
 use Rattle.consistency.proofs.RecordedChanges.{put-case}
 use Rattle.consistency.proofs.Moments.{stepped, Takes, Moment, step-moment, moment-after}
-use Rattle.consistency.proofs.Places.{put-here, put-there, tally-one}
+use Rattle.consistency.proofs.Places.{put-here, put-there}
 
 -- BY THE LEDGER
 
@@ -42,11 +42,11 @@ unfolding sendsIn
 sends-more c [] x = refl
 sends-more c (y ∷ xs) x = rw (sends-more c xs x) (swap (eqb (y .name .sender) c) (eqb (x .name .sender) c))
   where
-    swap : (a b : Bool) → tally a (tally b (sendsIn c xs)) ≡ tally b (tally a (sendsIn c xs))
-    swap true true = refl
-    swap true false = refl
-    swap false true = refl
-    swap false false = refl
+    k : ℕ
+    k = sendsIn c xs
+
+    swap : (a b : Bool) → tally a (tally b k) ≡ tally b (tally a k)
+    swap a b = omega (arith, tally-plus a k, tally-plus b k, tally-plus a (tally b k), tally-plus b (tally a k))
 
 sends-tabulate : (c k : ℕ) (f : ℕ → Sent) → sendsIn c (tabulate k f) ≡ count k (λ s. eqb (f s .name .sender) c)
 unfolding sendsIn tabulate tabulateFrom count
@@ -86,7 +86,7 @@ module _ {n : ℕ} {t : Table} {l : Ledger} (p : Recorded n t l) (c : ℕ) (h : 
   unfolding moved Takes actsIn subject
   acts-moved (carried s (Send d y) ms) a =
       let m : Sent = record { name = name d (length (l .log d) + 1); date = dateFor l d s; payload = y; said = s } in
-      omega (arith, sends-more c (l .sent) m, tally-one (eqb d c) (sendsIn c (l .sent)))
+      omega (arith, sends-more c (l .sent) m, tally-plus (eqb d c) (sendsIn c (l .sent)))
   acts-moved (carried s (Handover r o) ms) a =
       let k = handover-allowed t r o (a .asked) in
       omega (arith, row-moved r o (rw (p .size) at (k .owner)))
@@ -104,7 +104,7 @@ steps-acts m (carried s e ms ∷ xs) u p c h = omega (
   arith,
   acts-moved (m .recorded) c h (carried s e ms) (p .0),
   steps-acts (step-moment m (carried s e ms) (p .0)) xs u (p .1) c h,
-  tally-one (eqb (subject e) c) (actsIn c xs),
+  tally-plus (eqb (subject e) c) (actsIn c xs),
 )
 
 -- from one table to another, and from the start

@@ -12,6 +12,7 @@ use lib.Seq.{length-take-le, getD-take}
 use lib.Dec.{eqb}
 use borrow.Author.Tests.{eq-eqb}
 use Rattle.lists.specs.Below.{tally}
+use Rattle.lists.proofs.Below.{tally-plus}
 use Rattle.lists.proofs.Tests.{refuted, contradiction, cond-case}
 use Rattle.model.specs.Tables.{Messages, Among, yes?, noName, at, message, messagesOf, messageIn, withController, withMessage, place, slotAt}
 use Rattle.model.specs.Delivery.{Slots, has as member}
@@ -37,7 +38,7 @@ use Rattle.consistency.proofs.Names.{same-self}
 use Rattle.consistency.proofs.SlotNames.{nameAt, slot-of, length-log, log-at}
 use Rattle.consistency.proofs.Recorded.{Recorded}
 use Rattle.consistency.proofs.Moments.{stepped, Takes, Moment, step-moment, moment-after}
-use Rattle.consistency.proofs.Places.{put-here, put-there, tally-one}
+use Rattle.consistency.proofs.Places.{put-here, put-there}
 
 -- THE ENTRY
 
@@ -164,7 +165,7 @@ others-leave : {n : ℕ} {s₀ : State} {t : Table} {l : Ledger} → Moment n s�
 unfolding Course actsIn stepped Takes
 others-leave m [] u c r h q = rw (← c) (record { same = refl; fewer = omega arith; messages = λ s k. refl })
 others-leave {n} {t = t} m (carried s e ms ∷ xs) u c r h q =
-    let z = tally-one (eqb (subject e) r) (actsIn r xs) in
+    let z = tally-plus (eqb (subject e) r) (actsIn r xs) in
     let b = others-leave (step-moment m (carried s e ms) (c .0)) xs u (c .1) r h (omega (arith, q, z)) in
     let f = m .recorded .formed in
     let g : Among (t .n) r = rw (m .recorded .size) h in

@@ -13,6 +13,7 @@ use lib.Seq.{take-length, take-append-seam, drop-append-seam}
 use lib.Dec.{leb}
 use borrow.Author.Tests.{ltb-false, leb-true}
 use Rattle.lists.specs.Below.{tally}
+use Rattle.lists.proofs.Below.{tally-plus}
 use Rattle.lists.proofs.Tests.{and-left, and-right, decided, refuted, both, contradiction}
 use Rattle.model.specs.Tables.{scratchSize, Among, at, place}
 use Rattle.model.specs.Records.{afterRecord}
@@ -70,14 +71,13 @@ all-read-out {n} {t} {l} k p room e r o on ho =
 
 -- CALLS THAT DO NOT SAY "NONE"
 
-tally-plus : (b : Bool) (x y : ℕ) → tally b (x + y) ≡ tally b x + y
-tally-plus true x y = omega arith
-tally-plus false x y = omega arith
+tally-sum : (b : Bool) (x y : ℕ) → tally b (x + y) ≡ tally b x + y
+tally-sum b x y = omega (arith, tally-plus b (x + y), tally-plus b x)
 
 not-none-append : (xs ys : List Dispatched) → notNone (xs ++ ys) ≡ notNone xs + notNone ys
 unfolding notNone
 not-none-append [] ys = omega arith
-not-none-append (a ∷ xs) ys = rw (not-none-append xs ys) (tally-plus (not (saysNone a)) (notNone xs) (notNone ys))
+not-none-append (a ∷ xs) ys = rw (not-none-append xs ys) (tally-sum (not (saysNone a)) (notNone xs) (notNone ys))
 
 answers-append : (n : ℕ) (xs ys : List Entry) → notNone (dispatchAnswers n (xs ++ ys)) ≡ notNone (dispatchAnswers n xs) + notNone (dispatchAnswers n ys)
 answers-append n xs ys = ap notNone (flatMap-append (answerIn n) xs ys) ∙ not-none-append (dispatchAnswers n xs) (dispatchAnswers n ys)
@@ -85,7 +85,7 @@ answers-append n xs ys = ap notNone (flatMap-append (answerIn n) xs ys) ∙ not-
 handovers-append : (xs ys : List Step) → handoverCount (xs ++ ys) ≡ handoverCount xs + handoverCount ys
 unfolding handoverCount
 handovers-append [] ys = omega arith
-handovers-append (carried s e ms ∷ xs) ys = rw (handovers-append xs ys) (tally-plus (isHandover e) (handoverCount xs) (handoverCount ys))
+handovers-append (carried s e ms ∷ xs) ys = rw (handovers-append xs ys) (tally-sum (isHandover e) (handoverCount xs) (handoverCount ys))
 
 -- a call that does not say "none" makes a handover
 asked-busy : (b : Bool) (a : Dispatched) (k : ℕ) → (b ≡ true → saysNone a ≡ false → 0 < k) → notNone (cond b (a ∷ []) [] ++ []) ≤ k

@@ -2,15 +2,15 @@
 -- So a list has no more handovers than positions can move. Assumes nothing.
 use mathlib.Core.Path.{_≡_, refl, ap, _∙_}
 use mathlib.Core.Logic.{_≢_, _⊎_, inl, inr}
-use mathlib.Core.Bool.{Bool, true, false, cond, true≢false}
+use mathlib.Core.Bool.{true, false, cond, true≢false}
 use mathlib.Core.List.{List, [], _∷_, _++_, foldl}
 use Prim.Native.Nat.{ℕ, zero, suc, _+_, _*_, _≤_, _<_}
 use native.Mathlib.Nat.{mul-le-mul}
 use native.Mathlib.Omega.{arith}
 use lib.ListN.{length, getD, length-append}
-use Rattle.lists.specs.Below.{tally, sum}
+use Rattle.lists.specs.Below.{sum}
 use Rattle.lists.proofs.Tests.{cond-case}
-use Rattle.lists.proofs.Below.{sum-bound, sum-raised}
+use Rattle.lists.proofs.Below.{tally-plus, sum-bound, sum-raised}
 use Rattle.model.specs.Tables.{seats, capacity, noName, Among}
 use Rattle.model.specs.declared.Name.{Name}
 use Rattle.model.specs.declared.Table.{Table}
@@ -31,10 +31,6 @@ put-here f x v = put-case (λ z. z ≡ v) f x v x (λ _. refl) (λ n. absurd (n 
 
 pub put-there : {A : Type 0} (f : ℕ → A) (x : ℕ) (v : A) (y : ℕ) → y ≢ x → put f x v y ≡ f y
 put-there f x v y n = put-case (λ z. z ≡ f y) f x v y (λ e. absurd (n e)) (λ _. refl)
-
-pub tally-one : (b : Bool) (k : ℕ) → tally b k ≡ tally b 0 + k
-tally-one true k = omega arith
-tally-one false k = omega arith
 
 -- A POSITION
 
@@ -150,7 +146,7 @@ steps-total m (carried s e ms ∷ xs) u p = omega (
   arith,
   moved-total (m .recorded) (carried s e ms) (p .0),
   steps-total (step-moment m (carried s e ms) (p .0)) xs u (p .1),
-  tally-one (isHandover e) (handoverCount xs),
+  tally-plus (isHandover e) (handoverCount xs),
 )
 
 -- from a moment on, no more handovers are accepted than this

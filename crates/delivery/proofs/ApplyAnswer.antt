@@ -1,4 +1,4 @@
--- What clearing leaves, and what `apply` answers and leaves. Assumes nothing.
+-- What clearing leaves, what `apply` answers and leaves, and that the matrix gives the same set. Assumes nothing.
 use mathlib.Core.Path.{_≡_, sym, _∙_}
 use mathlib.Core.Bool.{false}
 use mathlib.Core.List.{List}
@@ -57,7 +57,7 @@ pub applied-without-room : (n : ℕ) (P : List Pending) (s : List ℕ) → lengt
 unfolding applyAnswer applyScratch
 applied-without-room n P s l = record { set = rw (lt-leb scratchSize (length s) l); scratch = rw (lt-leb scratchSize (length s) l) }
 
--- THE 4,096-BYTE WAY, and every scratch area of 64 bytes: the same set, whatever the buffer
+-- THE MATRIX, which takes 4,096 bytes, and every scratch area of 64 bytes or more: the same set, whatever the buffer
 pub answers-agree : (n : ℕ) (P : List Pending) (s after : List ℕ) (answer : Slots) → scratchSize ≤ length s → Applied n P s answer after → answer ≡ byMatrix n P
 unfolding applyAnswer
 answers-agree n P s after answer l r = r .set ∙ rw (le-leb scratchSize (length s) l) (sym (matrix-agrees n P))

@@ -80,15 +80,16 @@ module _ (n : ℕ) (P : List Pending) where
   pub divided-start : (m : List ℕ) → Divided n P 0 m 0 0
   divided-start m = record { few = omega arith; candidates = λ t. times-none (front m) t ∙ rw (le-ltb t 0 (omega arith)); others = λ t. times-none (back m) t ∙ rw (le-ltb t 0 (omega arith)) }
 
-  module _ (e c o : ℕ) (m : List ℕ) (h : e < capacity) (l : scratchSize ≤ length m) (d : Divided n P e m c o) where
-    -- it is not in the buffer
-    pub divided-skip : inBuffer P e ≡ false → Divided n P (e + 1) m c o
-    divided-skip q = record {
-      few = omega (arith, d .few);
-      candidates = λ t. d .candidates t ∙ failed chosen e t (rw q);
-      others = λ t. d .others t ∙ failed unchosen e t (rw q);
-    }
+  -- it is not in the buffer
+  pub divided-skip : (e c o : ℕ) (m : List ℕ) → Divided n P e m c o → inBuffer P e ≡ false → Divided n P (e + 1) m c o
+  divided-skip e c o m d q = record {
+    few = omega (arith, d .few);
+    candidates = λ t. d .candidates t ∙ failed chosen e t (rw q);
+    others = λ t. d .others t ∙ failed unchosen e t (rw q);
+  }
 
+  module _ (e c o : ℕ) (m : List ℕ) (h : e < capacity) (l : scratchSize ≤ length m) (d : Divided n P e m c o) where
+    -- it is, and goes to the end of the candidates or of the others
     pub divided-candidate : inBuffer P e ≡ true → candidate n P e ≡ true → Divided n P (e + 1) (set m c e) (c + 1) o
     divided-candidate q f = record {
       few = omega (arith, d .few);

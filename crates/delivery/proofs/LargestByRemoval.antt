@@ -1,5 +1,5 @@
--- Line 16: what its loops keep, and why they end in the set applied. Every member left goes before every non-member taken so far, and
--- every closed set is contained in the members left. Assumes nothing.
+-- Line 16: what its loops keep, and why they end in the set applied: what is left at the end is closed, and contains every closed set.
+-- Assumes nothing.
 use mathlib.Core.Path.{_≡_, refl, sym, ap, ap₂, _∙_}
 use mathlib.Core.Logic.{_≢_}
 use mathlib.Core.Bool.{Bool, true, false, not, _&&_}
@@ -14,7 +14,7 @@ use lib.Seq.{getD-set-same, getD-set-other}
 use lib.Dec.{eqb, ltb}
 use Rattle.lists.specs.Below.{tally}
 use Rattle.lists.proofs.Tests.{and-left, and-right, contradiction, refuted}
-use Rattle.lists.proofs.Below.{Found}
+use Rattle.lists.proofs.Below.{Found, tally-plus}
 use Rattle.lists.proofs.Build.{length-tabulate, getD-tabulate}
 use Rattle.model.specs.Tables.{capacity, scratchSize, inBuffer}
 use Rattle.model.specs.Delivery.{Slots, has}
@@ -41,27 +41,21 @@ tally-parts true true false = refl
 tally-parts true false x = refl
 tally-parts false b x = refl
 
-tally-across : (b : Bool) (x y : ℕ) → x + tally b y ≡ tally b x + y
-tally-across true x y = omega arith
-tally-across false x y = refl
-
-tally-less : (b : Bool) (x : ℕ) → 0 < x → 0 < tally b x
-tally-less true x h = omega arith
-tally-less false x h = h
-
 module _ (n : ℕ) (P : List Pending) where
   abbrev IsClosed : Slots → Type 0
   IsClosed = Closed capacity (inBuffer P) (candidate n P) (precedes n P)
 
-  -- c members and o others, of which d are taken; the members at the first i places were held against the one that is taken next
+  -- c members and o others; d of the others are taken, and the members at the first i places were compared with the next of them
   pub record Removing (m : List ℕ) (c o d i : ℕ) : Type 0 where
     pub few : c + o ≤ capacity
-    pub taken : d ≤ o
-    pub place : i ≤ c
+    -- each slot in the buffer is named once
     pub once : (t : ℕ) → times (front m) c t + times (back m) o t ≡ tally (ltb t capacity && inBuffer P t) 0
+    -- the members are candidates
     pub fit : (t : ℕ) → 0 < times (front m) c t → candidate n P t ≡ true
+    -- every member left goes before every other that is taken so far
     pub before : (j k : ℕ) → j < c → k < d → precedes n P (front m j) (back m k) ≡ true
     pub here : (j : ℕ) → j < i → precedes n P (front m j) (back m d) ≡ true
+    -- every closed set is contained in the members left
     pub contains : (R : Slots) → IsClosed R → (t : ℕ) → t < capacity → has R t ≡ true → 0 < times (front m) c t
 
   -- THE START
@@ -69,8 +63,6 @@ module _ (n : ℕ) (P : List Pending) where
   pub removing-start : (m : List ℕ) (c o : ℕ) → Divided n P capacity m c o → Removing m c o 0 0
   removing-start m c o d = record {
     few = d .few;
-    taken = omega arith;
-    place = omega arith;
     once = λ t. ap₂ _+_ (d .candidates t) (d .others t) ∙ tally-parts (ltb t capacity) (inBuffer P t) (candidate n P t);
     fit = λ t h. and-right (inBuffer P t) _ (and-right (ltb t capacity) _ (tally-yes _ (rw (d .candidates t) at h)));
     before = λ j k h l. absurd (not-suc-le-zero l);
@@ -103,8 +95,6 @@ module _ (n : ℕ) (P : List Pending) where
     pub removing-pass : i < c → precedes n P (front m i) (back m d) ≡ true → Removing m c o d (i + 1)
     removing-pass h e = record {
       few = v .few;
-      taken = v .taken;
-      place = omega arith;
       once = v .once;
       fit = v .fit;
       before = v .before;
@@ -117,8 +107,6 @@ module _ (n : ℕ) (P : List Pending) where
     pub removing-take : d < o → c ≤ i → Removing m c o (d + 1) 0
     removing-take h l = record {
       few = v .few;
-      taken = omega arith;
-      place = omega arith;
       once = v .once;
       fit = v .fit;
       before = λ j k a b. elim (ℕ-discrete k d) [ yes p ↦ rw p (v .here j (omega arith)) | no q ↦ v .before j k a (omega arith) ];
@@ -171,13 +159,10 @@ module _ (n : ℕ) (P : List Pending) where
       pub removing-remove : precedes n P (front m i) (back m d) ≡ false → Removing removed (c - 1) (o + 1) d i
       removing-remove e = record {
         few = omega (arith, v .few);
-        taken = omega arith;
-        place = omega arith;
         once = λ t.
-            ap (λ y. times (front removed) (c - 1) t + y) (more t)
-            ∙ tally-across (eqb (front m i) t) (times (front removed) (c - 1) t) (times (back m) o t)
-            ∙ ap (λ y. y + times (back m) o t) (fewer t) ∙ v .once t;
-        fit = λ t a. v .fit t (rw (← fewer t) (tally-less (eqb (front m i) t) _ a));
+            let b = eqb (front m i) t in
+            omega (arith, more t, fewer t, v .once t, tally-plus b (times (front removed) (c - 1) t), tally-plus b (times (back m) o t));
+        fit = λ t a. v .fit t (omega (arith, fewer t, tally-plus (eqb (front m i) t) (times (front removed) (c - 1) t)));
         before = λ j k a b. rw (back-kept k (omega arith))
             (elim (ℕ-discrete j i) [
               | yes p ↦ rw (p, front-last (omega arith)) (v .before (c - 1) k (omega arith) b)

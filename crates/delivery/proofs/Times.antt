@@ -1,7 +1,7 @@
 -- How often a number stands among the first numbers of f, and what one of them does that gives its place to the last. Assumes nothing.
 use mathlib.Core.Path.{_≡_, refl, sym, ap, _∙_}
 use mathlib.Core.Logic.{_≢_}
-use mathlib.Core.Bool.{Bool, true, false}
+use mathlib.Core.Bool.{Bool}
 use Prim.Native.Nat.{ℕ, zero, suc, _+_, _≤_, _<_}
 use native.Mathlib.Numerals.{add-one}
 use native.Mathlib.Nat.{not-suc-le-zero}
@@ -10,7 +10,7 @@ use native.Mathlib.Omega.{arith}
 use borrow.Author.Tests.{eq-eqb}
 use lib.Dec.{eqb}
 use Rattle.lists.specs.Below.{tally, count}
-use Rattle.lists.proofs.Below.{Found, count-ext, count-pos, count-found}
+use Rattle.lists.proofs.Below.{Found, tally-plus, count-ext, count-pos, count-found}
 use Rattle.delivery.specs.Apply.{times}
 
 module _ (f : ℕ → ℕ) where
@@ -35,10 +35,7 @@ unfolding times
 times-ext f g k t e = count-ext k _ _ (λ j h. ap (λ x. eqb x t) (e j h))
 
 tally-swap : (a b : Bool) (x : ℕ) → tally a (tally b x) ≡ tally b (tally a x)
-tally-swap true true x = refl
-tally-swap true false x = refl
-tally-swap false true x = refl
-tally-swap false false x = refl
+tally-swap a b x = omega (arith, tally-plus a x, tally-plus b x, tally-plus a (tally b x), tally-plus b (tally a x))
 
 module _ (f g : ℕ → ℕ) (i t : ℕ) where
   -- where f and g differ at i alone

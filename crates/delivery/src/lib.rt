@@ -48,20 +48,20 @@ pub fn goes_before(n: usize, p: Pending, q: Pending) -> usize
     count
 }
 
-// How many slots the first 64 bytes of scratch name: candidates from byte 0 up, the others in the buffer from byte 63 down.
+// How many slots the first 64 bytes of scratch name: candidates from byte 0 up, the rest of the buffer from byte 63 down.
 struct Split {
     candidates: usize,
-    others: usize,
+    rest: usize,
 }
 
 // Line 15: each slot in the buffer goes to its end of the 64 bytes.
 fn divide(n: usize, pending: [Pending; Table::MESSAGES], scratch: &mut [u8]) -> Split
     requires { ⌜ scratchSize ≤ length (now scratch) ⌝ }
-    ensures { λ r. ⌜ Kept (now (scratch .entry)) (now (scratch .exit)) × Divided n pending capacity (now (scratch .exit)) (r .candidates) (r .others) ⌝ }
+    ensures { λ r. ⌜ Kept (now (scratch .entry)) (now (scratch .exit)) × Divided n pending capacity (now (scratch .exit)) (r .candidates) (r .rest) ⌝ }
 {
     let m = majority(n);
     let mut candidates: usize = 0;
-    let mut others: usize = 0;
+    let mut rest: usize = 0;
     for s in 0..Table::MESSAGES {
         let p = pending[s];
         if p.held == 0 {
@@ -72,31 +72,31 @@ fn divide(n: usize, pending: [Pending; Table::MESSAGES], scratch: &mut [u8]) -> 
             candidates += 1;
             continue;
         }
-        others += 1;
-        scratch[Table::MESSAGES - others] = s as u8;
+        rest += 1;
+        scratch[Table::MESSAGES - rest] = s as u8;
     }
-    Split { candidates, others }
+    Split { candidates, rest }
 }
 
-// Line 16: the slots outside the set are taken one after another, from byte 63 down, and each member is held against the one
-// taken. A member that does not go before it gives its place to the last member, and joins those outside. `taken` and `place`
-// say how far this has come, so that it goes on where it was left, and no two slots are compared twice.
+// Line 16: the others in the buffer are taken one after another, from byte 63 down, and each member is compared with the one taken.
+// A member that does not go before it is removed: it gives its place to the last member, and joins the others. `taken` and
+// `place` say how far this has come, so that it goes on where it was left, and no two slots are compared twice.
 fn settle(
     n: usize,
     pending: [Pending; Table::MESSAGES],
     candidates: usize,
-    others: usize,
+    rest: usize,
     scratch: &mut [u8],
 ) -> usize
-    requires { ⌜ (scratchSize ≤ length (now scratch)) × Divided n pending capacity (now scratch) candidates others ⌝ }
+    requires { ⌜ (scratchSize ≤ length (now scratch)) × Divided n pending capacity (now scratch) candidates rest ⌝ }
     ensures { λ r. ⌜ Kept (now (scratch .entry)) (now (scratch .exit)) × Settled n pending (now (scratch .exit)) r ⌝ }
 {
     let m = majority(n);
     let mut members = candidates;
-    let mut outside = others;
+    let mut others = rest;
     let mut taken: usize = 0;
     let mut place: usize = 0;
-    'again: while taken < outside {
+    'again: while taken < others {
         let q = pending[scratch[Table::MESSAGES - 1 - taken] as usize];
         while place < members {
             let s = scratch[place];
@@ -104,8 +104,8 @@ fn settle(
                 // The last member is read first: with 64 in the buffer, the removed one may go to its byte.
                 members -= 1;
                 scratch[place] = scratch[members];
-                outside += 1;
-                scratch[Table::MESSAGES - outside] = s;
+                others += 1;
+                scratch[Table::MESSAGES - others] = s;
                 continue 'again;
             }
             place += 1;
@@ -151,7 +151,7 @@ pub fn apply(
         return [false; Table::MESSAGES];
     }
     let start = divide(n, pending, scratch);
-    let count = settle(n, pending, start.candidates, start.others, scratch);
+    let count = settle(n, pending, start.candidates, start.rest, scratch);
     let members = set_of(count, scratch);
     clear(scratch);
     members

@@ -36,6 +36,11 @@ distinct-of n same f = all-of n _ (λ i h. all-of i _ (λ j l. ap not (f i j h l
 
 -- COUNT
 
+-- a tally is a sum, so that arithmetic can tell the rest
+pub tally-plus : (b : Bool) (k : ℕ) → tally b k ≡ tally b 0 + k
+tally-plus true k = omega arith
+tally-plus false k = omega arith
+
 tally-le : (a b : Bool) (x y : ℕ) → (a ≡ true → b ≡ true) → x ≤ y → tally a x ≤ tally b y
 tally-le true true x y f h = omega arith
 tally-le true false x y f h = absurd (false≢true (f refl))
@@ -71,17 +76,13 @@ tally-pos : (b : Bool) (x : ℕ) → b ≡ true → 0 < tally b x
 tally-pos true x e = omega arith
 tally-pos false x e = absurd (false≢true e)
 
-tally-ge : (b : Bool) (x : ℕ) → x ≤ tally b x
-tally-ge true x = omega arith
-tally-ge false x = omega arith
-
 -- a test that passes somewhere counts
 pub count-pos : (n : ℕ) (p : ℕ → Bool) (k : ℕ) → k < n → p k ≡ true → 0 < count n p
 unfolding count
 count-pos zero p k h = absurd (not-suc-le-zero h)
 count-pos (suc n) p k h =
     below-suc (λ j. p j ≡ true → 0 < tally (p n) (count n p)) n (tally-pos (p n) (count n p))
-    (λ j hj e. omega (arith, count-pos n p j hj e, tally-ge (p n) (count n p))) k h
+    (λ j hj e. omega (arith, count-pos n p j hj e, tally-plus (p n) (count n p))) k h
 
 -- a number below n that passes
 pub record Found (n : ℕ) (p : ℕ → Bool) : Type 0 where

@@ -1,5 +1,5 @@
 -- The set applied is closed, contains every closed set, and is the only set with both: for every table, well formed or not.
--- Line 16's own loop, which removes one message at a time in any order, ends in it too: `removals-end`. Assumes nothing.
+-- Line 16's own loop, which removes one message at a time in any order, ends in it too: `removals-largest`. Assumes nothing.
 use mathlib.Core.Path.{_≡_, refl, sym, _∙_}
 use mathlib.Core.Logic.{_≢_, _↔_}
 use mathlib.Core.Bool.{Bool, true, false, not, _&&_, _||_, true≢false, false≢true}
@@ -113,7 +113,7 @@ module _ (N : ℕ) (held fit : ℕ → Bool) (before : ℕ → ℕ → Bool) whe
 
   -- THE LOOP OF LINE 16
 
-  pub reached-size : {S : Slots} → Reached N held fit before S → length S ≡ N
+  reached-size : {S : Slots} → Reached N held fit before S → length S ≡ N
   reached-size candidates = length-tabulate N _
   reached-size (removal {S = S} s t hs ht m h q b r) = length-set S s false ∙ reached-size r
 
@@ -121,7 +121,7 @@ module _ (N : ℕ) (held fit : ℕ → Bool) (before : ℕ → ℕ → Bool) whe
   removed-other : (S : Slots) (s k : ℕ) → k ≢ s → has (set S s false) k ≡ has S k
   removed-other S s k d = getD-set-other S s k false false d
 
-  pub reached-fit : {S : Slots} → Reached N held fit before S → Fit S
+  reached-fit : {S : Slots} → Reached N held fit before S → Fit S
   reached-fit candidates s h m = sym (getD-tabulate N _ false s h) ∙ m
   reached-fit (removal {S = S} s t hs ht m h q b r) k l e = go (ℕ-discrete k s) (λ m′. reached-fit r k l m′)
     where
@@ -142,11 +142,6 @@ module _ (N : ℕ) (held fit : ℕ → Bool) (before : ℕ → ℕ → Bool) whe
       → ((s t : ℕ) → s < N → t < N → has S s ≡ true → held t ≡ true → has S t ≡ false → before s t ≡ true)
       → Largest N held fit before S
   removals-largest r f = record { size = reached-size r; closed = record { chosen = reached-fit r; first = f }; contains = reached-contains r }
-
-  pub removals-end : {S : Slots} → Reached N held fit before S
-      → ((s t : ℕ) → s < N → t < N → has S s ≡ true → held t ≡ true → has S t ≡ false → before s t ≡ true)
-      → S ≡ largest N held fit before
-  removals-end {S} r f = largest-unique S _ (removals-largest r f) largest-is
 
 -- THE SET THAT A CONTROLLER APPLIES
 

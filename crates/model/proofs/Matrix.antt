@@ -34,7 +34,7 @@ module _ (n : ℕ) (P : List Pending) where
       let row : (s * capacity + t) / capacity ≡ s = omega arith in
       let column : (s * capacity + t) % capacity ≡ t = omega arith in
       let flags : ℕ → ℕ = λ k. cond (precedes n P (k / capacity) (k % capacity)) 1 0 in
-      rw (getD-tabulate 4096 flags 0 (s * capacity + t) (omega arith), row, column)
+      rw (getD-tabulate (capacity * capacity) flags 0 (s * capacity + t) (omega arith), row, column)
       (told (precedes n P s t))
     where
       told : (b : Bool) → yes? (cond b 1 0) ≡ b

@@ -1,4 +1,4 @@
--- The set by a matrix in 4,096 bytes, as engines before this one worked it out. That it is the set applied, for every n and every buffer:
+-- The set by a matrix of 64 x 64 flags, which takes 4,096 bytes. That it is the set applied, for every n and every buffer:
 -- proofs/Matrix.antt, `matrix-agrees`.
 use Prim.Native.Nat.{ℕ, _+_, _*_, _/_, _%_}
 use mathlib.Core.Bool.{cond}
@@ -13,7 +13,7 @@ use Rattle.model.specs.declared.Pending.{Pending}
 module _ (n : ℕ) (P : List Pending) where
   -- a row for each slot s, with a flag for each slot t: whether s goes before t
   unfoldable pub matrix : List ℕ
-  matrix = tabulate 4096 (λ k. cond (precedes n P (k / capacity) (k % capacity)) 1 0)
+  matrix = tabulate (capacity * capacity) (λ k. cond (precedes n P (k / capacity) (k % capacity)) 1 0)
 
   -- the largest set, by the flags
   unfoldable pub byMatrix : Slots

@@ -7,6 +7,7 @@ use native.Mathlib.Omega.{arith}
 use borrow.Author.Tests.{lt-ltb, le-leb, lt-leb}
 use lib.Dec.{leb}
 use Rattle.model.specs.Tables.{capacity, inBuffer, entry}
+use Rattle.model.specs.Largest.{candidate}
 use Rattle.model.specs.declared.Pending.{Pending}
 use Rattle.delivery.specs.Apply.{Kept, Divided}
 use Rattle.delivery.proofs.Division.{kept-all, kept-set, divided-start, divided-skip, divided-candidate, divided-other}
@@ -15,11 +16,11 @@ use Rattle.delivery.proofs.divide.Statement.{statement}
 use Rattle.delivery.proofs.divide.Tie as tie
 
 abbrev Inv-loop : tie.InvT-loop
-Inv-loop n scratch₀ pending m candidates₀ others₀ s₀ scratch candidates others s =
-    (s ≤ capacity) × Kept scratch₀ scratch × Divided n pending s scratch candidates others
+Inv-loop n scratch₀ pending m candidates₀ rest₀ s₀ scratch candidates rest s =
+    (s ≤ capacity) × Kept scratch₀ scratch × Divided n pending s scratch candidates rest
 
 abbrev μ-loop : tie.MeasureT-loop
-μ-loop n scratch₀ pending m candidates₀ others₀ s₀ scratch candidates others s = capacity - s
+μ-loop n scratch₀ pending m candidates₀ rest₀ s₀ scratch candidates rest s = capacity - s
 
 -- PLACES: from after the read of an entry to the turn, and from after its count of marks to the read
 abbrev At-loop : Type 0
@@ -38,22 +39,33 @@ buffer t = t .before .before .before .args .t2
 in-buffer : (c : tie.Else1 Inv-loop μ-loop) → inBuffer (buffer (turn (c .before))) (turn (c .before) .loop .s) ≡ true
 in-buffer c = let t = turn (c .before) in lt-ltb 0 (entry (buffer t) (t .loop .s) .held) (omega (arith, c .if1 .left))
 
+-- the count of marks against the majority says whether it is a candidate
+counted : (c : tie.After-mark-count Inv-loop μ-loop) → let t = turn (read c) in
+    leb (t .before .majority .result) (c .mark-count .result) ≡ candidate (t .before .before .before .args .n) (buffer t) (t .loop .s)
+counted c = ap₂ leb (turn (read c) .before .majority .ensures) (c .mark-count .ensures)
+
 loop-again : tie.Need-loop-again Inv-loop μ-loop
 loop-again c =
     let t = turn (c .before) .loop .inv in
-    (search needs, t .1, divided-skip _ _ _ _ _ _ (omega arith) (omega (arith, t .1 .size)) (t .2) (rw (c .if1 .taken)))
+    (search needs, t .1, divided-skip _ _ _ _ _ _ (t .2) (rw (c .if1 .taken)))
 
 loop-again-2 : tie.Need-loop-again-2 Inv-loop μ-loop
 loop-again-2 c =
     let b = c .before in
-    let t = turn (read b) .loop .inv in
-    (search needs, kept-set _ _ _ _ (omega (arith, t .2 .few)) (t .1), divided-candidate _ _ _ _ _ _ (omega arith) (omega (arith, t .1 .size)) (t .2) (in-buffer (b .before)) (sym (ap₂ leb (turn (read b) .before .majority .ensures) (b .mark-count .ensures)) ∙ le-leb _ _ (c .if2 .taken)))
+    let t = turn (read b) .loop .inv in (
+      search needs,
+      kept-set _ _ _ _ (omega (arith, t .2 .few)) (t .1),
+      divided-candidate _ _ _ _ _ _ (omega arith) (omega (arith, t .1 .size)) (t .2) (in-buffer (b .before)) (sym (counted b) ∙ le-leb _ _ (c .if2 .taken)),
+    )
 
 loop-again-3 : tie.Need-loop-again-3 Inv-loop μ-loop
 loop-again-3 c =
     let b = c .before in
-    let t = turn (read b) .loop .inv in
-    (search needs, kept-set _ _ _ _ (omega arith) (t .1), divided-other _ _ _ _ _ _ (omega arith) (omega (arith, t .1 .size)) (t .2) (in-buffer (b .before)) (sym (ap₂ leb (turn (read b) .before .majority .ensures) (b .mark-count .ensures)) ∙ lt-leb _ _ (c .if2 .left)))
+    let t = turn (read b) .loop .inv in (
+      search needs,
+      kept-set _ _ _ _ (omega arith) (t .1),
+      divided-other _ _ _ _ _ _ (omega arith) (omega (arith, t .1 .size)) (t .2) (in-buffer (b .before)) (sym (counted b) ∙ lt-leb _ _ (c .if2 .left)),
+    )
 
 returns : tie.Need-returns Inv-loop μ-loop
 returns c = let e : c .before .loop .s ≡ capacity = omega arith in let t = c .before .loop .inv in (t .1, rw e at (t .2))

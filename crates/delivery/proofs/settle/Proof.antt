@@ -17,23 +17,23 @@ use borrow.Author.Needs.{needs}
 use Rattle.delivery.proofs.settle.Statement.{statement}
 use Rattle.delivery.proofs.settle.Tie as tie
 
--- while a non-member is held against the members, nothing moves but the place
+-- while the members are compared with the one taken, nothing moves but the place
 abbrev Inv-loop : tie.InvT-loop
-Inv-loop n candidates others scratch₀ pending m members₀ outside₀ taken place₀ q scratch members outside place =
-    (scratch ≡ scratch₀) × (members ≡ members₀) × (outside ≡ outside₀) × (q ≡ entry pending (back scratch taken)) × Removing n pending scratch members outside taken place
+Inv-loop n candidates rest scratch₀ pending m members₀ others₀ taken place₀ q scratch members others place =
+    (scratch ≡ scratch₀) × (members ≡ members₀) × (others ≡ others₀) × (q ≡ entry pending (back scratch taken)) × Removing n pending scratch members others taken place
 
 abbrev μ-loop : tie.MeasureT-loop
-μ-loop n candidates others scratch₀ pending m members₀ outside₀ taken place₀ q scratch members outside place = members - place
+μ-loop n candidates rest scratch₀ pending m members₀ others₀ taken place₀ q scratch members others place = members - place
 
 abbrev Inv-again : tie.InvT-again
-Inv-again n candidates others scratch₀ pending m members₀ outside₀ taken₀ place₀ scratch members outside taken place =
-    Kept scratch₀ scratch × Removing n pending scratch members outside taken place
+Inv-again n candidates rest scratch₀ pending m members₀ others₀ taken₀ place₀ scratch members others taken place =
+    Kept scratch₀ scratch × Removing n pending scratch members others taken place
 
 -- a removal takes one from the members and gives one to the others
 abbrev μ-again : tie.MeasureT-again
-μ-again n candidates others scratch₀ pending m members₀ outside₀ taken₀ place₀ scratch members outside taken place = 2 * members + (outside - taken)
+μ-again n candidates rest scratch₀ pending m members₀ others₀ taken₀ place₀ scratch members others taken place = 2 * members + (others - taken)
 
--- PLACES: the start, a non-member taken, a member held against it, and after the comparison
+-- PLACES: the start, one of the others taken, a member compared with it, and after the comparison
 abbrev Start : Type 0
 Start = tie.Start Inv-loop μ-loop Inv-again μ-again
 
