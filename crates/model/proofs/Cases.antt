@@ -343,11 +343,6 @@ table =
     case 3 worked (handover 3 1) 64 0 ([] ∷ [] ∷ [] ∷ (101 ∷ []) ∷ [] ∷ [] ∷ (101 ∷ []) ∷ (301 ∷ []) ∷ [] ∷ [] ∷ (101 ∷ 301 ∷ []) ∷ [])
     -- P: one message that is taken out forces another out; event 11 applies all three
     ∷ case 3 forced (handover 1 1) 64 0 (times 10 ([] ∷ []) ++ ((101 ∷ 201 ∷ 301 ∷ []) ∷ []))
-    -- P: 1.2 is taken out and forces 2.1 out: 1.2 stands in a later slot than 2.1, and in an earlier one; 1.1 is applied
-    ∷ case 3 (report 2 4 ∷ report 2 8 ∷ report 1 1 ∷ report 1 2 ∷ overtaken) (handover 2 3) 64 0 (times 13 ([] ∷ []) ++ ((101 ∷ []) ∷ []))
-    ∷ case 3 (report 1 1 ∷ report 1 2 ∷ report 2 4 ∷ report 2 8 ∷ overtaken) (handover 2 3) 64 0 (times 13 ([] ∷ []) ++ ((101 ∷ []) ∷ []))
-    -- P: a chain of three: 1.3 is taken out and forces 2.1 out, in a later slot, which forces 1.2 out, in an earlier one; 1.1 is applied
-    ∷ case 3 chained (handover 2 3) 64 0 (times 16 ([] ∷ []) ++ ((101 ∷ []) ∷ []))
     -- P: n = 4, two marks: not applied; three: applied
     ∷ quiet 4 (report 1 5 ∷ handover 1 1 ∷ handover 2 1 ∷ []) (handover 1 2) 64 0 4
     ∷ case 4 (report 1 5 ∷ handover 1 1 ∷ handover 2 1 ∷ handover 1 2 ∷ handover 3 1 ∷ []) (handover 1 3) 64 0 ([] ∷ [] ∷ [] ∷ [] ∷ [] ∷ (101 ∷ []) ∷ [])
@@ -356,15 +351,6 @@ table =
     ∷ counted 1 102 101 0
     -- P: a table in which a read position passes a log's end gives 4
     ∷ row astray 4 []
-    -- P: 63, 64 and 65 bytes of scratch: of each kind of record, and of a file
-    ∷ enough (edge 1 1 [] (report 1 1))
-    ∷ enough (edge 2 1 [] (classed 1 1 1))
-    ∷ enough (edge 1 1 [] (sync 1))
-    ∷ enough (edge 1 1 (report 1 1 ∷ []) (handover 1 1))
-    ∷ enough (edge 1 1 [] (stop 1 0))
-    ∷ enough (edge 1 1 [] (local 1))
-    ∷ enough (edge 1 1 (sync 1 ∷ handover 1 1 ∷ []) (write 1 1 5))
-    ∷ enough (fileEdge (1 ∷ 1 ∷ report 1 1))
     -- a report: 8 before 9 before 10; 7 and 12 stand below
     ∷ quiet 1 [] (report 2 361) 0 8 0
     ∷ quiet 2 (stop 1 0 ∷ []) (report 1 361) 0 9 1
@@ -605,6 +591,20 @@ table =
     -- P: the run with classes, its sets and what both panels show of each class
     ∷ shows 2 2 graded 1 gradedSets (both 42 2) (noSums ∷ both 30 0 ∷ noSums ∷ both 12 0 ∷ both 0 2 ∷ [])
     ∷ shows 2 2 graded 2 gradedSets (both 42 2) (noSums ∷ both 30 0 ∷ noSums ∷ both 12 0 ∷ both 0 2 ∷ [])
+    -- P: 1.2 is taken out and forces 2.1 out: 1.2 stands in a later slot than 2.1, and in an earlier one; 1.1 is applied
+    ∷ case 3 (report 2 4 ∷ report 2 8 ∷ report 1 1 ∷ report 1 2 ∷ overtaken) (handover 2 3) 64 0 (times 13 ([] ∷ []) ++ ((101 ∷ []) ∷ []))
+    ∷ case 3 (report 1 1 ∷ report 1 2 ∷ report 2 4 ∷ report 2 8 ∷ overtaken) (handover 2 3) 64 0 (times 13 ([] ∷ []) ++ ((101 ∷ []) ∷ []))
+    -- P: a chain of three: 1.3 is taken out and forces 2.1 out, in a later slot, which forces 1.2 out, in an earlier one; 1.1 is applied
+    ∷ case 3 chained (handover 2 3) 64 0 (times 16 ([] ∷ []) ++ ((101 ∷ []) ∷ []))
+    -- P: 63, 64 and 65 bytes of scratch: of each kind of record, and of a file
+    ∷ enough (edge 1 1 [] (report 1 1))
+    ∷ enough (edge 2 1 [] (classed 1 1 1))
+    ∷ enough (edge 1 1 [] (sync 1))
+    ∷ enough (edge 1 1 (report 1 1 ∷ []) (handover 1 1))
+    ∷ enough (edge 1 1 [] (stop 1 0))
+    ∷ enough (edge 1 1 [] (local 1))
+    ∷ enough (edge 1 1 (sync 1 ∷ handover 1 1 ∷ []) (write 1 1 5))
+    ∷ enough (fileEdge (1 ∷ 1 ∷ report 1 1))
     ∷ []
 
 results : List Row → List Given
