@@ -6,6 +6,7 @@ use crate::cases::{kept, Case, Head};
 use crate::checks::{demand3_failure, failure, smallest};
 use crate::engines::faults::{Faulty, ALL, ASLEEP};
 use crate::generate;
+use furnacejade::MESSAGES;
 use std::process::exit;
 use std::time::Duration;
 
@@ -18,8 +19,12 @@ pub fn find_all(by: &str, folder: Option<&String>, only: Option<&String>) {
         (format!("case {index} ({kind})"), case)
     });
     let mut kept = if by.is_empty() { kept::all() } else { vec![] };
-    // Short cases are quick, and find most faults.
-    kept.sort_by_key(|(_, case)| case.file_bytes().len() + case.calls.len());
+    // Short cases on small tables are quick, and find most faults.
+    let messages = |case: &Case| match &case.head {
+        Head::Table(t) => t.count.min(MESSAGES),
+        _ => 0,
+    };
+    kept.sort_by_key(|(_, case)| case.file_bytes().len() + case.calls.len() + 16 * messages(case));
     let most = if by == "demand3" { 400 } else { 3200 };
     let cases: Vec<(String, Case)> = kept.into_iter().chain(random).take(most).collect();
     // What is found must be the fault's doing: while all sleep, the copy is the reference.
