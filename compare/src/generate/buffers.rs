@@ -65,8 +65,8 @@ fn linked_places(random: &mut Random, known: &[usize], swaps: usize, size: usize
 }
 
 /// Marks by which each message goes before all those after it, but often not before the next one, so that a message that
-/// is taken out forces out the one before it. A majority of the controllers has marks, or a few more. Mostly the last
-/// message lacks so many that it is no candidate, or some of the last, or one among the others.
+/// is taken out forces out the one before it. A majority of the controllers has marks, or a few more. Some messages lack
+/// marks, and are no candidates: in most buffers the last one or the last few, in others one in the middle.
 fn linked_marks(random: &mut Random, n: usize, size: usize) -> Vec<Marks> {
     let majority = n / 2 + 1;
     let many = if random.one_in(3) { random.between(majority, n) } else { majority };
