@@ -1,6 +1,8 @@
 // Delivery books: what panels, of any maker, say that they applied, set by set. A book file is checked for its layout, and then for
 // what set-constrained delivery promises. A name has a code of its own, and at each panel a rank, the place of its set; so nothing
 // is searched for.
+#![tactic(auto)]
+
 ghost use Rattle.std.specs.Prelude.{◌≡◌, ◌&&◌, ◌+◌, ◌<◌, length, drop};
 ghost use Rattle.lists.specs.Every.{every};
 ghost use Rattle.model.specs.Tables.{seats, capacity};

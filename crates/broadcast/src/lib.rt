@@ -1,1 +1,2 @@
 // Theorems only: the abstract system of set-constrained delivery.
+#![tactic(auto)]

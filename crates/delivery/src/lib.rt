@@ -1,4 +1,6 @@
 // The delivery rule: which buffered messages a controller applies (lines 15 and 16 of Algorithm 1).
+#![tactic(auto)]
+
 ghost use Rattle.std.specs.Prelude.{◌≡◌, ◌≤◌, length};
 ghost use Rattle.model.specs.Tables.{capacity, scratch_size};
 ghost use Rattle.model.specs.Delivery.{majority, mark_count, goes_before};
@@ -46,7 +48,7 @@ pub fn goes_before(n: usize, p: Pending, q: Pending) -> usize
 }
 
 // How many slots the first 64 bytes of scratch name: candidates from byte 0 up, the rest of the buffer from byte 63 down.
-#[derive(Drop)]
+#[derive(Clone, Copy)]
 struct Split {
     candidates: usize,
     rest: usize,

@@ -1,4 +1,6 @@
 // The dispatcher, by value: it goes round all pairs of a receiver and a log owner, and carries out the next handover.
+#![tactic(auto)]
+
 ghost use Rattle.std.specs.Prelude.{◌≡◌, ◌≤◌};
 ghost use Rattle.model.specs.Tables.{seats, Among};
 ghost use Rattle.turns.specs.Dispatcher.{pair, following, next_pair};
@@ -66,7 +68,7 @@ fn next_pair(
 // THE CALL
 
 // What the questions give: the refusal number, and the pair to be served, 0 and 0 if there is none.
-#[derive(Drop)]
+#[derive(Clone, Copy)]
 struct Choice {
     refusal: u8,
     pair: Pair,
@@ -112,7 +114,7 @@ fn choose(
 
 // What the call answers, and the table that it leaves.
 #[repr(C)]
-#[derive(Drop)]
+#[derive(Clone, Copy)]
 pub struct Handed {
     pub answer: DispatchAnswer,
     pub table: Table,

@@ -1,5 +1,7 @@
 // What an accepted event does to a well-formed table: its answer, and the one controller that it changes. Each function is safe on
 // every table: an index is bounded where it is read. On a well-formed table no bound changes anything.
+#![tactic(auto)]
+
 ghost use Rattle.std.specs.Prelude.{◌≡◌, true, cond, ◌<◌};
 ghost use Rattle.model.specs.Tables.{seats, capacity, no_sums, unheld, first_of, messages_of, with_entry, with_mark, with_stop, Among};
 ghost use Rattle.model.specs.Registers.{date_of};
@@ -18,7 +20,7 @@ use model::{
 
 // The controllers that an event reads: its subject, and the one whose log a handover reads. An event of another kind has its
 // subject for both.
-#[derive(Drop)]
+#[derive(Clone, Copy)]
 pub struct Parties {
     pub subject: Controller,
     pub owner: Controller,
@@ -57,7 +59,7 @@ pub fn seat(controller: u8) -> usize
 }
 
 // The indices of the controllers that a record names. A local read has its controller for both.
-#[derive(Drop)]
+#[derive(Clone, Copy)]
 pub struct Places {
     pub subject: usize,
     pub owner: usize,
@@ -225,7 +227,7 @@ fn delivered(
 // THE EFFECT
 
 // What an event answers, and its subject afterwards.
-#[derive(Drop)]
+#[derive(Clone, Copy)]
 pub struct Effect {
     pub answer: Answer,
     pub controller: Controller,
@@ -394,7 +396,7 @@ fn sent_message(
 }
 
 // The messages, and how many they are.
-#[derive(Drop)]
+#[derive(Clone, Copy)]
 pub struct Sent {
     pub count: usize,
     pub messages: [Message; Table::MESSAGES],

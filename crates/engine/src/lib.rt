@@ -1,5 +1,7 @@
 // The calls that C and Rust make. Each hands what it is lent to the function that answers it and stores what comes back. Its
 // contract is an equation for its result and for all that it may write.
+#![tactic(auto)]
+
 ghost use Rattle.std.specs.Prelude.{◌≡◌};
 ghost use Rattle.model.specs.Calls.{look, count_before, fresh_table};
 ghost use Rattle.turns.specs.Dispatcher.{pair};

@@ -1,4 +1,6 @@
 // The file run: its records one after the other, each carried out, listed and stored in place, until the first refusal.
+#![tactic(auto)]
+
 ghost use Rattle.std.specs.Prelude.{◌≡◌, ◌+◌, ◌^◌, ◌≤◌, ◌<◌, take};
 ghost use Rattle.model.specs.Tables.{messages_of};
 ghost use Rattle.model.specs.Events.{subject, sums};
@@ -14,7 +16,7 @@ use model::{Command, Controller, Event, RunAnswer, Sums, Table, refusal};
 use records::Record;
 
 // How far a run has come: the refusal number, the events accepted and the bytes listed.
-#[derive(Drop)]
+#[derive(Clone, Copy)]
 struct Cursor {
     refusal: u8,
     events: usize,
@@ -46,7 +48,7 @@ fn answered(cursor: Cursor, table: Table) -> RunAnswer
 
 // How far it comes with a record; how many bytes it then has read, all of them where a refusal ends it; and the controller that
 // the record's event changed.
-#[derive(Drop)]
+#[derive(Clone, Copy)]
 struct Advance {
     cursor: Cursor,
     used: usize,
@@ -91,7 +93,7 @@ fn list_line(tail: &mut [u8], event: usize, e: Event, t: Table, done: Effect) ->
 }
 
 // The record that the bytes left begin with, and the indices of the controllers that it names.
-#[derive(Drop)]
+#[derive(Clone, Copy)]
 struct Ahead {
     found: Record,
     subject: usize,
@@ -220,7 +222,7 @@ fn run_records(head: Header, bytes: &[u8], listing: &mut [u8], scratch: &mut [u8
 }
 
 // The first two bytes of a file: its version, and the number of controllers.
-#[derive(Drop)]
+#[derive(Clone, Copy)]
 struct Header {
     version: usize,
     n: usize,

@@ -1,1 +1,2 @@
 // Theorems only: the layout of book files, their fixed cases, and their laws.
+#![tactic(auto)]

@@ -1,1 +1,2 @@
 // Every accepted event keeps a well-formed table well formed: theorems only.
+#![tactic(auto)]

@@ -1,5 +1,7 @@
 // The event call on a table that is lent: the table goes by value to the function that answers it. The answer that comes back is
 // stored, and then the table if bytes were used. A refused event uses none and leaves the table, so its table is not copied back.
+#![tactic(auto)]
+
 ghost use Rattle.lent.specs.Called.{Called};
 
 // One event, of the record with which the bytes begin. The result is the part of the caller's bytes that is unread.

@@ -1,4 +1,6 @@
 // The lines of a listing, each written into the tail of the listing after the line before.
+#![tactic(auto)]
+
 ghost use Rattle.std.specs.Prelude.{[], ◌∷◌, ◌++◌, ◌+◌, ◌≤◌, ◌<◌, length, take};
 ghost use Rattle.model.specs.Tables.{capacity};
 ghost use Rattle.model.specs.Runs.{decimal, sum_fields, name_fields, line, header, footer};
@@ -7,7 +9,7 @@ ghost use Rattle.listing.specs.Writing.{Wrote, Stored};
 use model::{Name, Sums, Table, refusal};
 
 // What a writer answers: the refusal number, 0 if the line fits, and the bytes written.
-#[derive(Drop)]
+#[derive(Clone, Copy)]
 pub struct Put {
     pub refusal: u8,
     pub written: usize,

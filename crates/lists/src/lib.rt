@@ -1,1 +1,2 @@
 // Lists and bounded counting: definitions in specs/, laws in proofs/. No code.
+#![tactic(auto)]

@@ -1,4 +1,6 @@
 // The calls that only read a table, by value: the panel look, and the count of "goes before".
+#![tactic(auto)]
+
 ghost use Rattle.std.specs.Prelude.{◌≡◌};
 ghost use Rattle.model.specs.Questions.{first_no, look_questions};
 ghost use Rattle.model.specs.Calls.{look, count_before};

@@ -12,4 +12,3 @@ pub mod Matrix
 pub mod Before
 pub mod Computed
 pub mod Cases
-pub mod Owned

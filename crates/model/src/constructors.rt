@@ -83,6 +83,7 @@ impl Payload {
         }
     }
 
+    #[tactic(auto, unfolding(crate::specs::Fair::fair_magnitude))]
     fn fair_magnitude(x: u16) -> bool
         ensures { result ≡ fair_magnitude x }
     {
@@ -90,6 +91,7 @@ impl Payload {
     }
 
     // A report adds or withdraws a fair amount, and not both; a sync and a write have none.
+    #[tactic(auto, unfolding(crate::specs::Fair::fair_amount))]
     pub fn fair_amount(p: Payload) -> bool
         ensures { result ≡ fair_amount p }
     {
@@ -101,6 +103,7 @@ impl Payload {
     }
 
     // A report of version 2 has one of the weight classes; every other message has none.
+    #[tactic(auto, unfolding(crate::specs::Fair::fair_class))]
     pub fn fair_class(version: usize, p: Payload) -> bool
         ensures { result ≡ fair_class version p }
     {
@@ -113,6 +116,7 @@ impl Payload {
     }
 
     // A write has one of the registers; every other message has none, and no value.
+    #[tactic(auto, unfolding(crate::specs::Fair::fair_register))]
     pub fn fair_register(p: Payload) -> bool
         ensures { result ≡ fair_register p }
     {
@@ -186,6 +190,7 @@ impl Table {
     pub const LONGEST_FILE: usize = 65535;
 
     // A table of a version in which nothing was sent, of n controllers with this flag, every mark being `mark`.
+    #[tactic(auto, unfolding(crate::specs::Tables::start, crate::specs::Tables::idle))]
     fn start(version: usize, n: usize, running: u8, mark: u8) -> Table
         ensures { result ≡ start version n running mark }
     {
@@ -225,6 +230,7 @@ impl Table {
     }
 
     // A table of a version, of n controllers, in which nothing was sent.
+    #[tactic(auto, unfolding(crate::specs::Tables::fresh))]
     pub fn fresh(version: usize, n: usize) -> Table
         ensures { result ≡ fresh version n }
     {
@@ -232,6 +238,7 @@ impl Table {
     }
 
     // The table with every field zero, which a refused request answers.
+    #[tactic(auto, unfolding(crate::specs::Tables::zero_table))]
     pub fn zero() -> Table
         ensures { result ≡ zero_table }
     {
@@ -239,6 +246,7 @@ impl Table {
     }
 
     // A version of run files.
+    #[tactic(auto, unfolding(crate::specs::Fair::known))]
     pub fn known(version: usize) -> bool
         ensures { result ≡ known version }
     {
@@ -246,6 +254,7 @@ impl Table {
     }
 
     // The table that a run begins with: fresh, or zero in every field where its file is refused.
+    #[tactic(auto, unfolding(crate::specs::Tables::fresh, crate::specs::Tables::zero_table))]
     pub fn opened(refusal: u8, version: usize, n: usize) -> Table
         ensures { result ≡ cond (eqb refusal 0) (fresh version n) zero_table }
     {

@@ -1,4 +1,6 @@
 // The table of all controllers, the events, and what the calls answer. The functions and other limits of these types: constructors.rt.
+#![tactic(auto)]
+
 mod constructors;
 pub mod refusal;
 
@@ -17,18 +19,18 @@ impl Panel {
 
 // A place in a log (the source's sn_g), 1 to 64; 255 is absent.
 #[repr(C)]
-#[derive(Drop)]
+#[derive(Clone, Copy)]
 pub struct ForwardNumber(pub u8);
 
 // The number that a sender gives its message (the source's sn), 1 to 64; 0 is none.
 #[repr(C)]
-#[derive(Drop)]
+#[derive(Clone, Copy)]
 pub struct MessageNumber(pub u8);
 
 // What a message says, as its record does: kind 1 is a report, 2 a sync and 6 a write; a report's weight class, 0 for none; the
 // amount is two magnitudes, at most one of them not 0; the register that a write sets, 0 for none, and the value.
 #[repr(C)]
-#[derive(Drop)]
+#[derive(Clone, Copy)]
 pub struct Payload {
     pub kind: u8,
     pub class: u8,
@@ -40,7 +42,7 @@ pub struct Payload {
 
 // A message that is scd-broadcast. Its index in the table is its slot. Its sender gives it a number and, if it is a write, a date.
 #[repr(C)]
-#[derive(Drop)]
+#[derive(Clone, Copy)]
 pub struct Message {
     pub sender: u8,
     pub number: MessageNumber,
@@ -50,7 +52,7 @@ pub struct Message {
 
 // The name of a message outside the table.
 #[repr(C)]
-#[derive(Drop)]
+#[derive(Clone, Copy)]
 pub struct Name {
     pub sender: u8,
     pub number: MessageNumber,
@@ -58,7 +60,7 @@ pub struct Name {
 
 // A buffered message: each controller's forward number for it. Flags are 0 for no and anything else for yes.
 #[repr(C)]
-#[derive(Drop)]
+#[derive(Clone, Copy)]
 pub struct Pending {
     pub held: u8,
     pub marks: [ForwardNumber; Table::CONTROLLERS],
@@ -66,7 +68,7 @@ pub struct Pending {
 
 // A process: what it has forwarded, read, buffered and scd-delivered. Logs hold slots; pending and applied go by slot.
 #[repr(C)]
-#[derive(Drop)]
+#[derive(Clone, Copy)]
 pub struct Controller {
     pub length: usize,
     pub log: [u8; Table::MESSAGES],
@@ -80,7 +82,7 @@ pub struct Controller {
 // The whole machine: the version that its records are read in, how many controllers and messages there are, the messages in
 // the order sent, the controllers. No field of a table, or of what stands in it, has padding before or after it.
 #[repr(C)]
-#[derive(Drop)]
+#[derive(Clone, Copy)]
 pub struct Table {
     pub version: usize,
     pub n: usize,
@@ -91,7 +93,7 @@ pub struct Table {
 
 // Two sums of amounts: of those above 0, and of those below 0 with the sign dropped.
 #[repr(C)]
-#[derive(Drop)]
+#[derive(Clone, Copy)]
 pub struct Sums {
     pub added: u32,
     pub withdrawn: u32,
@@ -99,7 +101,7 @@ pub struct Sums {
 
 // A stamp (the source's timestamp): the date of a write, and its writer. Dates decide before writers.
 #[repr(C)]
-#[derive(Drop)]
+#[derive(Clone, Copy)]
 pub struct Stamp {
     pub date: u16,
     pub writer: u16,
@@ -107,7 +109,7 @@ pub struct Stamp {
 
 // A register (set point): its value, and the stamp of the write that gave it. All is 0 until then.
 #[repr(C)]
-#[derive(Drop)]
+#[derive(Clone, Copy)]
 pub struct Register {
     pub value: u32,
     pub stamp: Stamp,
@@ -116,7 +118,7 @@ pub struct Register {
 // What a panel shows (the local counter and registers): the sums over what its controller has applied, those of each class, from 0
 // for none, and the registers, from 1.
 #[repr(C)]
-#[derive(Drop)]
+#[derive(Clone, Copy)]
 pub struct Panel {
     pub sums: Sums,
     pub classes: [Sums; Panel::CLASSES],
@@ -127,7 +129,7 @@ pub struct Panel {
 // set applied, and then its answer, the sums after the set; or the sums that a local read gives; how many messages are in
 // the set, and their names, zeros after them.
 #[repr(C)]
-#[derive(Drop)]
+#[derive(Clone, Copy)]
 pub struct Answer {
     pub refusal: u8,
     pub finished: u8,
@@ -138,7 +140,7 @@ pub struct Answer {
 
 // A handover by its numbers: the receiver, and the owner of the log that it reads.
 #[repr(C)]
-#[derive(Drop)]
+#[derive(Clone, Copy)]
 pub struct Pair {
     pub receiver: usize,
     pub owner: usize,
@@ -146,7 +148,7 @@ pub struct Pair {
 
 // What the dispatcher answers: the pair that it served, 0 and 0 if it served none, and what the event call answers of the handover.
 #[repr(C)]
-#[derive(Drop)]
+#[derive(Clone, Copy)]
 pub struct DispatchAnswer {
     pub pair: Pair,
     pub answer: Answer,
@@ -155,7 +157,7 @@ pub struct DispatchAnswer {
 // What an ask answers: the refusal number, 0 if accepted; how many acts of the receiver there were; how many messages are in the set
 // that the handover would apply, and their names, zeros after them.
 #[repr(C)]
-#[derive(Drop)]
+#[derive(Clone, Copy)]
 pub struct AskAnswer {
     pub refusal: u8,
     pub acts: usize,
@@ -165,7 +167,7 @@ pub struct AskAnswer {
 
 // What a request for a fresh table answers.
 #[repr(C)]
-#[derive(Drop)]
+#[derive(Clone, Copy)]
 pub struct FreshAnswer {
     pub refusal: u8,
     pub table: Table,
@@ -173,7 +175,7 @@ pub struct FreshAnswer {
 
 // What a panel look answers.
 #[repr(C)]
-#[derive(Drop)]
+#[derive(Clone, Copy)]
 pub struct LookAnswer {
     pub refusal: u8,
     pub panel: Panel,
@@ -181,7 +183,7 @@ pub struct LookAnswer {
 
 // What the count of "goes before" answers: how many controllers have a smaller forward number for the one message than for the other.
 #[repr(C)]
-#[derive(Drop)]
+#[derive(Clone, Copy)]
 pub struct CountAnswer {
     pub refusal: u8,
     pub count: usize,
@@ -189,7 +191,7 @@ pub struct CountAnswer {
 
 // What a file run answers: the refusal number, the events accepted, the listing bytes written and the last table.
 #[repr(C)]
-#[derive(Drop)]
+#[derive(Clone, Copy)]
 pub struct RunAnswer {
     pub refusal: u8,
     pub events: usize,
@@ -198,7 +200,7 @@ pub struct RunAnswer {
 }
 
 // The events of Algorithm 1: a message is broadcast, an entry of a log is fifo-delivered, a process crashes.
-#[derive(Drop)]
+#[derive(Clone, Copy)]
 pub enum Event {
     Send { sender: u8, payload: Payload },
     Handover { receiver: u8, owner: u8 },
@@ -206,7 +208,7 @@ pub enum Event {
 }
 
 // What a record asks for: an event of Algorithm 1, or a local read (Algorithm 5), which changes nothing.
-#[derive(Drop)]
+#[derive(Clone, Copy)]
 pub enum Command {
     Act(Event),
     Read(u8),

@@ -1,4 +1,6 @@
 // The lesser and the greater of two numbers, a flag as a number, and the number before a number.
+#![tactic(auto)]
+
 ghost use Rattle.std.specs.Prelude.{◌≡◌, cond, ◌-◌, min, max};
 
 pub fn at_most(x: usize, limit: usize) -> usize

@@ -1,5 +1,7 @@
 // Reads a run file on standard input and prints what each panel applied: the number of controllers, a line for each set,
 // and the events accepted with the refusal number.
+#![tactic(auto)]
+
 ghost use Rattle.std.specs.Prelude.{◌≡◌, length, take};
 ghost use Rattle.model.specs.Tables.{scratch_size};
 ghost use Rattle.panels.specs.Printed.{text_size, printed};

@@ -1,1 +1,2 @@
 // Theorems only: the definitions of ask and commit, their fixed cases, and their laws.
+#![tactic(auto)]

@@ -1,6 +1,8 @@
 // Questions 8 to 14 and 17 to 20, on every table. Past the last controller the definitions read zeros; no value of the
 // type has empty arrays, so each function that reads a controller answers that case by itself. A function that indexes an
 // array of the table copies it, so a caller hands over the controllers that it has at hand, and only a stop reads all.
+#![tactic(auto)]
+
 ghost use Rattle.std.specs.Prelude.{◌≡◌, not, ◌&&◌, ◌||◌, ◌≤◌, ◌<◌, eqb, leb, ltb, get_or};
 ghost use Rattle.lists.specs.Below.{all};
 ghost use Rattle.model.specs.Tables.{seats, capacity, report_kind, write_kind, no_controller, controller_in, first_of};

@@ -1,4 +1,6 @@
 // The record cutter and the decoder: what the bytes of a run file say, before any table is asked.
+#![tactic(auto)]
+
 ghost use Rattle.std.specs.Prelude.{◌≡◌, ◌+◌, ◌<◌, drop};
 ghost use Rattle.model.specs.Records.{byte, word, long, size_of, report_class, reported, decode};
 ghost use Rattle.model.specs.Questions.{first_no, kind_questions};
@@ -7,7 +9,7 @@ ghost use Rattle.records.specs.Cuts.{cut, found, has_kind, longest_record, recor
 use model::{Command, Event, Payload, Table, refusal};
 
 // The record at the head of the bytes is whole, and this many bytes follow its length byte; or it is not.
-#[derive(Drop)]
+#[derive(Clone, Copy)]
 enum Cut {
     Whole(usize),
     Short,
@@ -15,7 +17,7 @@ enum Cut {
 
 // A record that was read: the first no of questions 5 to 7, 0 if there is none; how many bytes it takes, 0 if refused; and
 // what it asks for.
-#[derive(Drop)]
+#[derive(Clone, Copy)]
 pub struct Record {
     pub refusal: u8,
     pub used: usize,

@@ -1,4 +1,6 @@
 // Ask and commit, by value: what a handover would apply, and that handover, made if its receiver has not acted since.
+#![tactic(auto)]
+
 ghost use Rattle.std.specs.Prelude.{◌≡◌, ◌≤◌};
 ghost use Rattle.model.specs.Tables.{seats, capacity, Among, first_of, messages_of};
 ghost use Rattle.model.specs.Questions.{first_no};
@@ -145,7 +147,7 @@ pub fn ask(t: Table, receiver: usize, owner: usize, scratch: &mut [u8]) -> AskAn
 
 // What the call answers, and the table that it leaves.
 #[repr(C)]
-#[derive(Drop)]
+#[derive(Clone, Copy)]
 pub struct Committed {
     pub answer: Answer,
     pub table: Table,

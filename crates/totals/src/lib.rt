@@ -1,5 +1,7 @@
 // What a panel shows, of all messages and of each class, and its registers; and whether a set holds a sync of a controller's own: on every
 // table, what no array holds being zero.
+#![tactic(auto)]
+
 ghost use Rattle.std.specs.Prelude.{◌≡◌};
 ghost use Rattle.lists.specs.Build.{tabulate};
 ghost use Rattle.model.specs.Tables.{class_count, first_of};

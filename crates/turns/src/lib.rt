@@ -1,1 +1,2 @@
 // Theorems only: the dispatcher's definitions, its fixed cases, and its laws.
+#![tactic(auto)]

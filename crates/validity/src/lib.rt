@@ -1,5 +1,7 @@
 // Question 4: whether a table is well formed. What a clause asks of every message, log entry or slot is read in one pass
 // into flags, so that no clause searches; a name, a stamp, a log entry and a sender each have a flag or a number of their own.
+#![tactic(auto)]
+
 ghost use Rattle.std.specs.Prelude.{◌≡◌, ◌&&◌, cond, suc, ◌+◌, ◌≤◌, get_or, eqb, leb};
 ghost use Rattle.lists.specs.Below.{all, distinct};
 ghost use Rattle.lists.specs.Build.{tabulate};
@@ -101,7 +103,7 @@ fn each_write(count: usize, messages: [Message; Table::MESSAGES]) -> bool
 
 // Whether no two writes have the same stamp; for each slot the sender of its write, 0 where there is none; and where the slots with a
 // write end.
-#[derive(Drop)]
+#[derive(Clone, Copy)]
 struct WritesRead {
     good: bool,
     end: usize,
@@ -160,7 +162,7 @@ fn own_kept(
 // LOGS
 
 // Whether the entries of a log are good, and then which slots are logged.
-#[derive(Drop)]
+#[derive(Clone, Copy)]
 struct LogRead {
     good: bool,
     logged: [bool; Table::MESSAGES],
@@ -249,7 +251,7 @@ fn good_entry(n: usize, allowed: &[bool; BYTES], p: Pending) -> bool
 }
 
 // Whether the entries of a buffer are good, and which slots are in it.
-#[derive(Drop)]
+#[derive(Clone, Copy)]
 struct BufferRead {
     good: bool,
     held: [bool; Table::MESSAGES],
