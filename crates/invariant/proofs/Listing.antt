@@ -235,6 +235,7 @@ listing_fits s room space q h =
 -- a record has at least three bytes, its length byte counted
 size_least : (v k : ℕ) → 0 < k → k ≤ 6 → 2 ≤ size_of v k
 unfolding size_of all
+size_least v zero l h = elim l [ ]
 size_least v (suc k) l h = cond_case (λ n. 2 ≤ get_or (n ∷ 2 ∷ 3 ∷ 4 ∷ 2 ∷ 7 ∷ []) k 0) (eqb v 2) 5 4 (λ _. each 5 refl) (λ _. each 4 refl)
   where
     each : (n : ℕ) → all 6 (λ j. leb 2 (get_or (n ∷ 2 ∷ 3 ∷ 4 ∷ 2 ∷ 7 ∷ []) j 0)) ≡ true → 2 ≤ get_or (n ∷ 2 ∷ 3 ∷ 4 ∷ 2 ∷ 7 ∷ []) k 0

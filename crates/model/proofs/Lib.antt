@@ -12,3 +12,4 @@ pub mod Matrix
 pub mod Before
 pub mod Computed
 pub mod Cases
+pub mod Owned
