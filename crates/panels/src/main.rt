@@ -2,11 +2,13 @@
 // and the events accepted with the refusal number.
 #![tactic(auto)]
 
-ghost use Rattle.std.specs.Prelude.{◌≡◌, length, take};
+ghost use Rattle.std.specs.Prelude.{◌≡◌, ◌≤◌, length, take, IfOk};
 ghost use Rattle.model.specs.Tables.{scratch_size};
 ghost use Rattle.panels.specs.Printed.{text_size, printed};
 
 use model::{Table, refusal};
+use std::io;
+use std::io::{ErrorKind, Read, Write};
 
 // The bytes that stand first, all of them where there are fewer.
 fn first(bytes: &[u8], size: usize) -> &[u8]
@@ -47,11 +49,37 @@ fn report(file: &[u8], text: &mut [u8], scratch: &mut [u8]) -> usize
     end + tail.written
 }
 
-fn main() {
-    let mut input = io::large_buffer();
-    let size = io::read_full(0, &mut input);
+// Reads until the buffer is full or the input ends, and answers how many bytes stand in the buffer then. A read that was interrupted
+// is made again.
+fn read_full<R: Read>(input: &mut R, buffer: &mut [u8]) -> io::Result<usize>
+    ensures { IfOk result (λ n. n ≤ length buffer.new) }
+{
+    let mut done = 0;
+    for _ in 0..u64::MAX {
+        if done == buffer.len() {
+            break;
+        }
+        match input.read(&mut buffer[done..]) {
+            Ok(0) => break,
+            Ok(n) => done += n,
+            Err(e) => {
+                if e.kind() != ErrorKind::Interrupted {
+                    return Err(e);
+                }
+            }
+        }
+    }
+    Ok(done)
+}
+
+// One byte more than the longest file has, so that a longer one is seen to be too long.
+const INPUT: usize = Table::LONGEST_FILE + 1;
+
+fn main(rt: HostRuntime) -> io::Result<()> {
+    let mut input = [0u8; INPUT];
+    let size = read_full(&mut rt.reader(), &mut input)?;
     let mut text = [0u8; TEXT];
     let mut scratch = [0u8; Table::SCRATCH];
     let written = report(&input[..size], &mut text, &mut scratch);
-    io::write_all(1, first(&text, written));
+    io::writer(&rt).write_all(first(&text, written))
 }
