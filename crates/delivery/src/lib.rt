@@ -10,6 +10,7 @@ ghost use Rattle.delivery.specs.Apply.{Applied, Kept, Divided, Listed, Settled, 
 use model::{ForwardNumber, Pending, Table};
 
 // More than half of n controllers.
+#[tactic(auto, unfolding(model::specs::Delivery::majority))]
 fn majority(n: usize) -> usize
     ensures { result ≡ majority n }
 {
