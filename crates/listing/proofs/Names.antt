@@ -11,7 +11,6 @@ use mir.Val.{Val}
 use denote.Shadow.{shadow}
 use denote.Laws.{Is}
 use denote.Array.{Array, each}
-use denote.Struct.Declared.{row}
 use Rattle.lists.specs.Every.{Every}
 use Rattle.model.specs.Runs.{decimal, name_fields}
 use Rattle.model.specs.Tables.{capacity, no_name}
@@ -61,7 +60,7 @@ pub record NameArray (names : List Name) : Type 0 where
   -- its numbers are bytes
   pub small : Every (SmallName 2 2) names
 
-each_small : (ms : List Name) (us : List Val) → shadow (each Name (row name.the_type).own ms us) → Every (SmallName 2 2) ms
+each_small : (ms : List Name) (us : List Val) → shadow (each Name name.the_row.own_val ms us) → Every (SmallName 2 2) ms
 unfolding Every
 each_small [] us e = tt
 each_small (m ∷ ms) [] e = absurd e
@@ -69,5 +68,5 @@ each_small (m ∷ ms) (u ∷ us) e =
     let fields = e.0.1.1 in
     (record { sender = omega (arith, fields.0.1); number = omega (arith, fields.1.0.1.1.0.1) }, each_small ms us e.1)
 
-pub name_array : (names : List Name) (vs : List Val) → Is (Array (row name.the_type) capacity) names vs → NameArray names
+pub name_array : (names : List Name) (vs : List Val) → Is (Array name.the_row capacity) names vs → NameArray names
 name_array names vs owned = record { size = owned.1.0.1; small = each_small names owned.0 owned.1.1 }

@@ -27,6 +27,7 @@ const NEWLINE: u8 = 10;
 const LINE: usize = 47 + 8 * Table::MESSAGES;
 
 // Stores a byte.
+#[tactic(auto, unfolding(crate::specs::Writing::stored))]
 fn put_byte(buffer: &mut [u8], at: usize, b: u8) -> usize
     requires { at < length buffer.old }
     ensures { Stored (b ∷ []) buffer.old at buffer.new result }

@@ -14,6 +14,7 @@ use model::{Message, Panel, Payload, Register, Stamp, Sums, Table};
 // WHAT A PANEL SHOWS
 
 // The parts of a message's amount, where the flag says that it counts.
+#[tactic(auto, unfolding(crate::specs::Shown::parts_of))]
 fn parts_of(flag: u8, p: Payload) -> Sums
     ensures { (result ≡ parts_of flag p) × AtMost largest_amount result }
 {
@@ -74,6 +75,7 @@ fn classes(
 }
 
 // Whether a stamp exceeds another: dates decide before writers.
+#[tactic(auto, unfolding(model::specs::Registers::exceeds))]
 fn exceeds(a: Stamp, b: Stamp) -> bool
     ensures { result ≡ exceeds a b }
 {
@@ -81,6 +83,7 @@ fn exceeds(a: Stamp, b: Stamp) -> bool
 }
 
 // What is written, if its stamp exceeds that of what is held.
+#[tactic(auto, unfolding(model::specs::Registers::wins))]
 fn wins(w: Register, y: Register) -> Register
     ensures { result ≡ wins w y }
 {
@@ -106,6 +109,7 @@ fn written(m: Message) -> Register
 }
 
 // The index of the register that a message writes, where the flag says that it counts; past the last if none.
+#[tactic(auto, unfolding(crate::specs::Shown::index_of))]
 fn register_index(flag: u8, p: Payload) -> usize
     ensures { result ≡ index_of flag p }
 {
@@ -139,6 +143,7 @@ pub fn registers(
 }
 
 // The panel of a controller that has applied what is flagged, of the first messages.
+#[tactic(auto, unfolding(model::specs::Events::shown))]
 pub fn shown(
     count: usize,
     messages: [Message; Table::MESSAGES],
