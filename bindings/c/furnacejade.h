@@ -1,4 +1,4 @@
-/* The calls of the engine, for C and C++ on x86-64 Linux. Link target/staticlib/libengine.a, which `rt staticlib engine`
+/* The calls of the engine, for C and C++ on x86-64 Linux. Link target/staticlib/libengine.a, which `tools/build engine`
  * builds. What each call answers and leaves is the definition that its contract in crates/engine/src/lib.rt names, for
  * every value of its arguments; docs/RULES.md says the same in words.
  *

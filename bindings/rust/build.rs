@@ -1,4 +1,4 @@
-//! Links libengine.a, which `rt staticlib engine` writes. `ENGINE_LIB` names another folder that holds it.
+//! Links libengine.a, which `tools/build engine` writes. `ENGINE_LIB` names another folder that holds it.
 
 use std::path::Path;
 
@@ -13,11 +13,11 @@ fn main() {
     if !Path::new(&archive).exists() {
         let tried = std::path::absolute(&archive).unwrap_or_else(|_| archive.clone().into());
         println!(
-            "cargo::warning={} is missing, and no program can be linked without it. Run `rt staticlib engine` in the \
+            "cargo::warning={} is missing, and no program can be linked without it. Run `tools/build engine` in the \
              repository, or set ENGINE_LIB to the full path of the folder that holds libengine.a.",
             tried.display()
         );
-        library = "engine, which rt staticlib engine writes";
+        library = "engine, which tools/build engine writes";
     }
     println!("cargo::rerun-if-changed={archive}");
     println!("cargo::rustc-link-search=native={folder}");

@@ -227,7 +227,7 @@ fn check_library() -> Result<(), Failed> {
         INTERFACE => Ok(()),
         other => Err(format!(
             "workbench: the library was built with interface {other}, and this program needs {INTERFACE}; \
-             run `rt staticlib engine`, and build the workbench again\n"
+             run `tools/build engine`, and build the workbench again\n"
         )),
     }
 }
