@@ -1,6 +1,6 @@
 -- `put_number` stores a number in decimal: a number below ten is its one digit, and any other has its last digit after the digits of a
 -- tenth of it.
-use Rattle.std.proofs.Common.{◌≡◌, ◌+◌, ◌/◌, ◌%◌, [], ◌∷◌, ◌++◌, length, length-append, arith, sym, ap, ◌∙◌}
+use Rattle.std.proofs.Common.{◌≡◌, ◌+◌, ◌/◌, ◌%◌, [], ◌∷◌, length, length-append, arith, sym, ap, ◌∙◌}
 use Rattle.model.specs.Runs.{decimal}
 use Rattle.model.proofs.Decimals.{decimal_one, decimal_more}
 use Rattle.listing.proofs.Storing.{stored_same, stored_then}
@@ -16,14 +16,14 @@ pub put_number-next-requires : goal.put_number-next-requires
 put_number-next-requires t c =
     let x = c.args.x in
     let last : length (decimal x) ≡ length (decimal (x / 10)) + 1 =
-        ap length (decimal_more x c.if-x-lt10.false) ∙ length-append (decimal (x / 10)) ((48 + x % 10) ∷ []) in
+    ap length (decimal_more x c.if-x-lt10.false) ∙ length-append (decimal (x / 10)) ((48 + x % 10) ∷ []) in
     (omega arith, omega arith)
 
 pub put_byte-requires-2 : goal.put_byte-requires-2
 put_byte-requires-2 t c =
     let x = c.args.x in
     let last : length (decimal x) ≡ length (decimal (x / 10)) + 1 =
-        ap length (decimal_more x c.if-x-lt10.false) ∙ length-append (decimal (x / 10)) ((48 + x % 10) ∷ []) in
+    ap length (decimal_more x c.if-x-lt10.false) ∙ length-append (decimal (x / 10)) ((48 + x % 10) ∷ []) in
     omega arith
 
 pub returns : goal.returns

@@ -25,7 +25,7 @@ pub returns : goal.returns
 returns c =
     let owned : NameArray c.args.names = name_array c.args.names _ c.well_formed.1.1.1.1.0 in
     let fits : length (line c.args.event c.args.controller c.args.sums (take c.at_most-count.result c.args.names)) ≤ 47 + 8 * capacity =
-        line_room c.args.event c.args.controller c.args.sums c.args.names _ c.args.size owned c.at_most-count.ensures (omega arith) (omega arith) (omega arith) (omega arith) in
+    line_room c.args.event c.args.controller c.args.sums c.args.names _ c.args.size owned c.at_most-count.ensures (omega arith) (omega arith) (omega arith) (omega arith) in
     ended-written (omega (arith, length-parts c.args.event c.args.controller c.args.sums (take c.at_most-count.result c.args.names))) c.store_line-end.ensures
     (clipped_parts c.args.event c.args.controller c.args.sums c.args.names _ c.args.size owned c.at_most-count.ensures)
     c.end_line.ensures

@@ -1,6 +1,6 @@
 -- `put_text` stores a text at the front: before the loop nothing is stored, a turn stores one byte more, and at the end all are.
 use Rattle.std.proofs.Common.{arith}
-use Rattle.listing.proofs.Storing.{stored-none, stored_text, stored_end, stored-length}
+use Rattle.listing.proofs.Storing.{stored-none, stored_text, stored_end}
 use Rattle.listing.proofs.put_text.Goals as goal
 
 pub loop-i-init : goal.loop-i-init

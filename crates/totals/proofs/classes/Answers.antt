@@ -17,7 +17,7 @@ pub loop-s-preserved : goal.loop-s-preserved
 loop-s-preserved c =
     let room : (length c.loop-s.sums ≡ class_count) × EachAtMost largest_sum c.loop-s.sums = each_room _ _ c.loop-s.s _ (omega arith) c.loop-s.invariant in
     each_more _ _ _ _ _ _ c.loop-s.invariant c.parts_of-more.ensures.0 c.parts_of-more.ensures.1
-        (rw c.plus.ensures (amount_stored _ _ _ room.0 (omega arith)))
+    (rw c.plus.ensures (amount_stored _ _ _ room.0 (omega arith)))
 
 pub returns : goal.returns
 returns c = each_all _ _ _ c.loop-s.s _ (omega arith) (omega arith) c.loop-s.invariant

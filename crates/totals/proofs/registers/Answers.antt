@@ -16,7 +16,7 @@ pub loop-s-preserved : goal.loop-s-preserved
 loop-s-preserved c =
     let eight : length c.loop-s.registers ≡ register_count = registers-length _ _ c.loop-s.s _ c.loop-s.invariant in
     registers_more _ _ _ _ _ c.loop-s.invariant
-        (rw (c.wins.ensures, c.written.ensures, ← c.register_index-i.ensures) (write-stored _ _ _ eight (omega arith)))
+    (rw (c.wins.ensures, c.written.ensures, ← c.register_index-i.ensures) (write-stored _ _ _ eight (omega arith)))
 
 pub returns : goal.returns
 returns c = registers-all _ _ _ c.loop-s.s _ (omega arith) (omega arith) c.loop-s.invariant
