@@ -1,6 +1,6 @@
 -- `good_places` compares read positions with the lengths of the logs, one in each turn.
-use Rattle.std.proofs.Common.{refl, arith}
-use Rattle.lists.proofs.Loops.{all_start, all_turn, all_end}
+use Rattle.std.proofs.Common.{refl}
+use Rattle.lists.proofs.Loops.{all_start, all_turn}
 use Rattle.validity.proofs.good_places.Goals as goal
 
 pub loop-o-init : goal.loop-o-init
@@ -8,6 +8,3 @@ loop-o-init c = all_start _
 
 pub loop-o-preserved : goal.loop-o-preserved
 loop-o-preserved c = all_turn _ _ _ _ c.loop-o.invariant refl
-
-pub returns : goal.returns
-returns c = all_end _ _ _ _ (omega arith) c.loop-o.invariant
