@@ -18,6 +18,7 @@ use model::{
 // MESSAGES
 
 // A write has a date from 1 to the count of messages; every other message has none.
+#[tactic(auto, unfolding(model::specs::Fair::fair_date))]
 fn fair_date(count: usize, m: Message) -> bool
     ensures { result ≡ fair_date count m }
 {
@@ -29,6 +30,7 @@ fn fair_date(count: usize, m: Message) -> bool
     date == 0
 }
 
+#[tactic(auto, unfolding(model::specs::Fair::named, model::specs::Fair::fair_date, model::specs::WellFormed::good_message))]
 fn good_message(version: usize, n: usize, count: usize, m: Message) -> bool
     ensures { result ≡ good_message version n count m }
 {
@@ -225,6 +227,7 @@ fn allowed_marks() -> [bool; BYTES]
     allowed
 }
 
+#[tactic(auto, using(crate::proofs::AllowedMarks::allowed_read))]
 fn good_mark(allowed: &[bool; BYTES], k: u8) -> bool
     requires { allowed.now ≡ allowed_marks }
     ensures { result ≡ good_mark k }
@@ -234,6 +237,7 @@ fn good_mark(allowed: &[bool; BYTES], k: u8) -> bool
 }
 
 // The marks of a message that is not in the buffer are not read.
+#[tactic(auto, unfolding(crate::specs::Flags::good_entry))]
 fn good_entry(n: usize, allowed: &[bool; BYTES], p: Pending) -> bool
     requires { (n ≤ seats) × (allowed.now ≡ allowed_marks) }
     ensures { result ≡ good_entry n p }
@@ -273,6 +277,7 @@ fn read_buffer(n: usize, allowed: &[bool; BYTES], pending: [Pending; Table::MESS
 
 // A slot is pending or applied and not both, only if it is of the run, and of a running controller's slots exactly those
 // that are logged.
+#[tactic(auto, unfolding(crate::specs::Flags::good_slot))]
 fn good_slot(inside: bool, running: bool, held: bool, done: bool, logged: bool) -> bool
     ensures { result ≡ good_slot inside running held done logged }
 {
