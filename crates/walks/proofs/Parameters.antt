@@ -10,7 +10,7 @@ use denote.RattleType.{RattleType, Denots, Valss}
 use denote.Memory.{pointee}
 use denote.Plain.{UInt}
 use denote.Builtin.{u8}
-use denote.Slice.{MutSlice, ShrSlice, slice_ty, shr_slice_vals}
+use denote.Slice.{MutSlice, ShrSlice, slice_ty, shr_slice_vals, mut_slice_vals}
 use denote.Struct.Struct.{Plains, layout}
 use denote.Struct.Declared.{Declared, fields, row, shape}
 use denote.Struct.Laws as LL
@@ -223,4 +223,4 @@ module _ {n m : ℕ} where
     inner_vals (passed w ∷ xs) a = (vint w a.0 ∷ [], inner_vals xs a.1)
     inner_vals (copied ℓ S ∷ xs) a = (LL.vals S.decl S.laws a.0, inner_vals xs a.1)
     inner_vals (shared ℓ i w ∷ xs) a = (shr_slice_vals a.0, inner_vals xs a.1)
-    inner_vals (given ℓ i ∷ xs) a = (shr_slice_vals a.0, inner_vals xs a.1)
+    inner_vals (given ℓ i ∷ xs) a = (mut_slice_vals a.0, inner_vals xs a.1)
