@@ -33,7 +33,7 @@ use denote.Signature.{Slot, plain, types_at}
 use denote.Triple.End.{Fins, Outs, outs, lasts_of, all}
 use denote.Triple.Walked.{Stays, stay_dropped, fits_of, has_of, AllGo, Goes-ref, Goes-dropped, Goes-gave_slice}
 use Rattle.walks.proofs.Steps.{ptr_of, read_ptr_of, slice_of, read_slice_of, as_long, looked, shut, freed}
-use Rattle.walks.proofs.Parameters.{Lendable, Kind, number, struct, slice, area, lifetimes, handed, handed_lfts, handed_shares, Life, Param, passed, copied, shared, given, Ahead, past_number, past_struct, past_slice, past_area, own, params, Areas, locals, param_types, temp_types, skip, copying, operands, inners, Rows, left_in, inner_vals}
+use Rattle.walks.proofs.Parameters.{Lendable, Kind, number, struct, slice, area, lifetimes, handed, handed_lfts, handed_shares, Life, Param, passed, copied, shared, given, Ahead, past_number, past_struct, past_slice, past_area, own, params, Areas, locals, param_types, temp_types, skip, skip_temps, copying, operands, inners, Rows, left_in, inner_vals}
 
 -- ---- locals: where each lies, and what it holds
 
@@ -74,6 +74,13 @@ module _ {n m : ℕ} where
   pub at_skip : (i : ℕ) (xs : List (Param n m)) (bs : Each ℕ (param_types xs)) {E F : List (Ty × ℕ)} → At E i (env (param_types xs) bs F) → At E (skip i xs) F
   at_skip i [] bs h = h
   at_skip i (x ∷ xs) bs h = at_skip (suc i) xs bs.1 (at_next h)
+
+  pub at_skip_temps : (t : ℕ) (xs : List (Param n m)) (cs : Each ℕ (temp_types xs)) {E F : List (Ty × ℕ)} → At E t (env (temp_types xs) cs F) → At E (skip_temps t xs) F
+  at_skip_temps t [] cs h = h
+  at_skip_temps t (passed w ∷ xs) cs h = at_skip_temps t xs cs h
+  at_skip_temps t (copied ℓ S ∷ xs) cs h = at_skip_temps (suc t) xs cs.1 (at_next h)
+  at_skip_temps t (shared ℓ i w ∷ xs) cs h = at_skip_temps t xs cs h
+  at_skip_temps t (given ℓ i ∷ xs) cs h = at_skip_temps (suc (suc t)) xs cs.1.1 (at_next (at_next h))
 
   -- the tokens of the structs
   abbrev pub read_toks : Lfts n → Shares n → List (Param n m) → Fml
@@ -350,10 +357,10 @@ module _ {n m : ℕ} (N : Lendable) (o : Life n) where
       all_passed (shared ℓ i w ∷ xs) a bs is s = fsplit ! $ fsplit ! $ pass1 ! (init ! 0 refl ((shr_slice_Lawful 𝓛 (named ℓ.index) (ℓ.lft κs) (UInt w)).typed a.0 _ is.0).0) $ move ! (2 ∷ []) $ all_passed xs a.1 bs.1 is.1 (move ! (1 ∷ 2 ∷ []) $ fjoin ! $ fjoin ! $ s)
       all_passed (given ℓ i ∷ xs) a bs is s = fsplit ! $ fsplit ! $ pass1 ! (init ! 0 refl ((mut_slice_Lawful 𝓛 (named ℓ.index) (ℓ.lft κs) u8).typed a.0 _ is.0).0) $ move ! (2 ∷ []) $ all_passed xs a.1 bs.1 is.1 (move ! (1 ∷ 2 ∷ []) $ fjoin ! $ fjoin ! $ s)
 
-      module _ {E : Env 𝓤 H} (F : Env 𝓤 H) where
+      module _ {E : Env 𝓤 H} (F G : Env 𝓤 H) where
         -- each struct that is lent is copied, and each area lent on
         pub all_copied : {C : Calls 𝓤 H} {Λ : Loops 𝓤 H} {rest : Body} {e : Post 𝓤 H} (i t : ℕ) (xs : List (Param n m)) (qs : Shares n) (a : Denots (Types xs)) (bs : Each ℕ (param_types xs)) (cs : Each ℕ (temp_types xs))
-            → At E i (env (param_types xs) bs F) → At E t (env (temp_types xs) cs []) → Are (Types xs) (Ises (Types xs)) a (vals xs a) → {Γ : List (Item 𝓤)}
+            → At E i (env (param_types xs) bs F) → At E t (env (temp_types xs) cs G) → Are (Types xs) (Ises (Types xs)) a (vals xs a) → {Γ : List (Item 𝓤)}
             → (Known xs a → Sq 𝓛 (‵ (cells (temp_types xs) cs (temp_vals xs a)) ∷ ‵ (cells (param_types xs) bs (param_vals xs a)) ∷ ‵ (read_toks κs qs xs) ∷ Γ) (runs C Λ E rest e))
             → Sq 𝓛 (‵ (rooms (temp_types xs) cs) ∷ ‵ (cells (param_types xs) bs (param_vals xs a)) ∷ ‵ (borrows xs a) ∷ ‵ (read_toks κs qs xs) ∷ Γ) (runs C Λ E (copying i t xs rest) e)
         all_copied i t [] qs a bs cs at_p at-t is k = move ! (2 ∷ []) $ drop ! $ k tt
@@ -403,11 +410,11 @@ module _ {n m : ℕ} (N : Lendable) (o : Life n) where
             move ! (1 ∷ 0 ∷ []) $ fjoin ! $ move ! (1 ∷ []) $ leaves xs e.1 a.1 ws.1 (λ ls. move ! (1 ∷ 0 ∷ []) $ fjoin ! $ k (long, ls)))
 
         -- the operands are read
-        pub all_read : {E : Env 𝓤 H} (F : Env 𝓤 H) (i t : ℕ) (xs : List (Param n m)) (a : Denots (Types xs)) (bs : Each ℕ (param_types xs)) (cs : Each ℕ (temp_types xs))
-            → At E i (env (param_types xs) bs F) → At E t (env (temp_types xs) cs []) → {Γ : List (Item 𝓤)}
+        pub all_read : {E : Env 𝓤 H} (F G : Env 𝓤 H) (i t : ℕ) (xs : List (Param n m)) (a : Denots (Types xs)) (bs : Each ℕ (param_types xs)) (cs : Each ℕ (temp_types xs))
+            → At E i (env (param_types xs) bs F) → At E t (env (temp_types xs) cs G) → {Γ : List (Item 𝓤)}
             → Opds (Go {0}) 𝓛 (‵ (cells (temp_types xs) cs (temp_vals xs a)) ∷ ‵ (cells (param_types xs) bs (param_vals xs a)) ∷ Γ) E (operands i t xs) (flat (Rows κi xs) (inner_vals κi xs (handed_on κi xs a)))
-        all_read F i t [] a bs cs at_p at-t = no_more !
-        all_read F i t (passed w ∷ xs) a bs cs at_p at-t = in_param (and_then ! (load ! (from_at at_p (stop !)) (look ! 2 refl)) (all_read F (suc i) t xs a.1 bs.1 cs (at_next at_p) at-t))
-        all_read F i t (copied ℓ S ∷ xs) a bs cs at_p at-t = in_temp (and_then ! (load ! (from_at at-t (stop !)) (look ! 2 refl)) (all_read F (suc i) (suc t) xs a.1 bs.1 cs.1 (at_next at_p) (at_next at-t)))
-        all_read F i t (shared ℓ h w ∷ xs) a bs cs at_p at-t = in_param (and_then ! (load ! (from_at at_p (stop !)) (look ! 2 refl)) (all_read F (suc i) t xs a.1 bs.1 cs (at_next at_p) at-t))
-        all_read F i t (given ℓ h ∷ xs) a bs cs at_p at-t = in_second (and_then ! (load ! (from_at (at_next at-t) (stop !)) (look ! 2 refl)) (all_read F (suc i) (suc (suc t)) xs a.1 bs.1 cs.1.1 (at_next at_p) (at_next (at_next at-t))))
+        all_read F G i t [] a bs cs at_p at-t = no_more !
+        all_read F G i t (passed w ∷ xs) a bs cs at_p at-t = in_param (and_then ! (load ! (from_at at_p (stop !)) (look ! 2 refl)) (all_read F G (suc i) t xs a.1 bs.1 cs (at_next at_p) at-t))
+        all_read F G i t (copied ℓ S ∷ xs) a bs cs at_p at-t = in_temp (and_then ! (load ! (from_at at-t (stop !)) (look ! 2 refl)) (all_read F G (suc i) (suc t) xs a.1 bs.1 cs.1 (at_next at_p) (at_next at-t)))
+        all_read F G i t (shared ℓ h w ∷ xs) a bs cs at_p at-t = in_param (and_then ! (load ! (from_at at_p (stop !)) (look ! 2 refl)) (all_read F G (suc i) t xs a.1 bs.1 cs (at_next at_p) at-t))
+        all_read F G i t (given ℓ h ∷ xs) a bs cs at_p at-t = in_second (and_then ! (load ! (from_at (at_next at-t) (stop !)) (look ! 2 refl)) (all_read F G (suc i) (suc (suc t)) xs a.1 bs.1 cs.1.1 (at_next at_p) (at_next (at_next at-t))))

@@ -174,6 +174,14 @@ module _ {n m : ℕ} where
   skip i [] = i
   skip i (x ∷ xs) = skip (suc i) xs
 
+  -- the local after the temporaries that begin at t
+  abbrev pub skip_temps : ℕ → List (Param n m) → ℕ
+  skip_temps t [] = t
+  skip_temps t (passed w ∷ xs) = skip_temps t xs
+  skip_temps t (copied ℓ S ∷ xs) = skip_temps (suc t) xs
+  skip_temps t (shared ℓ i w ∷ xs) = skip_temps t xs
+  skip_temps t (given ℓ i ∷ xs) = skip_temps (suc (suc t)) xs
+
   -- with the parameters from the local i on and the temporaries from t on: the temporaries are filled; what is passed
   abbrev pub copying : ℕ → ℕ → List (Param n m) → Body → Body
   copying i t [] b = b

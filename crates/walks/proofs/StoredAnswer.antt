@@ -106,9 +106,9 @@ module _ (ks : List Kind) (N : Lendable) (Says : Nows (listed ks) → N.decl.D �
           params1 ! $ move ! (5 ∷ []) $ all_passed N o κs xs a bs are (pass1 ! (init ! 4 refl (tt, tt)) $ pass0 ! $
           -- [the parameters; room for the copies, for the result; …; the answer's pointer; …; room for _0; …; the borrows; the slices; the answer's obs and borrow; the tokens]
           move ! (12 ∷ []) $ use1 𝓛 (Toks 𝓛 κs qs ks (ahead ks)) (toks_out 𝓛 κs qs ks (ahead ks)) $ split3 ! $ move ! (4 ∷ 3 ∷ 11 ∷ 0 ∷ []) $
-          all_copied N o κs F 1 (suc (suc (skip 1 xs))) xs qs a bs cs at_p at-t are (λ copies.
+          all_copied N o κs F [] 1 (suc (suc (skip 1 xs))) xs qs a bs cs at_p at-t are (λ copies.
           move ! (11 ∷ []) $ gives N o κs κi xs (agrees κs κi ks (ahead ks) refl) a copies (move ! (4 ∷ 0 ∷ []) $ join ! $ use1 𝓛 (raw ((Callee 𝓛).pre to)) (asks 𝓤 _) $
-          calls_at ! fm (Callee 𝓛) known to (opds_under (all_read N o κs κi F 1 (suc (suc (skip 1 xs))) xs a bs cs at_p at-t)) (λ u.
+          calls_at ! fm (Callee 𝓛) known to (opds_under (all_read N o κs κi F [] 1 (suc (suc (skip 1 xs))) xs a bs cs at_p at-t)) (λ u.
           answered ! tt Inner (inner 𝓤) to u (λ y ws. heard ! (Says s y (Left N o κs κi xs a ws)) (λ e. leaves N o κs κi xs (agrees κs κi ks (ahead ks) refl) a ws (λ long. move ! (1 ∷ []) $ told ! (row N.decl) (LL.val N.decl N.laws) (LL.tells N.decl N.laws) y u (λ is.
           -- [the areas at last; the tokens lent on; the copies; the parameters; the other tokens; the answer's; room for the result; …; the answer's pointer; …; room for _0; …; the answer's obs and borrow]
           land ! (from_at at-r (stop !)) (init ! 6 refl ((LL.lawful N.decl N.laws 𝓛).typed y _ is).0) $ move ! (12 ∷ 13 ∷ 5 ∷ []) $
