@@ -12,7 +12,6 @@ pub use base.Fml.{Lft, Share, Fml, ftrue, flft, fres, fsep}
 pub use prog.Memory.{Memory, field_of}
 pub use prog.Routine.{Routine, Env as Routines}
 pub use prog.Wp.{Heap, Calls, Loops, WpFn, Env, Closed}
-pub use ghost.Atoms.{Atoms}
 pub use contract.Monad.{Fun, fact}
 pub use contract.Running.{tables, Running}
 pub use types.Kit.{Item, ‵, raw, ◌⊛◌, ⋆, ◌$◌, ◌∵◌, !, qed, by, move, keep, drop, use1, split, join, fsplit, fsplit3, fjoin, fjoin3, feq_i, suffices, frame, done, split3, Go}
