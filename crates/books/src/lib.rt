@@ -24,6 +24,7 @@ const SET_LENGTH: usize = 1;
 const BOOK_LENGTH: usize = 2;
 
 // Sender and number of a message are in their ranges.
+#[tactic(auto, unfolding(model::specs::Fair::named))]
 fn good_name(sender: u8, number: u8) -> bool
     ensures { result ≡ (named seats sender && named capacity number) }
 {
@@ -143,6 +144,7 @@ const CODES: usize = SENDERS * NUMBERS;
 const LACKING: u16 = 65535;
 
 // The code of the message whose two bytes stand at a place.
+#[tactic(auto, unfolding(crate::specs::Ranks::code_of))]
 fn code_at(bytes: &[u8], at: usize) -> usize
     requires { at + 1 < length bytes.now }
     ensures { CodeAt bytes.now at result }
@@ -189,6 +191,7 @@ fn place_book(bytes: &[u8], ranks: &mut [u16; CODES]) -> bool
 }
 
 // Whether no message comes twice in a book.
+#[tactic(auto, unfolding(crate::specs::Ranks::once_by_ranks))]
 fn is_once(bytes: &[u8]) -> bool
     requires { LaidSets bytes.now }
     ensures { result ≡ once_by_ranks (book_in bytes.now) }
@@ -198,6 +201,7 @@ fn is_once(bytes: &[u8]) -> bool
 }
 
 // The ranks of all messages at a panel, by its book.
+#[tactic(auto, unfolding(crate::specs::Ranks::ranks_of))]
 fn ranks_of(bytes: &[u8]) -> [u16; CODES]
     requires { LaidSets bytes.now }
     ensures { result ≡ ranks_of (book_in bytes.now) }
