@@ -192,6 +192,9 @@ module _ (s : List ℕ) (at : ℕ) (is : at ≡ books_at s) where
     unfolding books_at
     begins = is ∙ ap (λ (b : Bool). cond b (after_sent s) 0) front_true
 
+    pub past_head : 3 ≤ at
+    past_head = omega (arith, begins)
+
     pub in_file : at ≤ length s
     in_file = omega (arith, begins, leb-true (after_sent s) (length s) (and_right (leb (length s) longest_file && eqb (byte s 0) book_version) _ front_true))
 
