@@ -9,7 +9,7 @@ use mathlib.Core.List.{List, [], ◌∷◌, map, flatten}
 use lib.ListN.{length, get_or, take, drop, set, length-drop, drop_of_length-le}
 use lib.Seq.{length-take-le, take_all}
 use lib.Dec.{eqb, leb, ltb}
-use borrow.Author.Tests.{eq-eqb, ne_eqb, lt-ltb, leb-true, le-leb, lt-leb, not-true, not-false}
+use borrow.Author.Tests.{eq-eqb, ne_eqb, lt-ltb, leb-true, le-leb, lt-leb}
 use Rattle.lists.proofs.Tests.{and_left, and_right, cond_true, cond_false}
 use Rattle.lists.specs.Every.{every}
 use Rattle.lists.proofs.Every.{tests_append}
@@ -28,11 +28,11 @@ pub goes_on : (whole one rest : Bool) → whole ≡ (one && rest) → one ≡ tr
 goes_on whole one rest e f = e ∙ ap (λ (b : Bool). b && rest) f
 
 -- the same, where r is what the test of the next element answers
-pub fails_by : (whole one rest r : Bool) → whole ≡ (one && rest) → r ≡ one → not r ≡ true → false ≡ whole
-fails_by whole one rest r e f g = fails whole one rest e (sym f ∙ not-true r g)
+pub fails_by : (whole one rest r : Bool) → whole ≡ (one && rest) → r ≡ one → r ≡ false → false ≡ whole
+fails_by whole one rest r e f g = fails whole one rest e (sym f ∙ g)
 
-pub goes_by : (whole one rest r : Bool) → whole ≡ (one && rest) → r ≡ one → not r ≡ false → whole ≡ rest
-goes_by whole one rest r e f g = goes_on whole one rest e (sym f ∙ not-false r g)
+pub goes_by : (whole one rest r : Bool) → whole ≡ (one && rest) → r ≡ one → r ≡ true → whole ≡ rest
+goes_by whole one rest r e f g = goes_on whole one rest e (sym f ∙ g)
 
 -- MESSAGES
 

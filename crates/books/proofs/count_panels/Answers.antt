@@ -1,6 +1,5 @@
 -- `count_panels` counts the books.
 use Rattle.std.proofs.Common.{sym, ◌∙◌, arith}
-use borrow.Author.Tests.{not-true, not-false}
 use Rattle.books.proofs.Walks.{count-start, count_odd, count_short, count_bad, count_next, count_end}
 use Rattle.books.proofs.count_panels.Goals as goal
 
@@ -16,12 +15,12 @@ returns-then-end-from c =
 
 pub returns-then-not-good_book : goal.returns-then-not-good_book
 returns-then-not-good_book c =
-    let bad = sym c.good_book.ensures ∙ not-true _ c.if-not-good_book.true in
+    let bad = sym c.good_book.ensures ∙ c.if-not-good_book.true in
     sym (c.loop-at.invariant.passed ∙ count_bad c.loop-at.count c.args.bytes.now c.loop-at.at (omega arith) c.size_at-size.result c.size_at-size.ensures (omega arith) bad)
 
 pub loop-at-preserved : goal.loop-at-preserved
 loop-at-preserved c =
-    let good = sym c.good_book.ensures ∙ not-false _ c.if-not-good_book.false in
+    let good = sym c.good_book.ensures ∙ c.if-not-good_book.false in
     record {
       within = omega arith;
       few = omega arith;
