@@ -1,5 +1,5 @@
 -- `all_agree` compares each panel with all that follow.
-use Rattle.std.proofs.Common.{◌≡◌, ◌+◌, length, ap₂, ◌∙◌}
+use Rattle.std.proofs.Common.{◌+◌, length, ap₂, ◌∙◌}
 use Rattle.model.specs.Books.{names, books_in}
 use Rattle.books.specs.Ranks.{agree_with}
 use Rattle.books.proofs.Walks.{fails_by, goes_by, tail_is, agree_book}

@@ -1,8 +1,8 @@
 -- `check_books` answers the first no of questions 5, 22, 23 and 24.
-use Rattle.std.proofs.Common.{◌≡◌, ℕ, List, ◌-◌, eqb, ltb, length, take, drop, sym, ap, ◌∙◌}
+use Rattle.std.proofs.Common.{ℕ, List, ◌-◌, eqb, ltb, length, take, drop, sym, ap, ◌∙◌}
 use mathlib.Core.Bool.{◌||◌}
 use Rattle.model.specs.Tables.{seats}
-use Rattle.model.specs.Books.{names, good_panels, books_in}
+use Rattle.model.specs.Books.{names, books_in}
 use Rattle.books.specs.Ranks.{book_refusal}
 use Rattle.books.proofs.FileQuestions.{nowhere, sent-refused, panels_refused, count_no, count_yes, books_laid, answered}
 use Rattle.books.proofs.check_books.Goals as goal
