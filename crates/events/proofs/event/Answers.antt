@@ -60,5 +60,5 @@ returns-in-Read c =
     let r = c.read_record-found.ensures in
     let z = sym (first_no_is _ _ _ _ r _ c.at_hand-p.ensures _ c.step_refusal-refusal.ensures) ∙ c.if-refusal-ne0.false in
     let e = sym (command_read _ _ _ r) ∙ c.in-Read.is in
-    let x = reader_is _ _ _ _ (in_places _ _ _ c.at_hand-p.ensures) _ c.in-Read.is (readable _ _ _ formed z _ e).high in
+    let x = reader_is _ _ _ _ (in_places c.args.t _ _ c.at_hand-p.ensures) _ c.in-Read.is (readable _ _ _ formed z _ e).high in
     event_stepped _ _ _ _ _ formed (step_read _ _ _ z _ (used_read _ _ _ _ r z) _ e _ x _ _ c.read_answer-answer.ensures)
