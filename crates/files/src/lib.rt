@@ -24,6 +24,7 @@ struct Cursor {
 }
 
 // Nothing is read yet.
+#[tactic(auto, unfolding(crate::specs::Turns::at_start))]
 fn begun() -> Cursor
     ensures { result ≡ at_start }
 {
@@ -35,6 +36,7 @@ fn begun() -> Cursor
 }
 
 // What a run answers that has come so far.
+#[tactic(auto, unfolding(crate::specs::Turns::answer_at))]
 fn answered(cursor: Cursor, table: Table) -> RunAnswer
     ensures { result ≡ answer_at cursor table }
 {
@@ -114,6 +116,7 @@ fn look_ahead(version: usize, left: &[u8]) -> Ahead
 }
 
 // A refusal ends a run: all bytes are read, and nothing else has changed.
+#[tactic(auto, unfolding(crate::specs::Turns::ended))]
 fn ended(cursor: Cursor, refusal: u8, used: usize, controller: Controller) -> Advance
     ensures { result ≡ ended cursor refusal used controller }
 {
@@ -129,6 +132,7 @@ fn ended(cursor: Cursor, refusal: u8, used: usize, controller: Controller) -> Ad
 }
 
 // A record is carried out: one event more, and its line, which has that many bytes.
+#[tactic(auto, unfolding(crate::specs::Turns::gone))]
 fn gone(cursor: Cursor, line: usize, used: usize, controller: Controller) -> Advance
     requires { (cursor.events ≤ longest_file) × (cursor.written + line < 2 ^ 64) }
     ensures { result ≡ gone cursor line used controller }
@@ -228,6 +232,7 @@ struct Header {
     n: usize,
 }
 
+#[tactic(auto, unfolding(crate::specs::Turns::header_of))]
 fn read_header(bytes: &[u8]) -> Header
     ensures { result ≡ header_of bytes.now }
 {
