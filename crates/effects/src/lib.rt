@@ -27,6 +27,7 @@ pub struct Parties {
 }
 
 // The controller that an event changes.
+#[tactic(auto, unfolding(model::specs::Events::subject))]
 pub fn subject(e: Event) -> u8
     ensures { result ≡ subject e }
 {
@@ -38,6 +39,7 @@ pub fn subject(e: Event) -> u8
 }
 
 // The controller whose log a handover reads; the subject of any other event.
+#[tactic(auto, unfolding(crate::specs::Parties::owner_of))]
 pub fn owner(e: Event) -> u8
     ensures { result ≡ owner_of e }
 {
@@ -49,6 +51,7 @@ pub fn owner(e: Event) -> u8
 }
 
 // The index of a controller, and of some controller where there is none of that number.
+#[tactic(auto, unfolding(crate::specs::Parties::seat_of))]
 pub fn seat(controller: u8) -> usize
     ensures { result ≡ seat_of controller }
 {
@@ -234,6 +237,7 @@ pub struct Effect {
 }
 
 // The answer of a refusal, or of what applies nothing.
+#[tactic(auto, unfolding(crate::specs::Effects::no_set, model::specs::Calls::answer_of, lists::specs::Build::overlay))]
 pub fn no_set(refusal: u8) -> Answer
     ensures { result ≡ no_set refusal }
 {
