@@ -103,3 +103,9 @@ stored_else t (Send c p) i x (inl q) ei f = absurd (omega arith)
 stored_else t (Send c p) i x (inr q) ei f = absurd (omega arith)
 stored_else t (Handover r o) i x q ei f = rw (f, ei) refl
 stored_else t (Stop c k) i x q ei f = rw (f, ei) refl
+
+-- an event that is no send is a handover or a stop
+pub other_kind : (e : Event) → ((c : ℕ) (p : Payload) → e ≡ Send c p → ⊥) → (tag_of event.the_type e ≡ 1) ⊎ (tag_of event.the_type e ≡ 2)
+other_kind (Send c p) n = absurd (n c p refl)
+other_kind (Handover r o) n = inl refl
+other_kind (Stop c k) n = inr refl

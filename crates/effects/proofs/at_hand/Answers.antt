@@ -1,5 +1,5 @@
 -- `at_hand` are the controllers in the places of a record's.
-use Rattle.std.proofs.Common.{◌<◌, refl, arith}
+use Rattle.std.proofs.Common.{◌≡◌, ◌<◌, refl, arith}
 use Rattle.model.specs.Tables.{seats}
 use Rattle.model.specs.declared.Command.{Command}
 use Rattle.effects.specs.declared.Places.{Places}

@@ -15,6 +15,6 @@ with-sums a z y e f = rw (e, f) refl
 
 pub returns : goal.returns
 returns c = record {
-  sums_are = with-sums _ _ _ (ap (λ (d : Effect). d.answer) c.quiet-done.ensures.effect) c.sums.ensures;
+  sums_are = with-sums _ _ _ (ap (λ (d : Effect). d.answer) c.quiet-done.ensures.effect) c.sums-sums.ensures;
   clear = c.quiet-done.ensures.clear;
 }
