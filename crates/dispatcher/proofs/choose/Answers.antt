@@ -1,7 +1,6 @@
 -- `choose` puts questions 8 and 15, and answers the next pair.
 use Rattle.std.proofs.Common.{◌∙◌}
-use borrow.Author.Tests.{not-true, not-false}
-use Rattle.dispatcher.proofs.DispatchAnswers.{pair_refuses, in_range_lem, room_refuses, none_refuses}
+use Rattle.dispatcher.proofs.DispatchAnswers.{pair_refuses, room_refuses, none_refuses}
 use Rattle.dispatcher.proofs.choose.Goals as goal
 
 pub returns-then-not-receiver-n : goal.returns-then-not-receiver-n

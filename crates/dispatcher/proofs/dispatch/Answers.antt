@@ -1,5 +1,5 @@
 -- `dispatch` changes nothing where no pair is chosen, and else carries out the handover of the pair.
-use Rattle.std.proofs.Common.{◌≡◌, true, refl, sym, ap, ◌∙◌, arith}
+use Rattle.std.proofs.Common.{refl, sym, ap, ◌∙◌, arith}
 use Rattle.model.proofs.Tested.{facts}
 use Rattle.effects.specs.declared.Effect.{Effect}
 use Rattle.effects.specs.Effects.{effect_of}

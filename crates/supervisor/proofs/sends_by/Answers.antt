@@ -14,8 +14,8 @@ pub loop-s-preserved : goal.loop-s-preserved
 unfolding message_in
 loop-s-preserved c =
     elim c.if-sender-c.branch [
-      then-sender-c w ↦ (omega arith, count_yes _ _ _ _ (eq-eqb _ _ w.if-sender-c.true) c.loop-s.invariant.1 w.sends-is)
-    | else-sender-c w ↦ (omega arith, count_no _ _ _ _ (ne_eqb _ _ w.if-sender-c.false) c.loop-s.invariant.1 w.sends-is)
+      | then-sender-c w ↦ (omega arith, count_yes _ _ _ _ (eq-eqb _ _ w.if-sender-c.true) c.loop-s.invariant.1 w.sends-is)
+      | else-sender-c w ↦ (omega arith, count_no _ _ _ _ (ne_eqb _ _ w.if-sender-c.false) c.loop-s.invariant.1 w.sends-is)
     ]
 
 pub returns : goal.returns
