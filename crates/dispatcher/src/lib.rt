@@ -11,6 +11,7 @@ use model::{Command, Controller, DispatchAnswer, Event, Pair, Table, refusal};
 // THE ORDER
 
 // The pair after this one, by receiver and then owner; after the last comes the first.
+#[tactic(auto, unfolding(turns::specs::Dispatcher::following))]
 fn following(n: usize, receiver: usize, owner: usize) -> Pair
     ensures { result ≡ following n (pair receiver owner) }
 {
@@ -121,6 +122,7 @@ pub struct Handed {
 }
 
 // No handover is made, and nothing is changed.
+#[tactic(auto, unfolding(crate::specs::Handed::unchanged))]
 fn unserved(t: Table, refusal: u8) -> Handed
     ensures { result ≡ unchanged t refusal }
 {

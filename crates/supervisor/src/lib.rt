@@ -94,6 +94,7 @@ fn other_refusal(x: Controller, y: Controller, owner: usize, current: bool, room
 // ASK
 
 // A refused ask.
+#[tactic(auto, unfolding(lists::specs::Build::overlay, previews::specs::Previews::ask_answer_of, crate::specs::Supervised::no_preview))]
 fn no_preview(refusal: u8) -> AskAnswer
     ensures { result ≡ no_preview refusal }
 {
@@ -154,6 +155,7 @@ pub struct Committed {
 }
 
 // A refused commit: nothing is changed.
+#[tactic(auto, unfolding(crate::specs::Supervised::unchanged))]
 fn refused(t: Table, refusal: u8) -> Committed
     ensures { result ≡ unchanged t refusal }
 {
