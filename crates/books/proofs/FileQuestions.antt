@@ -1,7 +1,7 @@
 -- Question 5 part by part, in the order in which the code asks it; and the others after it. Assumes nothing.
 use Prim.Native.Nat.{ℕ, zero, suc, ◌+◌, ◌-◌, ◌*◌, ◌≤◌, ◌<◌}
-use mathlib.Core.Path.{◌≡◌, refl, sym, ap, ap₂, ◌∙◌}
-use mathlib.Core.Logic.{◌⊎◌, inl, inr}
+use mathlib.Core.Path.{◌≡◌, refl, sym, ap, ◌∙◌}
+use mathlib.Core.Logic.{inl, inr}
 use mathlib.Core.Bool.{Bool, true, false, not, ◌&&◌, ◌||◌, cond, and-false}
 use mathlib.Core.List.{List, [], ◌∷◌, map}
 use native.Mathlib.Omega.{arith}
@@ -191,6 +191,9 @@ module _ (s : List ℕ) (at : ℕ) (is : at ≡ books_at s) where
     pub begins : at ≡ after_sent s
     unfolding books_at
     begins = is ∙ ap (λ (b : Bool). cond b (after_sent s) 0) front_true
+
+    pub past_head : 3 ≤ at
+    past_head = omega (arith, begins)
 
     pub in_file : at ≤ length s
     in_file = omega (arith, begins, leb-true (after_sent s) (length s) (and_right (leb (length s) longest_file && eqb (byte s 0) book_version) _ front_true))

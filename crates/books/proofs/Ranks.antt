@@ -10,7 +10,7 @@ use lib.Seq.{get_or-set_same, get_or-set_other}
 use lib.Dec.{eqb, ltb}
 use borrow.Author.Tests.{eqb-true, eq-eqb, ne_eqb, lt-ltb, le-ltb, not-true}
 use Rattle.lists.specs.Every.{Every, every}
-use Rattle.lists.proofs.Every.{tests_append, every-parts, every_test, every_ext, every_both}
+use Rattle.lists.proofs.Every.{tests_append, every-parts, every_ext, every_both}
 use Rattle.lists.proofs.Tests.{and_left, and_right, contradiction}
 use Rattle.model.specs.Names.{same, has, twice}
 use Rattle.model.specs.Questions.{ask, first_no}

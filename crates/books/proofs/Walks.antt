@@ -27,6 +27,13 @@ fails whole one rest e f = sym (e ∙ ap (λ (b : Bool). b && rest) f)
 pub goes_on : (whole one rest : Bool) → whole ≡ (one && rest) → one ≡ true → whole ≡ rest
 goes_on whole one rest e f = e ∙ ap (λ (b : Bool). b && rest) f
 
+-- the same, where r is what the test of the next element answers
+pub fails_by : (whole one rest r : Bool) → whole ≡ (one && rest) → r ≡ one → r ≡ false → false ≡ whole
+fails_by whole one rest r e f g = fails whole one rest e (sym f ∙ g)
+
+pub goes_by : (whole one rest r : Bool) → whole ≡ (one && rest) → r ≡ one → r ≡ true → whole ≡ rest
+goes_by whole one rest r e f g = goes_on whole one rest e (sym f ∙ g)
+
 -- MESSAGES
 
 -- a message is in order with all of ms, by the ranks R and Q

@@ -1,6 +1,6 @@
 -- What the functions of this crate work out: codes of names, the ranks that a book gives its messages, and the questions by ranks. Not
 -- to be believed: proofs/Ranks.antt shows that they are the questions of a book file.
-use Rattle.std.specs.Prelude.{ℕ, suc, ◌+◌, ◌*◌, ◌≤◌, ◌<◌, min, ◌≡◌, Bool, true, false, not, ◌&&◌, cond, length, get_or, drop, set, replicate, eqb, leb, ltb}
+use Rattle.std.specs.Prelude.{ℕ, ◌+◌, ◌*◌, ◌≤◌, ◌<◌, min, ◌≡◌, Bool, true, false, not, ◌&&◌, cond, length, get_or, drop, set, replicate, eqb, leb, ltb}
 use mathlib.Core.List.{List, [], ◌∷◌, flatten}
 use Rattle.lists.specs.Every.{every}
 use Rattle.model.specs.Tables.{seats, capacity}

@@ -24,6 +24,7 @@ const SET_LENGTH: usize = 1;
 const BOOK_LENGTH: usize = 2;
 
 // Sender and number of a message are in their ranges.
+#[tactic(auto, unfolding(model::specs::Fair::named))]
 fn good_name(sender: u8, number: u8) -> bool
     ensures { result ≡ (named seats sender && named capacity number) }
 {
@@ -40,6 +41,7 @@ fn size_at(bytes: &[u8], at: usize) -> usize
 }
 
 // Messages, two bytes each: sender and number are in their ranges, and no byte is left over.
+#[tactic(auto, using(histories::proofs::Parts::good_turn, histories::proofs::Parts::good_end, histories::proofs::Parts::good_odd))]
 fn good_names(bytes: &[u8]) -> bool
     ensures { result ≡ good_names bytes.now }
 {
@@ -143,6 +145,7 @@ const CODES: usize = SENDERS * NUMBERS;
 const LACKING: u16 = 65535;
 
 // The code of the message whose two bytes stand at a place.
+#[tactic(auto, unfolding(crate::specs::Ranks::code_of))]
 fn code_at(bytes: &[u8], at: usize) -> usize
     requires { at + 1 < length bytes.now }
     ensures { CodeAt bytes.now at result }
@@ -153,6 +156,7 @@ fn code_at(bytes: &[u8], at: usize) -> usize
 }
 
 // Gives the messages of a set its rank, and says whether none of them had one.
+#[tactic(auto, using(crate::proofs::Walks::placed_before, crate::proofs::Walks::placed_now, crate::proofs::Walks::place_end))]
 fn place_names(bytes: &[u8], rank: u16, ranks: &mut [u16; CODES]) -> bool
     ensures { Places (place_names rank (names bytes.now) ranks.old) result ranks.new }
 {
@@ -170,6 +174,7 @@ fn place_names(bytes: &[u8], rank: u16, ranks: &mut [u16; CODES]) -> bool
 }
 
 // Gives each message of a book the rank of its set, from 0, and says whether none of them had one.
+#[tactic(auto, using(crate::proofs::Walks::set_new, crate::proofs::Walks::placed_end))]
 fn place_book(bytes: &[u8], ranks: &mut [u16; CODES]) -> bool
     requires { LaidSets bytes.now }
     ensures { Places (place_book 0 (book_in bytes.now) ranks.old) result ranks.new }
@@ -189,6 +194,7 @@ fn place_book(bytes: &[u8], ranks: &mut [u16; CODES]) -> bool
 }
 
 // Whether no message comes twice in a book.
+#[tactic(auto, unfolding(crate::specs::Ranks::once_by_ranks))]
 fn is_once(bytes: &[u8]) -> bool
     requires { LaidSets bytes.now }
     ensures { result ≡ once_by_ranks (book_in bytes.now) }
@@ -198,6 +204,7 @@ fn is_once(bytes: &[u8]) -> bool
 }
 
 // The ranks of all messages at a panel, by its book.
+#[tactic(auto, unfolding(crate::specs::Ranks::ranks_of))]
 fn ranks_of(bytes: &[u8]) -> [u16; CODES]
     requires { LaidSets bytes.now }
     ensures { result ≡ ranks_of (book_in bytes.now) }
@@ -208,6 +215,7 @@ fn ranks_of(bytes: &[u8]) -> [u16; CODES]
 }
 
 // Whether all the messages have a rank.
+#[tactic(auto, using(crate::proofs::Walks::every_end))]
 fn names_ranked(bytes: &[u8], ranks: &[u16; CODES]) -> bool
     ensures { result ≡ every (ranked ranks.now) (names bytes.now) }
 {
@@ -224,6 +232,7 @@ fn names_ranked(bytes: &[u8], ranks: &[u16; CODES]) -> bool
 }
 
 // Whether all the messages of a book have a rank.
+#[tactic(auto, using(crate::proofs::Walks::ranked_end))]
 fn book_ranked(bytes: &[u8], ranks: &[u16; CODES]) -> bool
     requires { LaidSets bytes.now }
     ensures { result ≡ book_ranked ranks.now (book_in bytes.now) }
@@ -243,6 +252,7 @@ fn book_ranked(bytes: &[u8], ranks: &[u16; CODES]) -> bool
 // OPPOSITE ORDER
 
 // Whether no message stands after rank x at the one panel and before rank y at the other.
+#[tactic(auto, using(crate::proofs::Walks::order_end))]
 fn in_order(one: &[u16; CODES], other: &[u16; CODES], sent: &[u8], x: u16, y: u16) -> bool
     ensures { result ≡ in_order one.now other.now (names sent.now) x y }
 {
@@ -259,6 +269,7 @@ fn in_order(one: &[u16; CODES], other: &[u16; CODES], sent: &[u8], x: u16, y: u1
 }
 
 // Whether two panels have no two messages in opposite order.
+#[tactic(auto, using(crate::proofs::Walks::every_end), unfolding(crate::specs::Ranks::ranks_agree))]
 fn agree(one: &[u16; CODES], other: &[u16; CODES], sent: &[u8]) -> bool
     ensures { result ≡ ranks_agree (names sent.now) one.now other.now }
 {
@@ -275,6 +286,7 @@ fn agree(one: &[u16; CODES], other: &[u16; CODES], sent: &[u8]) -> bool
 }
 
 // Whether a panel agrees with each of those whose books follow.
+#[tactic(auto, using(crate::proofs::Walks::every_book_end), unfolding(crate::specs::Ranks::agree_with))]
 fn agree_with(one: &[u16; CODES], bytes: &[u8], sent: &[u8]) -> bool
     requires { LaidBooks bytes.now }
     ensures { result ≡ agree_with (names sent.now) one.now (books_in bytes.now) }
@@ -295,6 +307,7 @@ fn agree_with(one: &[u16; CODES], bytes: &[u8], sent: &[u8]) -> bool
 // THE QUESTIONS of all books
 
 // 22: no message comes twice at a panel.
+#[tactic(auto, using(crate::proofs::Walks::every_book_end))]
 fn all_once(bytes: &[u8]) -> bool
     requires { LaidBooks bytes.now }
     ensures { result ≡ every once_by_ranks (books_in bytes.now) }
@@ -312,6 +325,7 @@ fn all_once(bytes: &[u8]) -> bool
 }
 
 // 23: each message was sent, by the ranks of those that were.
+#[tactic(auto, using(crate::proofs::Walks::every_book_end))]
 fn all_sent(bytes: &[u8], sent: &[u16; CODES]) -> bool
     requires { LaidBooks bytes.now }
     ensures { result ≡ every (book_ranked sent.now) (books_in bytes.now) }
@@ -329,6 +343,7 @@ fn all_sent(bytes: &[u8], sent: &[u16; CODES]) -> bool
 }
 
 // 24: no two panels have two messages in opposite order.
+#[tactic(auto, using(crate::proofs::Walks::agree_book_end, crate::proofs::Walks::tail_is))]
 fn all_agree(bytes: &[u8], sent: &[u8]) -> bool
     requires { LaidBooks bytes.now }
     ensures { result ≡ agree_by_ranks (names sent.now) (books_in bytes.now) }
@@ -357,6 +372,7 @@ const NOT_SENT: u8 = 23;
 const OPPOSITE: u8 = 24;
 
 // Questions 22 to 24.
+#[tactic(auto, unfolding(crate::specs::Ranks::book_refusal, model::specs::Questions::first_no, model::specs::Questions::ask))]
 fn book_refusal(sent: &[u8], ranks: &[u16; CODES], bytes: &[u8]) -> u8
     requires { LaidBooks bytes.now }
     ensures { result ≡ book_refusal (names sent.now) ranks.now (books_in bytes.now) }
@@ -415,6 +431,7 @@ fn books_at(bytes: &[u8]) -> usize
 }
 
 // Whether a book file is one that panels of one machine can have: the first no of questions 5, 22, 23 and 24.
+#[tactic(auto, using(crate::proofs::FileQuestions::in_file, crate::proofs::FileQuestions::past_head))]
 pub fn check_books(bytes: &[u8]) -> u8
     ensures { result ≡ check_books bytes.now }
 {

@@ -5,25 +5,26 @@ use Prim.Native.Nat.{ℕ, zero, suc}
 use mathlib.Core.List.{[], ◌∷◌, List}
 use lib.ListN.{length, get_or, drop as dropped}
 use seplogic.Ra.Ura.{Ura}
-use seplogic.Ra.TreeShare.{full_share}
+use base.Fraction.{full_share}
 use mir.Syntax.{Ty, named, Local, Step as PStep, place, Opd as Operand, Body}
 use mir.Val.{Val, vint}
 use base.Logic.{SProp, ent, emp, via, id⊢}
-use base.Fml.{Lft, Fml, ftrue, fsep, fat, froom, fdies, flft, fshr_bor, fobs, fbor}
+use base.Fml.{Lft, Fml, ftrue, fsep, fat, froom, fdies, flft, fobs, fbor}
 use prog.Wp.{Calls, Loops, Env, Spot, no_local, walk as walks}
 use types.Logic.{Logic, sem}
 use contract.Lifetimes.{Lfts, Shares, toks}
 use types.Kit.{Item, Goal, Go, Sq, ‵, raw, ◌⊛◌, ⋆, mean, keep, ◌$◌, ◌∵◌, !, Post, runs, allocs, passes, frees, qed, move, drop, use1, split, split3, join, fsplit, fsplit3, fjoin, done}
 use types.Run.{Walks, Finds, Opds, look, look_raw, init, stop, hop, fld, load, addr, of_opd, and_then, no_more, assigns, alloc1, pass1}
-use types.SemTy.{Body as Holds}
+use types.SemTy.{Arr, Body as Holds}
+use types.Hole.{Holey}
 use types.Part.{agg, whole, sub, look_in}
 use denote.RattleType.{RattleType, Denots, Valss, flat, owns}
 use denote.Laws.{Is, Ises, Are, Spells, valss, Tellss}
-use denote.Memory.{mem, part_at}
+use denote.Memory.{mem, hidden_shr}
 use denote.Plain.{UInt, uint_vals, uint_Tells, uint_Makes, uint_Lawful}
 use denote.Builtin.{u8}
-use denote.Ref.{Bor, MutRef, ShrRef, at_last, shr_vals, mut_vals, mut_Tells, shr_Tells}
-use denote.Slice.{MutSlice, ShrSlice, shr_slice_vals, finally, mut_slice_Tells, shr_slice_Tells, mut_slice_Lawful, shr_slice_Lawful}
+use denote.Ref.{MutBor, MutRef, ShrRef, at_last, shr_vals, mut_vals, mut_Tells, shr_Tells}
+use denote.Slice.{MutSlice, ShrSlice, shr_slice_vals, mut_slice_vals, finally, mut_slice_Tells, shr_slice_Tells, mut_slice_Lawful, shr_slice_Lawful}
 use denote.Steps.{nothing, owned}
 use denote.Struct.Declared.{row}
 use denote.Struct.Laws as LL
@@ -31,8 +32,8 @@ use denote.Exit.{yes}
 use denote.Signature.{Slot, plain, types_at}
 use denote.Triple.End.{Fins, Outs, outs, lasts_of, all}
 use denote.Triple.Walked.{Stays, stay_dropped, fits_of, has_of, AllGo, Goes-ref, Goes-dropped, Goes-gave_slice}
-use Rattle.walks.proofs.Steps.{ptr_of, slice_of, as_long, looked, shut, freed}
-use Rattle.walks.proofs.Parameters.{Lendable, Kind, number, struct, slice, area, lifetimes, handed, handed_lfts, handed_shares, Life, Param, passed, copied, shared, given, Ahead, past_number, past_struct, past_slice, past_area, own, params, Areas, locals, param_types, temp_types, skip, copying, operands, inners, Rows, left_in, inner_vals}
+use Rattle.walks.proofs.Steps.{ptr_of, read_ptr_of, slice_of, read_slice_of, as_long, looked, shut, freed}
+use Rattle.walks.proofs.Parameters.{Lendable, Kind, number, struct, slice, area, lifetimes, handed, handed_lfts, handed_shares, Life, Param, passed, copied, shared, given, Ahead, past_number, past_struct, past_slice, past_area, own, params, Areas, locals, param_types, temp_types, skip, skip_temps, copying, operands, inners, Rows, left_in, inner_vals}
 
 -- ---- locals: where each lies, and what it holds
 
@@ -73,6 +74,13 @@ module _ {n m : ℕ} where
   pub at_skip : (i : ℕ) (xs : List (Param n m)) (bs : Each ℕ (param_types xs)) {E F : List (Ty × ℕ)} → At E i (env (param_types xs) bs F) → At E (skip i xs) F
   at_skip i [] bs h = h
   at_skip i (x ∷ xs) bs h = at_skip (suc i) xs bs.1 (at_next h)
+
+  pub at_skip_temps : (t : ℕ) (xs : List (Param n m)) (cs : Each ℕ (temp_types xs)) {E F : List (Ty × ℕ)} → At E t (env (temp_types xs) cs F) → At E (skip_temps t xs) F
+  at_skip_temps t [] cs h = h
+  at_skip_temps t (passed w ∷ xs) cs h = at_skip_temps t xs cs h
+  at_skip_temps t (copied ℓ S ∷ xs) cs h = at_skip_temps (suc t) xs cs.1 (at_next h)
+  at_skip_temps t (shared ℓ i w ∷ xs) cs h = at_skip_temps t xs cs h
+  at_skip_temps t (given ℓ i ∷ xs) cs h = at_skip_temps (suc (suc t)) xs cs.1.1 (at_next (at_next h))
 
   -- the tokens of the structs
   abbrev pub read_toks : Lfts n → Shares n → List (Param n m) → Fml
@@ -160,6 +168,10 @@ module _ {M : Type 1} {𝓤 : Ura M} (𝓛 : Logic 𝓤) {n m : ℕ} (κs : Lfts
   toks_back (area ∷ ks) v = qed 𝓛 (Toks (area ∷ ks) v ∷ []) ∵ split3 ! $ move ! (1 ∷ []) $ use1 𝓛 (‵ (flft (v.lfts κs).0 (v.shares qs).0) ⊛ raw (lent_toks ks (past_area v))) (id⊢ 𝓤 _) $ split ! $
       move ! (1 ∷ 3 ∷ []) $ join ! $ move ! (2 ∷ 0 ∷ []) $ join ! $ use1 𝓛 (raw (all_toks ks (past_area v))) (toks_back ks (past_area v)) $ move ! (1 ∷ []) $ done !
 
+-- the borrow of an area, which is had again once the callee has returned
+abbrev pub area_bor : Lft → MutBor (List ℕ) → Fml
+area_bor κ x = fbor κ (Holds (Arr (Holey (mem u8)) (length x.now)) x.ref_ptr.0 x.ref_ptr.1 x.ghost_name)
+
 -- ---- the call's parameters: those, and the answer N at the lifetime o
 
 module _ {n m : ℕ} (N : Lendable) (o : Life n) where
@@ -178,7 +190,7 @@ module _ {n m : ℕ} (N : Lendable) (o : Life n) where
   stays (passed w ∷ xs) = (stay_dropped (slot (passed w)) yes, stays xs)
   stays (copied ℓ S ∷ xs) = (stay_dropped (slot (copied ℓ S)) yes, stays xs)
   stays (shared ℓ i w ∷ xs) = (stay_dropped (slot (shared ℓ i w)) yes, stays xs)
-  stays (given ℓ i ∷ xs) = (record { fit = λ κs x ws. length ws ≡ length x.now; has = λ κs x ws vs. finally u8 x.ghost_name ws }, stays xs)
+  stays (given ℓ i ∷ xs) = (record { fit = λ κs x ws. length ws ≡ length x.now; has = λ κs x ws vs. fsep (finally u8 x.ghost_name ws) (area_bor (ℓ.lft κs) x) }, stays xs)
 
   module _ {M : Type 1} {𝓤 : Ura M} (𝓛 : Logic 𝓤) where
     pub goes : (xs : List (Param n m)) → AllGo 𝓛 n (slots xs) (all yes (slots xs)) (stays xs)
@@ -192,7 +204,7 @@ module _ {n m : ℕ} (N : Lendable) (o : Life n) where
     abbrev pub Types : List (Param n m) → List RattleType
     Types xs = types_at (slots xs) κs
 
-    abbrev pub answer : (xs : List (Param n m)) → Denots (Types xs) → Bor N.decl.D
+    abbrev pub answer : (xs : List (Param n m)) → Denots (Types xs) → MutBor N.decl.D
     answer [] a = a.0
     answer (x ∷ xs) a = answer xs a.1
 
@@ -247,11 +259,11 @@ module _ {n m : ℕ} (N : Lendable) (o : Life n) where
 
     -- the machine values of what is passed
     abbrev pub spells : (xs : List (Param n m)) → Spells (Types xs)
-    spells [] = (shr_vals, tt)
+    spells [] = (mut_vals, tt)
     spells (passed w ∷ xs) = (uint_vals w, spells xs)
     spells (copied ℓ S ∷ xs) = (shr_vals, spells xs)
     spells (shared ℓ i w ∷ xs) = (shr_slice_vals, spells xs)
-    spells (given ℓ i ∷ xs) = (shr_slice_vals, spells xs)
+    spells (given ℓ i ∷ xs) = (mut_slice_vals, spells xs)
 
     pub tells : (xs : List (Param n m)) → Tellss (Types xs) (Ises (Types xs)) (spells xs)
     tells [] = (mut_Tells (named o.index) (o.lft κs) (row N.decl), tt)
@@ -267,8 +279,8 @@ module _ {n m : ℕ} (N : Lendable) (o : Life n) where
     abbrev pub param_vals : (xs : List (Param n m)) → Denots (Types xs) → Each Val (param_types xs)
     param_vals [] a = tt
     param_vals (passed w ∷ xs) a = (vint w a.0, param_vals xs a.1)
-    param_vals (copied ℓ S ∷ xs) a = (ptr_of a.0, param_vals xs a.1)
-    param_vals (shared ℓ i w ∷ xs) a = (slice_of a.0, param_vals xs a.1)
+    param_vals (copied ℓ S ∷ xs) a = (read_ptr_of a.0, param_vals xs a.1)
+    param_vals (shared ℓ i w ∷ xs) a = (read_slice_of a.0, param_vals xs a.1)
     param_vals (given ℓ i ∷ xs) a = (slice_of a.0, param_vals xs a.1)
 
     abbrev pub temp_vals : (xs : List (Param n m)) → Denots (Types xs) → Each Val (temp_types xs)
@@ -282,7 +294,7 @@ module _ {n m : ℕ} (N : Lendable) (o : Life n) where
     abbrev pub borrows : (xs : List (Param n m)) → Denots (Types xs) → Fml
     borrows [] a = ftrue
     borrows (passed w ∷ xs) a = borrows xs a.1
-    borrows (copied ℓ S ∷ xs) a = fsep (fshr_bor (ℓ.lft κs) (λ s. part_at (row S.decl) s a.0.now a.0.ref_ptr.0 a.0.ref_ptr.1)) (borrows xs a.1)
+    borrows (copied ℓ S ∷ xs) a = fsep (hidden_shr (row S.decl) (ℓ.lft κs) a.0.now a.0.ref_ptr.0 a.0.ref_ptr.1) (borrows xs a.1)
     borrows (shared ℓ i w ∷ xs) a = borrows xs a.1
     borrows (given ℓ i ∷ xs) a = borrows xs a.1
 
@@ -291,14 +303,14 @@ module _ {n m : ℕ} (N : Lendable) (o : Life n) where
     slices (passed w ∷ xs) a = slices xs a.1
     slices (copied ℓ S ∷ xs) a = slices xs a.1
     slices (shared ℓ i w ∷ xs) a = fsep ((ShrSlice (named ℓ.index) (ℓ.lft κs) (UInt w)).own_val a.0 (shr_slice_vals a.0)) (slices xs a.1)
-    slices (given ℓ i ∷ xs) a = fsep ((MutSlice (named ℓ.index) (ℓ.lft κs) u8).own_val a.0 (shr_slice_vals a.0)) (slices xs a.1)
+    slices (given ℓ i ∷ xs) a = fsep ((MutSlice (named ℓ.index) (ℓ.lft κs) u8).own_val a.0 (mut_slice_vals a.0)) (slices xs a.1)
 
     abbrev pub finals : (xs : List (Param n m)) → Denots (Types xs) → Areas xs → Fml
     finals [] a zs = ftrue
     finals (passed w ∷ xs) a zs = finals xs a.1 zs
     finals (copied ℓ S ∷ xs) a zs = finals xs a.1 zs
     finals (shared ℓ i w ∷ xs) a zs = finals xs a.1 zs
-    finals (given ℓ i ∷ xs) a zs = fsep (finally u8 a.0.ghost_name zs.0) (finals xs a.1 zs.1)
+    finals (given ℓ i ∷ xs) a zs = fsep (fsep (finally u8 a.0.ghost_name zs.0) (area_bor (ℓ.lft κs) a.0)) (finals xs a.1 zs.1)
 
     -- what is known of the numbers and of the copies
     abbrev pub Known : (xs : List (Param n m)) → Denots (Types xs) → Type 0
@@ -318,11 +330,11 @@ module _ {n m : ℕ} (N : Lendable) (o : Life n) where
 
       pub begins : (xs : List (Param n m)) (a : Denots (Types xs)) {Γ : List (Item 𝓤)} {G : Goal 𝓤 H}
           → Sq 𝓛 (‵ (borrows xs a) ∷ ‵ (slices xs a) ∷ ‵ (fobs (answer xs a).ghost_name ((row N.decl).coded.code (answer xs a).now))
-          ∷ ‵ (fbor (o.lft κs) (Holds (mem (row N.decl)) (answer xs a).ptr.0 (answer xs a).ptr.1 (answer xs a).name)) ∷ Γ) G
+          ∷ ‵ (fbor (o.lft κs) (Holds (mem (row N.decl)) (answer xs a).ref_ptr.0 (answer xs a).ref_ptr.1 (answer xs a).ghost_name)) ∷ Γ) G
           → Sq 𝓛 (‵ (owns (Types xs) a (vals xs a)) ∷ Γ) G
       begins [] a s = fsplit ! $ fsplit3 ! $ drop ! $ move ! (2 ∷ []) $ nothing ! $ s
       begins (passed w ∷ xs) a s = fsplit ! $ drop ! $ begins xs a.1 s
-      begins (copied ℓ S ∷ xs) a s = fsplit ! $ fsplit3 ! $ drop ! $ drop ! $ move ! (1 ∷ []) $ begins xs a.1 (move ! (4 ∷ 0 ∷ []) $ fjoin ! $ s)
+      begins (copied ℓ S ∷ xs) a s = fsplit ! $ fsplit ! $ drop ! $ move ! (1 ∷ []) $ begins xs a.1 (move ! (4 ∷ 0 ∷ []) $ fjoin ! $ s)
       begins (shared ℓ i w ∷ xs) a s = fsplit ! $ move ! (1 ∷ []) $ begins xs a.1 (move ! (4 ∷ 1 ∷ []) $ fjoin ! $ move ! (1 ∷ []) $ s)
       begins (given ℓ i ∷ xs) a s = fsplit ! $ move ! (1 ∷ []) $ begins xs a.1 (move ! (4 ∷ 1 ∷ []) $ fjoin ! $ move ! (1 ∷ []) $ s)
 
@@ -345,10 +357,10 @@ module _ {n m : ℕ} (N : Lendable) (o : Life n) where
       all_passed (shared ℓ i w ∷ xs) a bs is s = fsplit ! $ fsplit ! $ pass1 ! (init ! 0 refl ((shr_slice_Lawful 𝓛 (named ℓ.index) (ℓ.lft κs) (UInt w)).typed a.0 _ is.0).0) $ move ! (2 ∷ []) $ all_passed xs a.1 bs.1 is.1 (move ! (1 ∷ 2 ∷ []) $ fjoin ! $ fjoin ! $ s)
       all_passed (given ℓ i ∷ xs) a bs is s = fsplit ! $ fsplit ! $ pass1 ! (init ! 0 refl ((mut_slice_Lawful 𝓛 (named ℓ.index) (ℓ.lft κs) u8).typed a.0 _ is.0).0) $ move ! (2 ∷ []) $ all_passed xs a.1 bs.1 is.1 (move ! (1 ∷ 2 ∷ []) $ fjoin ! $ fjoin ! $ s)
 
-      module _ {E : Env 𝓤 H} (F : Env 𝓤 H) where
+      module _ {E : Env 𝓤 H} (F G : Env 𝓤 H) where
         -- each struct that is lent is copied, and each area lent on
         pub all_copied : {C : Calls 𝓤 H} {Λ : Loops 𝓤 H} {rest : Body} {e : Post 𝓤 H} (i t : ℕ) (xs : List (Param n m)) (qs : Shares n) (a : Denots (Types xs)) (bs : Each ℕ (param_types xs)) (cs : Each ℕ (temp_types xs))
-            → At E i (env (param_types xs) bs F) → At E t (env (temp_types xs) cs []) → Are (Types xs) (Ises (Types xs)) a (vals xs a) → {Γ : List (Item 𝓤)}
+            → At E i (env (param_types xs) bs F) → At E t (env (temp_types xs) cs G) → Are (Types xs) (Ises (Types xs)) a (vals xs a) → {Γ : List (Item 𝓤)}
             → (Known xs a → Sq 𝓛 (‵ (cells (temp_types xs) cs (temp_vals xs a)) ∷ ‵ (cells (param_types xs) bs (param_vals xs a)) ∷ ‵ (read_toks κs qs xs) ∷ Γ) (runs C Λ E rest e))
             → Sq 𝓛 (‵ (rooms (temp_types xs) cs) ∷ ‵ (cells (param_types xs) bs (param_vals xs a)) ∷ ‵ (borrows xs a) ∷ ‵ (read_toks κs qs xs) ∷ Γ) (runs C Λ E (copying i t xs rest) e)
         all_copied i t [] qs a bs cs at_p at-t is k = move ! (2 ∷ []) $ drop ! $ k tt
@@ -382,25 +394,27 @@ module _ {n m : ℕ} (N : Lendable) (o : Life n) where
         gives (shared ℓ i w ∷ xs) e a known s = fsplit ! $ use1 𝓛 (‵ ((ShrSlice (named i.index) (i.lft κi) (UInt w)).own_val a.0 (shr_slice_vals a.0)))
             (subst (λ (κ : Lft). ent 𝓤 (sem 𝓛 ((ShrSlice (named ℓ.index) (ℓ.lft κs) (UInt w)).own_val a.0 (shr_slice_vals a.0))) (sem 𝓛 ((ShrSlice (named i.index) κ (UInt w)).own_val a.0 (shr_slice_vals a.0)))) e.0 (id⊢ 𝓤 _)) $
             move ! (1 ∷ []) $ gives xs e.1 a.1 known (move ! (1 ∷ 0 ∷ []) $ fjoin ! $ s)
-        gives (given ℓ i ∷ xs) e a known s = fsplit ! $ use1 𝓛 (‵ ((MutSlice (named i.index) (i.lft κi) u8).own_val a.0 (shr_slice_vals a.0)))
-            (subst (λ (κ : Lft). ent 𝓤 (sem 𝓛 ((MutSlice (named ℓ.index) (ℓ.lft κs) u8).own_val a.0 (shr_slice_vals a.0))) (sem 𝓛 ((MutSlice (named i.index) κ u8).own_val a.0 (shr_slice_vals a.0)))) e.0 (id⊢ 𝓤 _)) $
+        gives (given ℓ i ∷ xs) e a known s = fsplit ! $ use1 𝓛 (‵ ((MutSlice (named i.index) (i.lft κi) u8).own_val a.0 (mut_slice_vals a.0)))
+            (subst (λ (κ : Lft). ent 𝓤 (sem 𝓛 ((MutSlice (named ℓ.index) (ℓ.lft κs) u8).own_val a.0 (mut_slice_vals a.0))) (sem 𝓛 ((MutSlice (named i.index) κ u8).own_val a.0 (mut_slice_vals a.0)))) e.0 (id⊢ 𝓤 _)) $
             move ! (1 ∷ []) $ gives xs e.1 a.1 known (move ! (1 ∷ 0 ∷ []) $ fjoin ! $ s)
 
         -- and what it leaves in the areas
-        pub leaves : (xs : List (Param n m)) (a : Denots (Types xs)) (ws : Fins κi (inners xs) (all yes (inners xs)) (handed_on κi xs a)) {Γ : List (Item 𝓤)} {G : Goal 𝓤 H}
+        pub leaves : (xs : List (Param n m)) → Agree κs κi xs → (a : Denots (Types xs)) (ws : Fins κi (inners xs) (all yes (inners xs)) (handed_on κi xs a)) {Γ : List (Item 𝓤)} {G : Goal 𝓤 H}
             → (AsLong xs a (Left κi xs a ws) → Sq 𝓛 (‵ (finals xs a (Left κi xs a ws)) ∷ Γ) G) → Sq 𝓛 (‵ (lasts_of κi (inners xs) (all yes (inners xs)) (handed_on κi xs a) ws) ∷ Γ) G
-        leaves [] a ws k = k tt
-        leaves (passed w ∷ xs) a ws k = fsplit ! $ drop ! $ leaves xs a.1 ws.1 k
-        leaves (copied ℓ S ∷ xs) a ws k = fsplit ! $ drop ! $ leaves xs a.1 ws.1 k
-        leaves (shared ℓ i w ∷ xs) a ws k = fsplit ! $ drop ! $ leaves xs a.1 ws.1 k
-        leaves (given ℓ i ∷ xs) a ws k = fsplit ! $ as_long ! (λ long. move ! (1 ∷ []) $ leaves xs a.1 ws.1 (λ ls. move ! (1 ∷ 0 ∷ []) $ fjoin ! $ k (long, ls)))
+        leaves [] e a ws k = k tt
+        leaves (passed w ∷ xs) e a ws k = fsplit ! $ drop ! $ leaves xs e a.1 ws.1 k
+        leaves (copied ℓ S ∷ xs) e a ws k = fsplit ! $ drop ! $ leaves xs e a.1 ws.1 k
+        leaves (shared ℓ i w ∷ xs) e a ws k = fsplit ! $ drop ! $ leaves xs e.1 a.1 ws.1 k
+        leaves (given ℓ i ∷ xs) e a ws k = fsplit ! $ fsplit ! $ as_long ! (λ long. move ! (1 ∷ []) $ use1 𝓛 (‵ (area_bor (ℓ.lft κs) a.0))
+            (subst (λ (κ : Lft). ent 𝓤 (sem 𝓛 (area_bor (i.lft κi) a.0)) (sem 𝓛 (area_bor κ a.0))) (sym e.0) (id⊢ 𝓤 _)) $
+            move ! (1 ∷ 0 ∷ []) $ fjoin ! $ move ! (1 ∷ []) $ leaves xs e.1 a.1 ws.1 (λ ls. move ! (1 ∷ 0 ∷ []) $ fjoin ! $ k (long, ls)))
 
         -- the operands are read
-        pub all_read : {E : Env 𝓤 H} (F : Env 𝓤 H) (i t : ℕ) (xs : List (Param n m)) (a : Denots (Types xs)) (bs : Each ℕ (param_types xs)) (cs : Each ℕ (temp_types xs))
-            → At E i (env (param_types xs) bs F) → At E t (env (temp_types xs) cs []) → {Γ : List (Item 𝓤)}
+        pub all_read : {E : Env 𝓤 H} (F G : Env 𝓤 H) (i t : ℕ) (xs : List (Param n m)) (a : Denots (Types xs)) (bs : Each ℕ (param_types xs)) (cs : Each ℕ (temp_types xs))
+            → At E i (env (param_types xs) bs F) → At E t (env (temp_types xs) cs G) → {Γ : List (Item 𝓤)}
             → Opds (Go {0}) 𝓛 (‵ (cells (temp_types xs) cs (temp_vals xs a)) ∷ ‵ (cells (param_types xs) bs (param_vals xs a)) ∷ Γ) E (operands i t xs) (flat (Rows κi xs) (inner_vals κi xs (handed_on κi xs a)))
-        all_read F i t [] a bs cs at_p at-t = no_more !
-        all_read F i t (passed w ∷ xs) a bs cs at_p at-t = in_param (and_then ! (load ! (from_at at_p (stop !)) (look ! 2 refl)) (all_read F (suc i) t xs a.1 bs.1 cs (at_next at_p) at-t))
-        all_read F i t (copied ℓ S ∷ xs) a bs cs at_p at-t = in_temp (and_then ! (load ! (from_at at-t (stop !)) (look ! 2 refl)) (all_read F (suc i) (suc t) xs a.1 bs.1 cs.1 (at_next at_p) (at_next at-t)))
-        all_read F i t (shared ℓ h w ∷ xs) a bs cs at_p at-t = in_param (and_then ! (load ! (from_at at_p (stop !)) (look ! 2 refl)) (all_read F (suc i) t xs a.1 bs.1 cs (at_next at_p) at-t))
-        all_read F i t (given ℓ h ∷ xs) a bs cs at_p at-t = in_second (and_then ! (load ! (from_at (at_next at-t) (stop !)) (look ! 2 refl)) (all_read F (suc i) (suc (suc t)) xs a.1 bs.1 cs.1.1 (at_next at_p) (at_next (at_next at-t))))
+        all_read F G i t [] a bs cs at_p at-t = no_more !
+        all_read F G i t (passed w ∷ xs) a bs cs at_p at-t = in_param (and_then ! (load ! (from_at at_p (stop !)) (look ! 2 refl)) (all_read F G (suc i) t xs a.1 bs.1 cs (at_next at_p) at-t))
+        all_read F G i t (copied ℓ S ∷ xs) a bs cs at_p at-t = in_temp (and_then ! (load ! (from_at at-t (stop !)) (look ! 2 refl)) (all_read F G (suc i) (suc t) xs a.1 bs.1 cs.1 (at_next at_p) (at_next at-t)))
+        all_read F G i t (shared ℓ h w ∷ xs) a bs cs at_p at-t = in_param (and_then ! (load ! (from_at at_p (stop !)) (look ! 2 refl)) (all_read F G (suc i) t xs a.1 bs.1 cs (at_next at_p) at-t))
+        all_read F G i t (given ℓ h ∷ xs) a bs cs at_p at-t = in_second (and_then ! (load ! (from_at (at_next at-t) (stop !)) (look ! 2 refl)) (all_read F G (suc i) (suc (suc t)) xs a.1 bs.1 cs.1.1 (at_next at_p) (at_next (at_next at-t))))

@@ -10,7 +10,7 @@ use denote.RattleType.{RattleType, Denots, Valss}
 use denote.Memory.{pointee}
 use denote.Plain.{UInt}
 use denote.Builtin.{u8}
-use denote.Slice.{MutSlice, ShrSlice, slice_ty, shr_slice_vals}
+use denote.Slice.{MutSlice, ShrSlice, slice_ty, shr_slice_vals, mut_slice_vals}
 use denote.Struct.Struct.{Plains, layout}
 use denote.Struct.Declared.{Declared, fields, row, shape}
 use denote.Struct.Laws as LL
@@ -174,6 +174,14 @@ module _ {n m : ℕ} where
   skip i [] = i
   skip i (x ∷ xs) = skip (suc i) xs
 
+  -- the local after the temporaries that begin at t
+  abbrev pub skip_temps : ℕ → List (Param n m) → ℕ
+  skip_temps t [] = t
+  skip_temps t (passed w ∷ xs) = skip_temps t xs
+  skip_temps t (copied ℓ S ∷ xs) = skip_temps (suc t) xs
+  skip_temps t (shared ℓ i w ∷ xs) = skip_temps t xs
+  skip_temps t (given ℓ i ∷ xs) = skip_temps (suc (suc t)) xs
+
   -- with the parameters from the local i on and the temporaries from t on: the temporaries are filled; what is passed
   abbrev pub copying : ℕ → ℕ → List (Param n m) → Body → Body
   copying i t [] b = b
@@ -223,4 +231,4 @@ module _ {n m : ℕ} where
     inner_vals (passed w ∷ xs) a = (vint w a.0 ∷ [], inner_vals xs a.1)
     inner_vals (copied ℓ S ∷ xs) a = (LL.vals S.decl S.laws a.0, inner_vals xs a.1)
     inner_vals (shared ℓ i w ∷ xs) a = (shr_slice_vals a.0, inner_vals xs a.1)
-    inner_vals (given ℓ i ∷ xs) a = (shr_slice_vals a.0, inner_vals xs a.1)
+    inner_vals (given ℓ i ∷ xs) a = (mut_slice_vals a.0, inner_vals xs a.1)

@@ -7,15 +7,15 @@ use mathlib.Core.List.{[], ◌∷◌, List}
 use lib.Dec.{T}
 use lib.ListN.{length}
 use seplogic.Ra.Ura.{Ura}
-use seplogic.Ra.TreeShare.{full_share}
-use mir.Syntax.{Fn, Ty, Place, Body, Opd as Operand, Rv as RValue, skip, seq, assign, cond}
+use base.Fraction.{full_share}
+use mir.Syntax.{Callee, Fn, Ty, Place, Body, Opd as Operand, Rv as RValue, skip, seq, assign, cond}
 use mir.Raw.{raw as raw_ty}
 use mir.Val.{Val, vbool, vptr, WT, has_ty}
 use base.Logic.{SProp, ent, sep, emp, id⊢, via, comm∗, emp∗, fst∗, mono_r}
 use base.Stored.{Gv}
-use base.Fml.{Lft, GName, Share, Fml, feq, fsep, flft, fobs, fauth, fbor, fobor, fshr_bor, fat, fdies}
+use base.Fml.{Lft, GName, Share, Fml, feq, fsep, flft, fobs, fauth, fbor, fobor, fat, fdies}
 use prog.Model.{Model}
-use prog.Routine.{Name, Env as Routines}
+use prog.Routine.{Env as Routines}
 use prog.Wp.{Calls, Loops, Env, WpFn, Tables, Closed}
 use types.Logic.{Logic}
 use contract.Running.{Running, tables, tables_of}
@@ -25,9 +25,10 @@ use types.Run.{Opd, Rv, Finds, store_raw, assigns_last, first, skips, branches, 
 use types.SemTy.{Body as Holds}
 use sound.WpLaws.{FmC, fm_of, WpFn-mono}
 use denote.RattleType.{RattleType, flat}
-use denote.Memory.{mem, cell_at, part_at}
+use denote.Memory.{mem, cell_at, part_at, hidden_shr}
+use denote.Opens.{Shut}
 use denote.Laws.{Is, Ises, Are, Spells, valss, Tells, Tellss, shows}
-use denote.Ref.{MutBor}
+use denote.Ref.{Bor, MutBor}
 use denote.Slice.{slice_val}
 use denote.Signature.{type_at, types_at}
 use denote.Steps.{only, opens, closes, looks, shuts, owned, facts}
@@ -41,12 +42,18 @@ use denote.Triple.Table.{entered}
 use denote.Triple.Clauses.{Clauses, Ended, Lasts, at_exit, lasts, closing}
 use denote.Triple.Walked.{Stays, AllGo, walk_of, walked, walk_Meets}
 
--- the machine values of a reference and of a slice
+-- the machine values of a reference and of a slice, lent by `&mut` and by `&`
 abbrev pub ptr_of : {X : Type 0} → MutBor X → Val
-ptr_of x = vptr x.ptr.0 x.ptr.1
+ptr_of x = vptr x.ref_ptr.0 x.ref_ptr.1
+
+abbrev pub read_ptr_of : {X : Type 0} → Bor X → Val
+read_ptr_of x = vptr x.ref_ptr.0 x.ref_ptr.1
 
 abbrev pub slice_of : MutBor (List ℕ) → Val
 slice_of s = slice_val s.ref_ptr (length s.now)
+
+abbrev pub read_slice_of : Bor (List ℕ) → Val
+read_slice_of s = slice_val s.ref_ptr (length s.now)
 
 -- a `&mut` that is held at the record h, with its lifetime's token, before what else is held
 abbrev pub lent : {M : Type 1} {𝓤 : Ura M} (R : RattleType) (κ : Lft) (q : Share) (x : MutBor R.Denot) (h : R.Denot) → List (Item 𝓤) → List (Item 𝓤)
@@ -71,13 +78,13 @@ module _ {M : Type 1} {𝓤 : Ura M} {𝓛 : Logic 𝓤} {K : Type 0} {Γ : List
 
     -- a `&` is looked into, and shut
     pub looked : K → Soaks G → (T : Declared) (L : LL.Laws T) → LL.Copyables T.parts → {κ : Lft} {q : Share} (h : T.D) (b o : ℕ)
-        → ((q' : Share) → Is (row T) h (LL.vals T L h) → Seq K 𝓛 (‵ (cell_at q' (row T).mir (LL.vals T L h) b o) ∷ ‵ (fobor κ q (part_at (row T) q' h b o)) ∷ ‵ (fshr_bor κ (λ s. part_at (row T) s h b o)) ∷ Γ) G)
-        → Seq K 𝓛 (‵ (fshr_bor κ (λ s. part_at (row T) s h b o)) ∷ ‵ (flft κ q) ∷ Γ) G
-    looked t z T L cp h b o k = looks t z (row T) (Is (row T)) (shows 𝓛 (row T)) (LL.vals T L) (LL.tells T L) (LL.copy T cp 𝓛) h b o (λ q' vs.
+        → ((q' : Share) → Is (row T) h (LL.vals T L h) → Seq K 𝓛 (‵ (cell_at q' (row T).mir (LL.vals T L h) b o) ∷ Shut 𝓛 κ q (part_at (row T) q' h b o) ∷ ‵ (hidden_shr (row T) κ h b o) ∷ Γ) G)
+        → Seq K 𝓛 (‵ (hidden_shr (row T) κ h b o) ∷ ‵ (flft κ q) ∷ Γ) G
+    looked t z T L cp h b o k = looks t z (row T) (LL.copied T cp 𝓛).opens h b o (λ q' vs.
         spelt t (row T) (Is (row T)) (shows 𝓛 (row T)) (LL.vals T L) (LL.tells T L) q' h vs b o $ move t (1 ∷ []) $ facts t (row T) (Is (row T)) (shows 𝓛 (row T)) h (LL.vals T L h) (k q'))
 
     pub shut : K → Soaks G → (T : Declared) (L : LL.Laws T) → Plains (fields T) → {κ : Lft} {q : Share} (q' : Share) (h : T.D) → Is (row T) h (LL.vals T L h) → (b o : ℕ)
-        → Step K 𝓛 (‵ (flft κ q) ∷ Γ) G (‵ (cell_at q' (row T).mir (LL.vals T L h) b o) ∷ ‵ (fobor κ q (part_at (row T) q' h b o)) ∷ Γ) G
+        → Step K 𝓛 (‵ (flft κ q) ∷ Γ) G (‵ (cell_at q' (row T).mir (LL.vals T L h) b o) ∷ Shut 𝓛 κ q (part_at (row T) q' h b o) ∷ Γ) G
     shut t z T L pl q' h is b o = step (λ s. owned t (row T) (Is (row T)) (LL.makes T pl 𝓛) h (LL.vals T L h) is $ move t (1 ∷ 0 ∷ []) $ shuts t z (row T) q' h (LL.vals T L h) b o $ s)
 
     -- a callee says that a slice's last list is as long as the list passed
@@ -96,7 +103,7 @@ module _ {M : Type 1} {𝓤 : Ura M} {𝓛 : Logic 𝓤} {K : Type 0} {Γ : List
 
   -- what a callee returns lands as the machine value that its type's relation tells
   pub told : K → (R : RattleType) (val : R.Denot → Val) → Tells R (Is R) (λ x. val x ∷ []) → (r : R.Denot) (u : Val) {C : Calls 𝓤 H} {Λ : Loops 𝓤 H} {E : Env 𝓤 H} {d : Place} {rest : Body} {q : Post 𝓤 H}
-      → (Is R r (val r ∷ []) → Seq K 𝓛 Γ (lands C Λ E d (val r) rest q)) → Seq K 𝓛 (‵ (R.own r (u ∷ [])) ∷ Γ) (lands C Λ E d u rest q)
+      → (Is R r (val r ∷ []) → Seq K 𝓛 Γ (lands C Λ E d (val r) rest q)) → Seq K 𝓛 (‵ (R.own_val r (u ∷ [])) ∷ Γ) (lands C Λ E d u rest q)
   told t R val tells r u {C} {Λ} {E} {d} {rest} {q} k = facts t R (Is R) (shows 𝓛 R) r (u ∷ []) (λ is.
       subst (λ (v : Val). Seq K 𝓛 Γ (lands C Λ E d v rest q)) (sym (ap only (tells r (u ∷ []) is))) (k (subst (Is R r) (tells r (u ∷ []) is) is)))
 
@@ -127,7 +134,7 @@ pub asks : {M : Type 1} (𝓤 : Ura M) (P : SProp 𝓤) → ent 𝓤 P (sep 𝓤
 asks 𝓤 P = via 𝓤 (sep 𝓤 (emp 𝓤) P) (emp∗ 𝓤 P) (comm∗ 𝓤 (emp 𝓤) P)
 
 -- a walk from each choice of lifetimes, shares and arguments proves that the function meets its contract
-module _ {M : Type 1} {𝓤 : Ura M} (𝓛 : Logic 𝓤) (𝓜 : Model 𝓤 𝓛.H) (𝓡 : Running 𝓤 𝓛.H 𝓜) (T : Ended) (hs : Stays T.signature.params T.kept) (c : Clauses 𝓤 T) (γ : Routines) (k : Name) (f : Fn) where
+module _ {M : Type 1} {𝓤 : Ura M} (𝓛 : Logic 𝓤) (𝓜 : Model 𝓤 𝓛.H) (𝓡 : Running 𝓤 𝓛.H 𝓜) (T : Ended) (hs : Stays T.signature.params T.kept) (c : Clauses 𝓤 T) (γ : Routines) (k : Callee) (f : Fn) where
   open 𝓛 use {H}
 
   abbrev Types : Lfts T.signature.lifetimes → List RattleType

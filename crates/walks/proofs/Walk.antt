@@ -5,17 +5,16 @@ pub use mathlib.Core.List.{[], ◌∷◌, List}
 pub use lib.ListN.{length, drop as dropped}
 pub use lib.Dec.{nltb→le}
 pub use seplogic.Ra.Ura.{Ura}
-pub use mir.Syntax.{named, erased, w64, Name, ty_unit, local, value_local, place, deref, copy, opd_unit, rv_opd, seq, assign, call, return, Fn, Ty, field, Opd as Operand}
-pub use mir.Val.{Val, vint, vunit, Vals, vbool, vfloat, vptr, vstruct, vnil}
+pub use mir.Syntax.{named, erased, w64, Callee as Key, ty_unit, local, value_local, place, deref, copy, opd_unit, rv_opd, seq, assign, call, return, Fn, Ty, field, Opd as Operand}
+pub use mir.Val.{Val, vint, vunit, Vals, vbool, vfloat, vptr, vcode, vstruct, vnil}
 pub use base.Logic.{SProp, ent, id⊢, emp}
 pub use base.Fml.{Lft, Share, Fml, ftrue, flft, fres, fsep}
 pub use prog.Memory.{Memory, field_of}
 pub use prog.Routine.{Routine, Env as Routines}
 pub use prog.Wp.{Heap, Calls, Loops, WpFn, Env, Closed}
-pub use ghost.Atoms.{Atoms}
 pub use contract.Monad.{Fun, fact}
-pub use contract.Running.{given_of, tables, GhostRules, Running}
-pub use types.Kit.{Given, Item, ‵, raw, ◌⊛◌, ⋆, ◌$◌, ◌∵◌, !, qed, by, move, keep, drop, use1, split, join, fsplit, fsplit3, fjoin, fjoin3, feq_i, suffices, frame, done, split3, Go}
+pub use contract.Running.{tables, Running}
+pub use types.Kit.{Item, ‵, raw, ◌⊛◌, ⋆, ◌$◌, ◌∵◌, !, qed, by, move, keep, drop, use1, split, join, fsplit, fsplit3, fjoin, fjoin3, feq_i, suffices, frame, done, split3, Go}
 pub use types.Run.{look, look_raw, init, store_raw, stop, hop, fld, from, load, lit, addr, of_opd, bin, unit_lit, and_then, no_more, assigns, land, returns, enter, alloc1, alloc0, params1, pass1, pass0, free0, Opd as Reading}
 pub use types.Part.{agg, whole, sub, look_in}
 pub use sound.WpLaws.{FmC}
@@ -34,7 +33,7 @@ pub use denote.Triple.Table.{cited}
 pub use denote.Triple.Walked.{says, Stays, stay_ref, stay_dropped, gave_ref, gave_slice, walk_of, Goes-ref, Goes-dropped, Goes-gave_ref, Goes-gave_slice, ends_at}
 pub use denote.Exit.{yes}
 pub use denote.Signature.{Slot, plain, shr_slice_of}
-pub use Rattle.walks.proofs.Steps.{ptr_of, slice_of, lent, opened, closed, as_long, answered, told, assigns_if, freed, asks, proves}
+pub use Rattle.walks.proofs.Steps.{ptr_of, read_ptr_of, slice_of, read_slice_of, lent, opened, closed, as_long, answered, told, assigns_if, freed, asks, proves}
 pub use prog.Model.{Model}
 pub use contract.Lifetimes.{Lfts, Shares, toks}
 pub use denote.Struct.Declared.{row}
