@@ -1,14 +1,8 @@
 -- `event` tests the table that it is lent, refuses an event by the first no of its questions, or carries it out.
-use Rattle.std.proofs.Common.{◌≡◌, true, List, ℕ, ◌≤◌, length, sym, ap, ◌∙◌}
-use Rattle.model.specs.Tables.{scratch_size, at}
-use Rattle.model.specs.Records.{decode}
-use Rattle.model.specs.WellFormed.{well_formed}
+use Rattle.std.proofs.Common.{◌≡◌, List, ℕ, sym, ap, ◌∙◌}
 use Rattle.model.specs.Questions.{first_no, step_questions}
-use Rattle.model.specs.declared.Controller.{Controller}
 use Rattle.model.specs.declared.Table.{Table}
-use Rattle.model.specs.declared.Event.{Event}
 use Rattle.model.specs.declared.Command.{Command}
-use Rattle.model.specs.declared.Command.TheVariants.{Act, Read}
 use Rattle.records.specs.Cuts.{record_of}
 use Rattle.records.specs.declared.Record.{Record}
 use Rattle.questions.specs.AtHand.{AtHand}

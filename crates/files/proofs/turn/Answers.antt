@@ -68,10 +68,7 @@ gone-requires-2 c =
     let z = sym (first_no_is _ _ _ _ _ _ f _ c.step_refusal-refusal.ensures) ∙ c.if-refusal-ne0.false in
     let e = sym (command_read _ _ _ f.record_is) ∙ c.in-Act.is in
     let d = carried _ _ _ _ _ _ c.requires.0.formed f z _ e _ _ c.carry_out-done.ensures in
-    let h =
-        written_within c.args.cursor c.args.t c.args.left.now c.args.listing.now c.args.scratch.now c.requires.0
-        (table_sized c.args.t _ c.well_formed.1.0) z _ e _ _ d _ _ c.list_line-put.ensures c.if-full-ne0.false
-    in
+    let h = written_within _ _ _ _ _ c.requires.0 (table_sized c.args.t _ c.well_formed.1.0) z _ e _ _ d _ _ c.list_line-put.ensures c.if-full-ne0.false in
     (omega (arith, c.requires.0.few), below _ _ _ h (omega arith))
 
 pub returns : goal.returns
