@@ -100,10 +100,10 @@ steps_acts : {n : ℕ} {s₀ : State} {t : Table} {l : Ledger} → Moment n s₀
     → acts_by n (foldl moved l xs) c ≡ acts_by n l c + acts_in c xs
 unfolding Course acts_in
 steps_acts m [] u p c h = omega arith
-steps_acts m (carried s e ms ∷ xs) u p c h = omega (
+steps_acts {t = t} m (carried s e ms ∷ xs) u p c h = omega (
   arith,
   acts_moved m.recorded c h (carried s e ms) p.0,
-  steps_acts (step-moment m (carried s e ms) p.0) xs u p.1 c h,
+  steps_acts {t = stepped t (carried s e ms)} (step-moment m (carried s e ms) p.0) xs u p.1 c h,
   tally-plus (eqb (subject e) c) (acts_in c xs),
 )
 

@@ -4,7 +4,7 @@ use mathlib.Core.Path.{◌≡◌, refl, sym, ap, ◌∙◌}
 use mathlib.Core.Logic.{◌≢◌, inl, inr}
 use mathlib.Core.Bool.{true, false}
 use mathlib.Core.List.{List, [], ◌∷◌, ◌++◌, foldl}
-use Prim.Native.Nat.{ℕ, zero, suc, ◌+◌, ◌-◌, ◌≤◌, ◌<◌}
+use Prim.Native.Nat.{ℕ, zero, suc, ◌+◌, ◌≤◌, ◌<◌}
 use native.Mathlib.Omega.{arith}
 use native.Mathlib.Decide.{dec_lt, ℕ_discrete}
 use lib.ListN.{length, get_or, take, length-append, length-take, get_or-append}
@@ -111,21 +111,22 @@ course_gone : {n : ℕ} {s₀ : State} {t : Table} {l : Ledger} → Moment n s�
     → length (l.log o) ≤ i → l.runs o ≡ false → (length ((foldl moved l xs).log o) ≤ i) × ((foldl moved l xs).runs o ≡ false)
 unfolding Course
 course_gone m [] u c o h i k r = (k, r)
-course_gone m (x ∷ xs) u c o h i k r =
+course_gone {t = t} m (x ∷ xs) u c o h i k r =
     let b = step_gone m.recorded o h i x c.0 k r in
-    course_gone (step-moment m x c.0) xs u c.1 o h i b.0 b.1
+    course_gone {t = stepped t x} (step-moment m x c.0) xs u c.1 o h i b.0 b.1
 
 -- what a stop cuts away is gone
 course_cut : {n : ℕ} {s₀ : State} {t : Table} {l : Ledger} → Moment n s₀ t l → (xs : List Step) (u : Table) → Course stepped Takes t xs u → (o : ℕ) → Among n o → (i : ℕ)
     → CutAway xs o i → length ((foldl moved l xs).log o) ≤ i
 unfolding Course CutAway
-course_cut m (carried s (Send c y) ms ∷ xs) u q o h i z = course_cut (step-moment m (carried s (Send c y) ms) q.0) xs u q.1 o h i z
-course_cut m (carried s (Handover r d) ms ∷ xs) u q o h i z = course_cut (step-moment m (carried s (Handover r d) ms) q.0) xs u q.1 o h i z
-course_cut {l = l} m (carried s (Stop c j) ms ∷ xs) u q o h i z =
+course_cut m [] u q o h i z = elim z [ ]
+course_cut {t = t} m (carried s (Send c y) ms ∷ xs) u q o h i z = course_cut {t = stepped t (carried s (Send c y) ms)} (step-moment m (carried s (Send c y) ms) q.0) xs u q.1 o h i z
+course_cut {t = t} m (carried s (Handover r d) ms ∷ xs) u q o h i z = course_cut {t = stepped t (carried s (Handover r d) ms)} (step-moment m (carried s (Handover r d) ms) q.0) xs u q.1 o h i z
+course_cut {t = t} {l = l} m (carried s (Stop c j) ms ∷ xs) u q o h i z =
     let k = step-moment m (carried s (Stop c j) ms) q.0 in
     elim z [
       | inl e ↦ let b = stopped_log l s c j ms in (course_gone k xs u q.1 o h i (rw (← e.0) (omega (arith, b.0, e.1))) (rw (← e.0) b.1)).0
-      | inr e ↦ course_cut k xs u q.1 o h i e
+      | inr e ↦ course_cut {t = stepped t (carried s (Stop c j) ms)} k xs u q.1 o h i e
     ]
 
 cut_later : (x : Step) (xs : List Step) (o i : ℕ) → CutAway xs o i → CutAway (x ∷ xs) o i
@@ -138,9 +139,9 @@ fate : {n : ℕ} {s₀ : State} {t : Table} {l : Ledger} → Moment n s₀ t l �
     → i < length (l.log o) → Fate l (foldl moved l xs) xs o i
 unfolding Course
 fate m [] u c o h i k = stands k refl
-fate m (x ∷ xs) u c o h i k = elim (step_fate m.recorded o h i x c.0 k xs) [
+fate {t = t} m (x ∷ xs) u c o h i k = elim (step_fate m.recorded o h i x c.0 k xs) [
   | gone z s r ↦ let b = course_gone (step-moment m x c.0) xs u c.1 o h i s r in gone z b.0 b.1
-  | stands s e ↦ elim (fate (step-moment m x c.0) xs u c.1 o h i s) [
+  | stands s e ↦ elim (fate {t = stepped t x} (step-moment m x c.0) xs u c.1 o h i s) [
     | stands s' e' ↦ stands s' (e' ∙ e)
     | gone z s r ↦ gone (cut_later x xs o i z) s r
   ]
@@ -166,7 +167,7 @@ unfolding Course acts_in stepped Takes
 others_leave m [] u c r h q = rw (← c) (record { same = refl; fewer = omega arith; messages = λ s k. refl })
 others_leave {n} {t = t} m (carried s e ms ∷ xs) u c r h q =
     let z = tally-plus (eqb (subject e) r) (acts_in r xs) in
-    let b = others_leave (step-moment m (carried s e ms) c.0) xs u c.1 r h (omega (arith, q, z)) in
+    let b = others_leave {t = next t e} (step-moment m (carried s e ms) c.0) xs u c.1 r h (omega (arith, q, z)) in
     let f = m.recorded.formed in
     let g : Among t.n r = rw m.recorded.size h in
     let d = next_messages t e in

@@ -141,7 +141,7 @@ calls_busy {n} {v} {t = t} m q (c ∷ cs) =
       ap handover_count (did-append v es more),
       handovers_append (did v es) (did v more),
       call_busy m.recorded v c,
-      calls_busy (moment-after m (did v es) (entries-taken t q es (left t c) course)) version cs,
+      calls_busy {t = left t c} (moment-after m (did v es) (entries-taken t q es (left t c) course)) version cs,
     )
 
 -- a file at the head of a list makes no call

@@ -114,26 +114,26 @@ module _ (n v r o : ℕ) where
       → (d : ℕ) (p : Pair) → 0 < d → d ≤ n * n → Read d p l es
   unfolding Course flat_map dispatch_in steps
   fair_course m q [] u c d p z le = λ _ _ _ _. inr z
-  fair_course {l = l} m q (answered s w a ∷ es) u c d p z le =
+  fair_course {t = t} {l = l} m q (answered s w a ∷ es) u c d p z le =
       let e = answered s w a in
       let f = past m q e c.0 in
-      passed l e es refl (fair_course f.0 f.1 es u c.1 d p z le)
-  fair_course {l = l} m q (observed x a ∷ es) u c d p z le =
+      passed l e es refl (fair_course {t = told t e} f.0 f.1 es u c.1 d p z le)
+  fair_course {t = t} {l = l} m q (observed x a ∷ es) u c d p z le =
       let e = observed x a in
       let f = past m q e c.0 in
-      passed l e es refl (fair_course f.0 f.1 es u c.1 d p z le)
-  fair_course {l = l} m q (served s a ∷ es) u c d p z le =
+      passed l e es refl (fair_course {t = told t e} f.0 f.1 es u c.1 d p z le)
+  fair_course {t = t} {l = l} m q (served s a ∷ es) u c d p z le =
       let e = served s a in
       let f = past m q e c.0 in
-      passed l e es refl (fair_course f.0 f.1 es u c.1 d p z le)
-  fair_course {l = l} m q (handed (committing x k w) y a ∷ es) u c d p z le =
+      passed l e es refl (fair_course {t = told t e} f.0 f.1 es u c.1 d p z le)
+  fair_course {t = t} {l = l} m q (handed (committing x k w) y a ∷ es) u c d p z le =
       let e = handed (committing x k w) y a in
       let f = past m q e c.0 in
-      passed l e es refl (fair_course f.0 f.1 es u c.1 d p z le)
-  fair_course {l = l} m q (listed s x ∷ es) u c d p z le =
+      passed l e es refl (fair_course {t = told t e} f.0 f.1 es u c.1 d p z le)
+  fair_course {t = t} {l = l} m q (listed s x ∷ es) u c d p z le =
       let e = listed s x in
       let f = past m q e c.0 in
-      passed l e es refl (fair_course f.0 f.1 es u c.1 d p z le)
-  fair_course m q (handed (dispatching x w) y a ∷ es) u c d p z le =
+      passed l e es refl (fair_course {t = told t e} f.0 f.1 es u c.1 d p z le)
+  fair_course {t = t} m q (handed (dispatching x w) y a ∷ es) u c d p z le =
       let f = past m q (handed (dispatching x w) y a) c.0 in
-      dispatched m d p x y w a es le c.0 (λ k z le. fair_course f.0 f.1 es u c.1 k y z le)
+      dispatched m d p x y w a es le c.0 (λ k z le. fair_course {t = told t (handed (dispatching x w) y a)} f.0 f.1 es u c.1 k y z le)

@@ -182,7 +182,7 @@ pub moment-after : {n : ℕ} {s₀ : State} {t u : Table} {l : Ledger} → Momen
     → Moment n s₀ u (foldl moved l xs)
 unfolding Course
 moment-after m [] p = rw (← p) m
-moment-after m (x ∷ xs) p = moment-after (step-moment m x p.0) xs p.1
+moment-after {t = t} m (x ∷ xs) p = moment-after {t = stepped t x} (step-moment m x p.0) xs p.1
 
 -- the same moment as a start of its own
 restarted : {n : ℕ} {s₀ : State} {t : Table} {l : Ledger} (m : Moment n s₀ t l) → Moment n m.state t l

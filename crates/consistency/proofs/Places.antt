@@ -2,7 +2,7 @@
 -- So a list has no more handovers than positions can move. Assumes nothing.
 use mathlib.Core.Path.{◌≡◌, refl, ap, ◌∙◌}
 use mathlib.Core.Logic.{◌≢◌, ◌⊎◌, inl, inr}
-use mathlib.Core.Bool.{true, false, cond, true≢false}
+use mathlib.Core.Bool.{cond, true≢false}
 use mathlib.Core.List.{List, [], ◌∷◌, ◌++◌, foldl}
 use Prim.Native.Nat.{ℕ, zero, suc, ◌+◌, ◌*◌, ◌≤◌, ◌<◌}
 use native.Mathlib.Nat.{mul-le-mul}
@@ -142,10 +142,10 @@ steps_total : {n : ℕ} {s₀ : State} {t : Table} {l : Ledger} → Moment n s�
     → total n (foldl moved l xs) ≡ total n l + handover_count xs
 unfolding Course handover_count
 steps_total m [] u p = omega arith
-steps_total m (carried s e ms ∷ xs) u p = omega (
+steps_total {t = t} m (carried s e ms ∷ xs) u p = omega (
   arith,
   moved_total m.recorded (carried s e ms) p.0,
-  steps_total (step-moment m (carried s e ms) p.0) xs u p.1,
+  steps_total {t = stepped t (carried s e ms)} (step-moment m (carried s e ms) p.0) xs u p.1,
   tally-plus (is_handover e) (handover_count xs),
 )
 
