@@ -1,17 +1,16 @@
 -- Laws of the check of book files: the numbers that it answers; when the set order of two panels is opposite, said of any two names; and that
 -- neither a single panel nor panels with equal sets are refused by 24. Assumes nothing.
 use mathlib.Core.Path.{◌≡◌, refl, sym, ap, ◌∙◌}
-use mathlib.Core.Bool.{Bool, true, false, not, ◌&&◌, ◌||◌, cond}
+use mathlib.Core.Bool.{Bool, true, false, not, ◌&&◌, ◌||◌}
 use mathlib.Core.Logic.{◌≢◌, ◌↔◌, inl, inr}
 use mathlib.Core.List.{List, [], ◌∷◌, flatten}
 use Prim.Native.Nat.{ℕ, zero, suc, ◌≤◌, ◌<◌}
 use native.Mathlib.Omega.{arith}
 use native.Mathlib.Decide.{dec_lt}
 use lib.ListN.{length, get_or}
-use lib.Dec.{ltb}
 use borrow.Author.Tests.{ltb-true, not-false}
 use Rattle.lists.specs.Every.{Every, every}
-use Rattle.lists.proofs.Every.{Failing, some_fails, every-at}
+use Rattle.lists.proofs.Every.{some_fails, every-at}
 use Rattle.lists.proofs.Tests.{and_left, and_right, or_cases, or-false, cond_case, not_both, decided, refuted, by_contradiction, contradiction}
 use Rattle.model.specs.Names.{name, same, has}
 use Rattle.model.specs.Books.{Book, names, sent_bytes, panel_bytes, laid_out, books_in, applied_once, all_sent, place_in, earlier, agree, all_agree, book_questions, check_books}

@@ -1,20 +1,20 @@
 -- Laws of the parts and of the messages of a book file, at a place in it: what stands there, and where the next begins. Assumes nothing.
 use Prim.Native.Nat.{ℕ, zero, suc, ◌+◌, ◌-◌, ◌≤◌, ◌<◌}
-use mathlib.Core.Path.{◌≡◌, refl, sym, ap, ap₂, ◌∙◌}
-use mathlib.Core.Bool.{Bool, true, false, ◌&&◌}
+use mathlib.Core.Path.{◌≡◌, refl, ap, ◌∙◌}
+use mathlib.Core.Bool.{true, false, ◌&&◌}
 use mathlib.Core.List.{List, [], ◌∷◌}
 use native.Mathlib.Omega.{arith}
 use native.Mathlib.Decide.{dec_lt}
 use native.Mathlib.Nat.{le_refl}
 use lib.ListN.{length, get_or, take, drop, length-drop, drop_of_length-le}
 use lib.Seq.{drop-cons, drop-drop, get_or-drop}
-use lib.Dec.{eqb, leb}
+use lib.Dec.{leb}
 use borrow.Author.Tests.{leb-true, le-leb, lt-leb, ne_eqb}
 use Rattle.lists.proofs.Tests.{bool_eq}
 use Rattle.model.specs.Tables.{seats, capacity}
 use Rattle.model.specs.Names.{name}
 use Rattle.model.specs.Fair.{named}
-use Rattle.model.specs.Records.{byte, word}
+use Rattle.model.specs.Records.{word}
 use Rattle.model.specs.Books.{size_in, parts, whole, names, good_names}
 
 -- PARTS

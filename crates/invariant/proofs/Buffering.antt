@@ -9,7 +9,7 @@ use native.Mathlib.Omega.{arith}
 use native.Mathlib.Decide.{ℕ_discrete}
 use lib.ListN.{length, get_or, get_or-replicate}
 use Rattle.lists.proofs.Tests.{contradiction}
-use Rattle.model.specs.Tables.{seats, capacity, absent, yes?, at, slot_at, entry, held, mark, applied, unheld, forward_number, with_entry, with_mark}
+use Rattle.model.specs.Tables.{seats, capacity, absent, yes?, slot_at, entry, held, mark, applied, unheld, forward_number, with_entry, with_mark}
 use Rattle.model.specs.Sized.{SizedController}
 use Rattle.model.specs.Facts.{in_log, greatest_applied, GoodMark, GoodController}
 use Rattle.model.specs.declared.ForwardNumber.{ForwardNumber}
