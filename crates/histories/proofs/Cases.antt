@@ -48,7 +48,7 @@ many (suc k) = many k ++ (name (k / 64 + 1) (k % 64 + 1) ∷ [])
 abbrev eight : List ℕ
 eight = 101 ∷ 201 ∷ 301 ∷ 401 ∷ 501 ∷ 601 ∷ 701 ∷ 102 ∷ []
 
--- the worked book file of RULES.md, section 33 (Delivery books)
+-- a worked book file: of the messages 1.1 and 3.1, and of three panels
 abbrev worked : List ℕ
 worked = 1 ∷ 0 ∷ 4 ∷ 1 ∷ 1 ∷ 3 ∷ 1 ∷ 0 ∷ 3 ∷ 2 ∷ 1 ∷ 1 ∷ 0 ∷ 6 ∷ 2 ∷ 1 ∷ 1 ∷ 2 ∷ 3 ∷ 1 ∷ 0 ∷ 5 ∷ 4 ∷ 1 ∷ 1 ∷ 3 ∷ 1 ∷ []
 

@@ -1,4 +1,4 @@
--- Delivery books (RULES.md, section 33): the layout of a book file, the questions that are put to it, and the file of given books.
+-- Delivery books: the layout of a book file, the questions that are put to it, and the file of given books.
 -- Words: a book is the history of the message sets that a process scd-delivered.
 use Rattle.std.specs.Prelude.{ℕ, zero, suc, ◌+◌, ◌-◌, ◌/◌, ◌%◌, Bool, true, false, not, ◌&&◌, cond, length, take, drop, eqb, leb, ltb}
 use mathlib.Core.List.{List, [], ◌∷◌, ◌++◌, map, flatten}

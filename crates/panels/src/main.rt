@@ -3,6 +3,7 @@
 #![tactic(auto)]
 
 ghost use Rattle.std.specs.Prelude.{◌≡◌, ◌≤◌, length, take, IfOk};
+ghost use Rattle.std.specs.Io.KnownBytes.{Consumes};
 ghost use Rattle.model.specs.Tables.{scratch_size};
 ghost use Rattle.panels.specs.Printed.{text_size, printed};
 
@@ -52,7 +53,8 @@ fn report(file: &[u8], text: &mut [u8], scratch: &mut [u8]) -> usize
 // Reads until the buffer is full or the input ends, and answers how many bytes stand in the buffer then. A read that was interrupted
 // is made again.
 fn read_full<R: Read>(input: &mut R, buffer: &mut [u8]) -> io::Result<usize>
-    ensures { IfOk result (λ n. n ≤ length buffer.new) }
+    ensures bound { IfOk result (λ n. n ≤ length buffer.new) }
+    ensures bytes { IfOk result (λ n. Consumes (R.remaining input.old) (R.remaining input.new) (take n buffer.new)) }
 {
     let mut done = 0;
     for _ in 0..u64::MAX {
