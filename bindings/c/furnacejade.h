@@ -589,7 +589,7 @@ void furnacejade_fresh(size_t version, size_t n, furnacejade_fresh_answer *answe
  * and 17 after 9 in version 2; 11 and 12 to a sync; 13 to a handover; 14 to a stop; 18 to a local read; 19, 11, 12 and 20 to a
  * write. Returns how many bytes are left: the unread rest is that many bytes at the end of bytes. An accepted event leaves the
  * table as the rules say, the first 64 scratch bytes zero and later ones as they were. A refused one leaves table and scratch as
- * they were, and the record in the rest: a loop that goes on must step over it, by 1 + its length byte. Takes 30 KB of stack.
+ * they were, and the record in the rest: a loop that goes on must step over it, by 1 + its length byte. Takes 31 KB of stack.
  *
  *     while (size > 0) {
  *         size_t left = furnacejade_event(table, bytes, size, scratch, sizeof scratch, &answer);
@@ -618,7 +618,7 @@ static inline unsigned furnacejade_play(furnacejade_table *t, furnacejade_record
  * pairs without an unread entry. (A log owner may have stopped.) The first handover that is left is carried out, and the
  * answer has its pair and what furnacejade_event answers of it. If no handover is left it says "none": refusal 0 and the pair
  * 0 and 0. Questions 4 and 8 are put, 8 to both numbers of the pair named; then it may say "none"; then 15 is put. A handover
- * leaves table and scratch as the same event does. "None" and a refusal leave them as they were. Takes 28 KB of stack.
+ * leaves table and scratch as the same event does. "None" and a refusal leave them as they were. Takes 19 KB of stack.
  *
  * Where each call names the pair that the call before it served, and nobody stops, an entry that is next for a running receiver
  * is read within n x n handovers of the dispatcher, whatever other calls are made in between. A run has at most 3,136 accepted
@@ -637,13 +637,13 @@ void furnacejade_dispatch(furnacejade_table *t, size_t receiver, size_t owner, u
  * receiver's act count. The act count is how often the receiver has acted in the run: how many messages it has sent, those that
  * were cut off among them, and how many handovers it was the receiver of. Local reads, looks, counts and asks are no acts.
  * Questions 4, 8, 10, 13 and 15 are put, 8 to receiver and owner. The table stays as it is. An accepted ask leaves scratch as an
- * event does, a refused one as it was. Takes 23 KB of stack. */
+ * event does, a refused one as it was. Takes 7 KB of stack. */
 void furnacejade_ask(const furnacejade_table *t, size_t receiver, size_t owner, uint8_t *scratch, size_t scratch_length, furnacejade_ask_answer *answer);
 
 /* A commit: the handover to a receiver from the log of an owner, made only if the receiver has acted as often as acts says.
  * It is given what an ask of the same receiver and owner answered as acts. Questions 4, 8, 10, 21, 13 and 15 are put, in this
  * order, 8 to receiver and owner; 21 is no if acts is not the receiver's act count. An accepted commit answers and leaves, table
- * and scratch, what the handover's record does. A refused one leaves both as they were. Takes 29 KB of stack.
+ * and scratch, what the handover's record does. A refused one leaves both as they were. Takes 31 KB of stack.
  *
  * The set applied is the one that the ask showed, whatever other controllers did in between. As long as the receiver has not
  * acted since the ask, the commit is accepted, unless a stop of the owner has cut the entry away, and then 13 refuses it.
@@ -658,7 +658,7 @@ void furnacejade_ask(const furnacejade_table *t, size_t receiver, size_t owner, 
 void furnacejade_commit(furnacejade_table *t, size_t receiver, size_t owner, size_t acts, uint8_t *scratch, size_t scratch_length, furnacejade_answer *answer);
 
 /* A panel look at controller c, 1 to n, running or stopped. Questions 4 and 8 are put. Nothing but the answer is written.
- * Takes 16 KB of stack.
+ * Takes 6 KB of stack.
  *
  *     furnacejade_look_answer look;
  *     furnacejade_look(table, 2, &look);
@@ -676,7 +676,7 @@ void furnacejade_look(const furnacejade_table *t, size_t c, furnacejade_look_ans
  * the second. A message that is not pending at c, or is not of the run, has every mark absent there. So a pending message
  * counts all its marks before a message that is not pending, and a message that is not pending counts 0 before every other. A
  * message counts 0 before itself. Questions 4 and 8 are put, 8 to c alone: a name may hold anything. Nothing but the answer is
- * written. Takes 21 KB of stack.
+ * written. Takes 6 KB of stack.
  *
  *     const furnacejade_name first = {3, {1}}, second = {1, {1}};
  *     furnacejade_count_answer before;
@@ -690,7 +690,7 @@ void furnacejade_count_before(const furnacejade_table *t, size_t c, const furnac
  * each set applied, are written into the listing from the start on; the bytes after them stay. A local read counts as an
  * event and has no line. Where a record is refused, the listing keeps the lines of the events before it, the answer has the
  * table that they left, and the first 64 scratch bytes are zero if any event was accepted; later ones are as they were. A file
- * refused by questions 1 to 3 changes neither listing nor scratch. Takes 36 KB of stack.
+ * refused by questions 1 to 3 changes neither listing nor scratch. Takes 27 KB of stack.
  *
  *     static uint8_t listing[FURNACEJADE_LISTING];
  *     furnacejade_run(file, size, listing, sizeof listing, scratch, sizeof scratch, &run);

@@ -1,4 +1,7 @@
 pub mod Codes
-pub mod Walks
+pub mod FirstParts
+pub mod Laid
+pub mod Chains
+pub mod Placed
 pub mod Ranks
 pub mod FileQuestions

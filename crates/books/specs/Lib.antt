@@ -1,1 +1,4 @@
+pub mod Layout
 pub mod Ranks
+pub mod Faults
+pub mod Files

@@ -1,15 +1,14 @@
 -- What clearing leaves, what `apply` answers and leaves, and that the matrix gives the same set. Assumes nothing.
-use mathlib.Core.Path.{◌≡◌, sym, ◌∙◌}
+use mathlib.Core.Path.{◌≡◌, ap, sym, ◌∙◌}
 use mathlib.Core.Bool.{false}
-use mathlib.Core.List.{List}
-use Prim.Native.Nat.{ℕ, ◌+◌, ◌-◌, ◌≤◌, ◌<◌, min}
+use mathlib.Core.List.{List, ◌++◌}
+use Prim.Native.Nat.{ℕ, zero, suc, ◌+◌, ◌-◌, ◌≤◌, ◌<◌, min}
 use native.Mathlib.Decide.{dec_lt}
 use native.Mathlib.Omega.{arith}
 use borrow.Author.Tests.{le-leb, lt-leb}
-use lib.ListN.{length, replicate, get_or-eq_default}
-use lib.Seq.{ext_get_or}
+use lib.ListN.{length, set, drop, replicate, get_or-eq_default}
+use Rattle.std.proofs.lemmas.List.Edits.{fill_none, fill_more}
 use Rattle.lists.specs.Build.{over}
-use Rattle.lists.proofs.Build.{over_end, length_over, get_d_over, get_d_over_past}
 use Rattle.lists.proofs.Stores.{over_rest}
 use Rattle.model.specs.Tables.{scratch_size, capacity}
 use Rattle.model.specs.Delivery.{Slots}
@@ -18,40 +17,33 @@ use Rattle.model.specs.Calls.{cleared}
 use Rattle.model.specs.Matrix.{by_matrix}
 use Rattle.model.proofs.Matrix.{matrix_agrees}
 use Rattle.model.specs.declared.Pending.{Pending}
-use Rattle.delivery.specs.Apply.{apply_answer, apply_scratch, Applied, Kept}
+use Rattle.delivery.specs.Apply.{apply_answer, apply_scratch, Applied}
 
--- CLEARING
+-- CLEARING: the first bytes zero, and the others as they were
+
+zeros-over : (s : List ℕ) (k : ℕ) → k ≤ length s → over (λ i. 0) k s ≡ replicate k 0 ++ drop k s
+unfolding over
+zeros-over s zero h = fill_none s 0
+zeros-over s (suc k) h =
+    let e : suc k ≡ k + 1 = omega arith in
+    ap (λ t. set t k 0) (zeros-over s k (omega arith)) ∙ fill_more k 0 s (omega arith) ∙ ap (λ j. replicate j 0 ++ drop j s) (sym e)
 
 -- where there are fewer bytes, storing in all of them is enough
-pub cleared-all : (s m : List ℕ) (k : ℕ) → k ≡ min (length s) scratch_size → m ≡ over (λ i. 0) k s → m ≡ cleared s
+pub cleared-all : (s m : List ℕ) (j k : ℕ) → k ≡ min (length s) scratch_size → j ≡ k → m ≡ replicate j 0 → m ++ drop k s ≡ cleared s
 unfolding cleared
-cleared-all s m k e h = elim (dec_lt (length s) scratch_size) [
+cleared-all s m j k e q h = ap (λ t. t ++ drop k s) (h ∙ ap (λ i. replicate i 0) q) ∙ sym (zeros-over s k (omega arith)) ∙ elim (dec_lt (length s) scratch_size) [
   | yes l ↦
-      let q : length s + (scratch_size - length s) ≡ scratch_size = omega arith in
-      over_end _ k (length s) s m (omega arith) h
-      ∙ sym (over_rest (λ i. 0) s 0 (length s) (scratch_size - length s) (λ i b. sym (get_or-eq_default s 0 b))) ∙ rw q
-  | no l ↦ over_end _ k scratch_size s m (omega arith) h
+      let q : k + (scratch_size - k) ≡ scratch_size = omega arith in
+      sym (over_rest (λ i. 0) s 0 k (scratch_size - k) (λ i b. sym (get_or-eq_default s 0 (omega arith)))) ∙ rw q
+  | no l ↦ let q : k ≡ scratch_size = omega arith in rw q
 ]
-
--- what is cleared depends on the bytes after the 64 alone
-cleared-same : (s m : List ℕ) → scratch_size ≤ length s → Kept s m → cleared m ≡ cleared s
-unfolding cleared
-cleared-same s m l k =
-    ext_get_or 0 _ _ (length_over _ scratch_size m ∙ k.size ∙ sym (length_over _ scratch_size s))
-    (λ i h. elim (dec_lt i scratch_size) [
-      | yes p ↦ get_d_over _ scratch_size m i 0 p (omega (arith, k.size)) ∙ sym (get_d_over _ scratch_size s i 0 p l)
-      | no q ↦ get_d_over_past _ scratch_size m i 0 (omega arith) ∙ k.beyond i (omega arith) ∙ sym (get_d_over_past _ scratch_size s i 0 (omega arith))
-    ])
 
 -- THE ANSWER
 
-pub applied_with_room : (n : ℕ) (P : List Pending) (s m after : List ℕ) (answer : Slots) → scratch_size ≤ length s
-    → answer ≡ applicable n P → Kept s m → after ≡ cleared m → Applied n P s answer after
+pub applied_with_room : (n : ℕ) (P : List Pending) (s after : List ℕ) (answer : Slots) → scratch_size ≤ length s
+    → answer ≡ applicable n P → after ≡ cleared s → Applied n P s answer after
 unfolding apply_answer apply_scratch
-applied_with_room n P s m after answer l e k c = record {
-  set = rw (le-leb scratch_size (length s) l) e;
-  scratch = rw (le-leb scratch_size (length s) l) (c ∙ cleared-same s m l k);
-}
+applied_with_room n P s after answer l e c = record { set = rw (le-leb scratch_size (length s) l) e; scratch = rw (le-leb scratch_size (length s) l) c }
 
 pub applied_without_room : (n : ℕ) (P : List Pending) (s : List ℕ) → length s < scratch_size → Applied n P s (replicate capacity false) s
 unfolding apply_answer apply_scratch

@@ -7,32 +7,17 @@ use Prim.Native.Nat.{ℕ, ◌+◌, ◌-◌, ◌≤◌, ◌<◌}
 use native.Mathlib.Decide.{ℕ_discrete, dec_lt}
 use native.Mathlib.Omega.{arith}
 use borrow.Author.Tests.{lt-ltb, le-ltb, eq-eqb, ne_eqb}
-use lib.ListN.{length, set, length-set}
+use lib.ListN.{length, set}
 use lib.Seq.{get_or-set_same, get_or-set_other}
 use lib.Dec.{eqb, ltb}
 use Rattle.lists.specs.Below.{tally}
 use Rattle.model.specs.Tables.{capacity, scratch_size, in_buffer}
 use Rattle.model.specs.Largest.{candidate}
 use Rattle.model.specs.declared.Pending.{Pending}
-use Rattle.delivery.specs.Apply.{Kept, Divided, front, back, times}
+use Rattle.delivery.specs.Apply.{Divided, front, back, times}
 use Rattle.delivery.proofs.Times.{times_none, times_more, times_ext}
 
 -- A STORE IN THE 64 BYTES
-
-pub kept_all : (s : List ℕ) → Kept s s
-kept_all s = record { size = refl; beyond = λ x h. refl }
-
-pub kept_again : (s m k : List ℕ) → Kept s m → Kept m k → Kept s k
-kept_again s m k a b = record { size = b.size ∙ a.size; beyond = λ x h. b.beyond x h ∙ a.beyond x h }
-
-pub kept_set : (s m : List ℕ) (i x : ℕ) → i < scratch_size → Kept s m → Kept s (set m i x)
-kept_set s m i x h k = record {
-  size = length-set m i x ∙ k.size;
-  beyond = λ y l. get_or-set_other m i y x 0 (omega arith) ∙ k.beyond y l;
-}
-
-pub kept_removed : (s m : List ℕ) (i x o y : ℕ) → i < scratch_size → Kept s m → Kept s (set (set m i x) (scratch_size - (o + 1)) y)
-kept_removed s m i x o y h k = kept_set s (set m i x) (scratch_size - (o + 1)) y (omega arith) (kept_set s m i x h k)
 
 -- byte k is stored at the front, or as the kth from the back
 pub stored-front : (m : List ℕ) (k x t : ℕ) → k < length m → times (front (set m k x)) (k + 1) t ≡ tally (eqb x t) (times (front m) k t)
@@ -79,14 +64,6 @@ module _ (n : ℕ) (P : List Pending) where
 
   pub divided_start : (m : List ℕ) → Divided n P 0 m 0 0
   divided_start m = record { few = omega arith; candidates = λ t. times_none (front m) t ∙ rw (le-ltb t 0 (omega arith)); others = λ t. times_none (back m) t ∙ rw (le-ltb t 0 (omega arith)) }
-
-  -- it is not in the buffer
-  pub divided_skip : (e c o : ℕ) (m : List ℕ) → Divided n P e m c o → in_buffer P e ≡ false → Divided n P (e + 1) m c o
-  divided_skip e c o m d q = record {
-    few = omega (arith, d.few);
-    candidates = λ t. d.candidates t ∙ failed chosen e t (rw q);
-    others = λ t. d.others t ∙ failed unchosen e t (rw q);
-  }
 
   module _ (e c o : ℕ) (m : List ℕ) (h : e < capacity) (l : scratch_size ≤ length m) (d : Divided n P e m c o) where
     -- it is, and goes to the end of the candidates or of the others

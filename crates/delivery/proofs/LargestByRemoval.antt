@@ -1,8 +1,8 @@
 -- Line 16: what its loops keep, and why they end in the set applied: what is left at the end is closed, and contains every closed set.
 -- Assumes nothing.
-use mathlib.Core.Path.{◌≡◌, refl, sym, ap, ap₂, ◌∙◌}
+use mathlib.Core.Path.{◌≡◌, refl, sym, ap, ◌∙◌}
 use mathlib.Core.Logic.{◌≢◌}
-use mathlib.Core.Bool.{Bool, true, false, not, ◌&&◌}
+use mathlib.Core.Bool.{Bool, true, false, ◌&&◌}
 use mathlib.Core.List.{List}
 use Prim.Native.Nat.{ℕ, ◌+◌, ◌-◌, ◌≤◌, ◌<◌}
 use native.Mathlib.Nat.{not-suc-le-zero}
@@ -21,7 +21,7 @@ use Rattle.model.specs.Delivery.{Slots, has}
 use Rattle.model.specs.Largest.{Closed, candidate, precedes}
 use Rattle.model.proofs.Largest.{applicable_unique}
 use Rattle.model.specs.declared.Pending.{Pending}
-use Rattle.delivery.specs.Apply.{Divided, Settled, front, back, times, named}
+use Rattle.delivery.specs.Apply.{Settled, front, back, times, named}
 use Rattle.delivery.proofs.Times.{times-at, times-found, times_ext, moved}
 use Rattle.delivery.proofs.Division.{stored_back}
 
@@ -35,18 +35,13 @@ tally_one : (b : Bool) → tally b 0 ≤ 1
 tally_one true = omega arith
 tally_one false = omega arith
 
-tally-parts : (a b x : Bool) → tally (a && (b && x)) 0 + tally (a && (b && not x)) 0 ≡ tally (a && b) 0
-tally-parts true true true = refl
-tally-parts true true false = refl
-tally-parts true false x = refl
-tally-parts false b x = refl
-
 module _ (n : ℕ) (P : List Pending) where
   abbrev IsClosed : Slots → Type 0
   IsClosed = Closed capacity (in_buffer P) (candidate n P) (precedes n P)
 
   -- c members and o others; d of the others are taken, and the members at the first i places were compared with the next of them
   pub record Removing (m : List ℕ) (c o d i : ℕ) : Type 0 where
+    pub size : length m ≡ scratch_size
     pub few : c + o ≤ capacity
     -- each slot in the buffer is named once
     pub once : (t : ℕ) → times (front m) c t + times (back m) o t ≡ tally (ltb t capacity && in_buffer P t) 0
@@ -59,16 +54,6 @@ module _ (n : ℕ) (P : List Pending) where
     pub contains : (R : Slots) → IsClosed R → (t : ℕ) → t < capacity → has R t ≡ true → 0 < times (front m) c t
 
   -- THE START
-
-  pub removing_start : (m : List ℕ) (c o : ℕ) → Divided n P capacity m c o → Removing m c o 0 0
-  removing_start m c o d = record {
-    few = d.few;
-    once = λ t. ap₂ ◌+◌ (d.candidates t) (d.others t) ∙ tally-parts (ltb t capacity) (in_buffer P t) (candidate n P t);
-    fit = λ t h. and_right (in_buffer P t) _ (and_right (ltb t capacity) _ (tally_yes _ (rw (d.candidates t) at h)));
-    before = λ j k h l. absurd (not-suc-le-zero l);
-    here = λ j l. absurd (not-suc-le-zero l);
-    contains = λ R r t h e. rw (d.candidates t, lt-ltb t capacity h, r.chosen t h e) (omega arith);
-  }
 
   module _ (m : List ℕ) (c o d i : ℕ) (v : Removing m c o d i) where
     -- what is named is a slot in the buffer
@@ -92,31 +77,11 @@ module _ (n : ℕ) (P : List Pending) where
 
     -- A MEMBER GOES BEFORE THE ONE TAKEN
 
-    pub removing_pass : i < c → precedes n P (front m i) (back m d) ≡ true → Removing m c o d (i + 1)
-    removing_pass h e = record {
-      few = v.few;
-      once = v.once;
-      fit = v.fit;
-      before = v.before;
-      here = λ j l. elim (ℕ_discrete j i) [ yes p ↦ rw p e | no q ↦ v.here j (omega arith) ];
-      contains = v.contains;
-    }
-
     -- ALL DO
-
-    pub removing_take : d < o → c ≤ i → Removing m c o (d + 1) 0
-    removing_take h l = record {
-      few = v.few;
-      once = v.once;
-      fit = v.fit;
-      before = λ j k a b. elim (ℕ_discrete k d) [ yes p ↦ rw p (v.here j (omega arith)) | no q ↦ v.before j k a (omega arith) ];
-      here = λ j b. absurd (not-suc-le-zero b);
-      contains = v.contains;
-    }
 
     -- ONE DOES NOT: it gives its place to the last member, and joins the others
 
-    module _ (room : scratch_size ≤ length m) (h : d < o) (l : i < c) where
+    module _ (h : d < o) (l : i < c) where
       abbrev removed : List ℕ
       removed = set (set m i (front m (c - 1))) (scratch_size - (o + 1)) (front m i)
 
@@ -145,7 +110,7 @@ module _ (n : ℕ) (P : List Pending) where
 
       more : (t : ℕ) → times (back removed) (o + 1) t ≡ tally (eqb (front m i) t) (times (back m) o t)
       more t =
-          stored_back (set m i (front m (c - 1))) o (front m i) t (omega (arith, v.few)) (omega (arith, room, length-set m i (front m (c - 1))))
+          stored_back (set m i (front m (c - 1))) o (front m i) t (omega (arith, v.few)) (omega (arith, v.size, length-set m i (front m (c - 1))))
           ∙ ap (tally (eqb (front m i) t)) (times_ext (back (set m i (front m (c - 1)))) (back m) o t back_before)
 
       -- no closed set has it
@@ -158,6 +123,7 @@ module _ (n : ℕ) (P : List Pending) where
 
       pub removing_remove : precedes n P (front m i) (back m d) ≡ false → Removing removed (c - 1) (o + 1) d i
       removing_remove e = record {
+        size = length-set (set m i (front m (c - 1))) (scratch_size - (o + 1)) (front m i) ∙ length-set m i (front m (c - 1)) ∙ v.size;
         few = omega (arith, v.few);
         once = λ t.
             let b = eqb (front m i) t in
@@ -178,10 +144,10 @@ module _ (n : ℕ) (P : List Pending) where
 
     -- ALL ARE TAKEN
 
-    pub removing_end : scratch_size ≤ length m → o ≤ d → Settled n P m c
+    pub removing_end : o ≤ d → Settled n P m c
     unfolding named
-    removing_end room h = record {
-      listed = record { few = omega (arith, v.few); below = member_below };
+    removing_end h = record {
+      listed = record { few = omega (arith, v.size, v.few); below = member_below };
       set = applicable_unique n P (named c m) (record {
         size = length-tabulate capacity _;
         closed = record {

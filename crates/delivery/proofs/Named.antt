@@ -1,19 +1,20 @@
 -- The set of the slots that the first bytes name: what a turn keeps that makes one more a member. Assumes nothing.
-use mathlib.Core.Path.{◌≡◌, refl, sym, ◌∙◌}
+use mathlib.Core.Path.{◌≡◌, refl, sym, ap, ◌∙◌}
 use mathlib.Core.Bool.{true, false}
 use mathlib.Core.List.{List}
 use Prim.Native.Nat.{ℕ, ◌+◌, ◌<◌}
 use native.Mathlib.Decide.{ℕ_discrete}
 use native.Mathlib.Omega.{arith}
 use borrow.Author.Tests.{lt-ltb, ne_eqb}
-use lib.ListN.{length, set, replicate, length-set, get_or-replicate}
+use lib.ListN.{length, take, set, replicate, length-set, get_or-replicate}
 use lib.Seq.{get_or-set_same, get_or-set_other}
 use lib.Dec.{ltb}
-use Rattle.lists.proofs.Build.{tabulate_self}
+use Rattle.std.proofs.lemmas.List.{length-take-le, get_or-take}
+use Rattle.lists.proofs.Build.{tabulate_self, tabulate_ext}
 use Rattle.model.specs.Tables.{capacity}
 use Rattle.model.specs.Delivery.{Slots, has}
-use Rattle.delivery.specs.Apply.{front, times, named}
-use Rattle.delivery.proofs.Times.{times_none, times_more, times-at}
+use Rattle.delivery.specs.Apply.{Listed, front, times, named}
+use Rattle.delivery.proofs.Times.{times_none, times_more, times-at, times_ext}
 
 -- the members are the slots that the first k bytes name
 pub record Naming (m : List ℕ) (k : ℕ) (S : Slots) : Type 0 where
@@ -35,3 +36,19 @@ module _ (m : List ℕ) where
   pub naming_end : (k : ℕ) (S : Slots) → Naming m k S → S ≡ named k m
   unfolding named
   naming_end k S r = sym (tabulate_self S false capacity _ r.size (λ t h. sym (r.members t h)))
+
+  -- the first k bytes alone name the same set
+
+  module _ (k : ℕ) (l : Listed k m) where
+    taken : length (take k m) ≡ k
+    taken = length-take-le k m l.few
+
+    front_taken : (j : ℕ) → j < k → front (take k m) j ≡ front m j
+    front_taken j h = get_or-take k m j 0 h
+
+    pub listed_taken : Listed (length (take k m)) (take k m)
+    listed_taken = record { few = omega arith; below = λ j h. rw (front_taken j (omega (arith, taken))) (l.below j (omega (arith, taken))) }
+
+    pub named_taken : named (length (take k m)) (take k m) ≡ named k m
+    unfolding named
+    named_taken = rw taken (tabulate_ext capacity _ _ false (λ t h. ap (ltb 0) (times_ext (front (take k m)) (front m) k t front_taken)))

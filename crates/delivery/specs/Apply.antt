@@ -37,11 +37,6 @@ times f k t = count k (λ j. eqb (f j) t)
 unfoldable pub named : ℕ → List ℕ → Slots
 named k m = tabulate capacity (λ t. ltb 0 (times (front m) k t))
 
--- no byte after the 64 has changed
-pub record Kept (s m : List ℕ) : Type 0 where
-  pub size : length m ≡ length s
-  pub beyond : (x : ℕ) → scratch_size ≤ x → get_or m x 0 ≡ get_or s x 0
-
 -- line 15: of the slots below e that are in the buffer, c bytes name each candidate once, and o bytes each other once
 pub record Divided (n : ℕ) (P : List Pending) (e : ℕ) (m : List ℕ) (c o : ℕ) : Type 0 where
   pub few : c + o ≤ e

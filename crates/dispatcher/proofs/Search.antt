@@ -1,32 +1,19 @@
 -- The search for the next pair, turn by turn: what is found of the pairs that are left is the next pair. Assumes nothing.
 use mathlib.Core.Path.{◌≡◌, refl, sym, ap, ◌∙◌}
-use mathlib.Core.Bool.{true, false, ◌&&◌, cond}
+use mathlib.Core.Bool.{true, false, cond}
 use mathlib.Core.List.{List}
 use Prim.Native.Nat.{ℕ, suc, ◌+◌, ◌-◌, ◌*◌, ◌≤◌, ◌<◌}
-use native.Mathlib.Nat.{mul-le-mul}
 use native.Mathlib.Omega.{arith}
-use lib.Dec.{ltb}
-use lib.ListN.{get_or}
+use Rattle.std.specs.Prelude.{Option, Some, None}
+use borrow.Author.Tests.{lt-ltb}
 use Rattle.lists.proofs.Tests.{cond_true, cond_false}
-use Rattle.model.specs.Tables.{seats, Among, no_controller, controller_in}
-use Rattle.model.specs.Questions.{unread}
-use Rattle.turns.specs.Dispatcher.{no_pair, following, waits, first_waiting, next_pair}
-use Rattle.model.specs.declared.Pair.{Pair}
-use Rattle.model.specs.declared.Controller.{Controller}
+use Rattle.model.specs.Tables.{seats}
+use Rattle.turns.specs.Dispatcher.{following, waits, first_waiting, next_pair}
 use Rattle.turns.specs.Claims.{InRange}
 use Rattle.turns.proofs.Dispatching.{following_range}
-
-pub few_pairs : (n : ℕ) → n ≤ seats → n * n ≤ seats * seats
-few_pairs n h = mul-le-mul {n₁ = n} {m₁ = n} {n₂ = seats} {m₂ = seats} h h
-
-pub index_low : (n : ℕ) → n ≤ seats → (c i : ℕ) → Among n c → i ≡ c - 1 → i < seats
-index_low n h c i a e = omega (arith, h, a.low, a.high, e)
-
--- whether a pair waits, read by index
-pub waits-at : (C : List Controller) (q : Pair) (i j : ℕ) → i ≡ q.receiver - 1 → j ≡ q.owner - 1
-    → waits C q ≡ (ltb 0 (get_or C i no_controller).running && ltb (get_or (get_or C i no_controller).read j 0) (get_or C j no_controller).length)
-unfolding waits unread controller_in
-waits-at C q i j ei ej = rw (ei, ej) refl
+use Rattle.model.specs.declared.Pair.{Pair}
+use Rattle.model.specs.declared.Controller.{Controller}
+use Rattle.dispatcher.specs.Handed.{if_some}
 
 -- after k turns the search stands at q
 pub record Onward (n : ℕ) (C : List Controller) (p q : Pair) (k : ℕ) : Type 0 where
@@ -48,12 +35,20 @@ module _ (n : ℕ) (C : List Controller) (p : Pair) where
     pub turn_range : InRange n x
     turn_range = rw ex (following_range n q o.range)
 
-    pub here : waits C x ≡ true → x ≡ next_pair n C p
-    here w = sym (cond_true _ _ w) ∙ turn
+    pub turn_seated : n ≤ seats → InRange seats x
+    turn_seated few = record {
+      receiver = record { low = turn_range.receiver.low; high = omega (arith, turn_range.receiver.high) };
+      owner = record { low = turn_range.owner.low; high = omega (arith, turn_range.owner.high) };
+    }
+
+    pub here : waits C x ≡ true → Some x ≡ if_some (next_pair n C p)
+    here w =
+        let e : x ≡ next_pair n C p = sym (cond_true _ _ w) ∙ turn in
+        rw (← e) (sym (cond_true (Some x) None (lt-ltb 0 x.receiver turn_range.receiver.low)))
 
     pub onward : waits C x ≡ false → Onward n C p x (k + 1)
     onward w = record { turns = omega arith; range = turn_range; left = sym (cond_false _ _ w) ∙ turn }
 
-  pub none_left : (q : Pair) (k : ℕ) → Onward n C p q k → n * n ≤ k → no_pair ≡ next_pair n C p
+  pub none_left : (q : Pair) (k : ℕ) → Onward n C p q k → n * n ≤ k → ◌≡◌ {A = Option Pair} None (if_some (next_pair n C p))
   unfolding first_waiting
-  none_left q k o h = let z : n * n - k ≡ 0 = omega arith in (rw z at o.left)
+  none_left q k o h = let z : n * n - k ≡ 0 = omega arith in rw (← (rw z at o.left)) refl

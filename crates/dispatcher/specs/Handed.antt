@@ -1,20 +1,18 @@
--- What the dispatcher answers and leaves, as its callers get it by value; and what the questions give.
-use Rattle.std.specs.Prelude.{ℕ, ◌≡◌, cond, List, length, eqb}
-use Rattle.model.specs.Questions.{first_no}
-use Rattle.turns.specs.Dispatcher.{DispatchOutcome, no_pair, next_pair, pair_questions, dispatch, scratch_served, dispatch_answer_of}
+-- What the dispatcher answers and leaves, as its callers get it by value; and what its helpers answer.
+use Rattle.std.specs.Prelude.{ℕ, ◌≡◌, cond, List, length, Option, Some, None}
+use Rattle.turns.specs.Dispatcher.{DispatchOutcome, no_pair, some?, next_pair, dispatch, scratch_served, dispatch_answer_of}
 use Rattle.model.specs.declared.Pair.{Pair}
-use Rattle.model.specs.declared.Controller.{Controller}
 use Rattle.model.specs.declared.Table.{Table}
 use Rattle.effects.specs.Effects.{no_set}
-use Rattle.dispatcher.specs.declared.Choice.{Choice}
 use Rattle.dispatcher.specs.declared.Handed.{Handed}
 
--- the first no of questions 8 and 15, and the pair to be served, of n controllers
-unfoldable pub choice_of : ℕ → List Controller → Pair → ℕ → Choice
-choice_of n C p room =
-    let q = next_pair n C p in
-    let k = first_no (pair_questions n p q room) in
-    record { refusal = k; pair = cond (eqb k 0) q no_pair }
+-- the pair, where there is one
+abbrev pub if_some : Pair → Option Pair
+if_some p = cond (some? p) (Some p) None
+
+-- the next pair of a table after this one
+abbrev pub next_of : Table → Pair → Pair
+next_of t p = next_pair t.n t.controllers p
 
 -- an outcome, as it is handed on by value
 unfoldable pub handed_of : DispatchOutcome → Handed

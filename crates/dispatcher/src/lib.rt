@@ -1,116 +1,88 @@
 // The dispatcher, by value: it goes round all pairs of a receiver and a log owner, and carries out the next handover.
 #![tactic(auto)]
 
-ghost use Rattle.std.specs.Prelude.{◌≡◌, ◌≤◌};
-ghost use Rattle.model.specs.Tables.{seats, Among};
-ghost use Rattle.turns.specs.Dispatcher.{pair, following, next_pair};
-ghost use Rattle.dispatcher.specs.Handed.{choice_of, unchanged, Dispatches};
+ghost use Rattle.std.specs.Prelude.{◌≡◌, ◌≤◌, IfOk};
+ghost use Rattle.model.specs.Tables.{seats};
+ghost use Rattle.model.specs.Refusals.{refusal_in};
+ghost use Rattle.model.specs.Questions.{first_no};
+ghost use Rattle.turns.specs.Dispatcher.{following, waits, next_pair, dispatch_questions};
+ghost use Rattle.turns.specs.Claims.{InRange};
+ghost use Rattle.dispatcher.specs.Handed.{if_some, next_of, unchanged, Dispatches};
 
-use model::{Command, Controller, DispatchAnswer, Event, Pair, Table, refusal};
+use model::refusal::Refusal;
+use model::{Controller, DispatchAnswer, Pair, Table, refusal};
 
 // THE ORDER
 
 // The pair after this one, by receiver and then owner; after the last comes the first.
 #[tactic(auto, unfolding(turns::specs::Dispatcher::following))]
-fn following(n: usize, receiver: usize, owner: usize) -> Pair
-    ensures { result ≡ following n (pair receiver owner) }
+fn following(n: usize, p: Pair) -> Pair
+    ensures { result ≡ following n p }
 {
-    if owner < n {
-        return Pair {
-            receiver,
-            owner: owner + 1,
-        };
-    }
-    if receiver < n {
-        return Pair {
-            receiver: receiver + 1,
+    if p.owner < n {
+        Pair {
+            owner: p.owner + 1,
+            ..p
+        }
+    } else if p.receiver < n {
+        Pair {
+            receiver: p.receiver + 1,
             owner: 1,
-        };
-    }
-    Pair {
-        receiver: 1,
-        owner: 1,
+        }
+    } else {
+        Pair {
+            receiver: 1,
+            owner: 1,
+        }
     }
 }
 
-// The first pair after this one whose receiver runs and has an entry to read, this one the last; 0 and 0 if there is none.
-fn next_pair(
-    n: usize,
-    controllers: [Controller; Table::CONTROLLERS],
-    receiver: usize,
-    owner: usize,
-) -> Pair
-    requires { (n ≤ seats) × (Among n receiver × Among n owner) }
-    ensures { result ≡ next_pair n controllers (pair receiver owner) }
+// Whether the receiver runs and has an entry of the owner's log to read.
+#[tactic(auto, unfolding(turns::specs::Dispatcher::waits, model::specs::Questions::unread, model::specs::Tables::controller_in))]
+fn waits(controllers: &[Controller; Table::CONTROLLERS], p: Pair) -> bool
+    requires { InRange seats p }
+    ensures { result ≡ waits controllers.now p }
 {
-    let mut r = receiver;
-    let mut o = owner;
-    for _k in 0..n * n {
-        let q = following(n, r, o);
-        r = q.receiver;
-        o = q.owner;
-        let i = numbers::predecessor(r);
-        let j = numbers::predecessor(o);
-        let length = controllers[j].length;
-        let x = controllers[i];
-        let flag = x.running;
-        let read = x.read;
-        let place = read[j];
-        if (0 < flag) & (place < length) {
-            return q;
+    let o = p.owner - 1;
+    let x = &controllers[p.receiver - 1];
+    x.is_running() && x.read[o] < controllers[o].length
+}
+
+// The first pair after this one that waits, this one the last; n is at most 7, as the caller has it from question 4. The loop counts rounds and no index: each turn goes on from the pair before.
+#[tactic(auto, using(crate::proofs::Search::starts, crate::proofs::Search::here, crate::proofs::Search::none_left))]
+fn next_pair(n: usize, controllers: &[Controller; Table::CONTROLLERS], after: Pair) -> Option<Pair>
+    requires { (n ≤ seats) × InRange n after }
+    ensures { result ≡ if_some (next_pair n controllers.now after) }
+{
+    let mut p = after;
+    for _ in 0..n * n {
+        p = following(n, p);
+        if waits(controllers, p) {
+            return Some(p);
         }
     }
-    Pair {
-        receiver: 0,
-        owner: 0,
-    }
+    None
 }
 
 // THE CALL
 
-// What the questions give: the refusal number, and the pair to be served, 0 and 0 if there is none.
-#[derive(Clone, Copy)]
-struct Choice {
-    refusal: u8,
-    pair: Pair,
-}
-
-// No pair is served.
-fn no_pair(refusal: u8) -> Choice
-    ensures { result ≡ record { refusal = refusal; pair = pair 0 0 } }
+// Questions 4 and 8; then the next pair and, if there is one, question 15.
+#[tactic(auto, using(crate::proofs::DispatchAnswers::in_range), unfolding(model::specs::Questions::first_no, model::specs::Questions::lent_table, turns::specs::Dispatcher::pair_questions, turns::specs::Dispatcher::dispatch_questions))]
+fn choose(t: &Table, after: Pair, room: usize) -> Result<Option<Pair>, Refusal>
+    ensures asked { refusal_in result ≡ first_no (dispatch_questions t.now after (next_of t.now after) room) }
+    ensures chosen { IfOk result (λ next. next ≡ if_some (next_of t.now after)) }
 {
-    Choice {
-        refusal,
-        pair: Pair {
-            receiver: 0,
-            owner: 0,
-        },
+    if !validity::well_formed(t) {
+        return Err(Refusal::Table);
     }
-}
-
-// Question 8; then the next pair and, if there is one, question 15.
-fn choose(
-    n: usize,
-    controllers: [Controller; Table::CONTROLLERS],
-    receiver: usize,
-    owner: usize,
-    room: usize,
-) -> Choice
-    requires { n ≤ seats }
-    ensures { result ≡ choice_of n controllers (pair receiver owner) room }
-{
-    if !(((0 < receiver) & (receiver <= n)) & ((0 < owner) & (owner <= n))) {
-        return no_pair(refusal::CONTROLLER);
+    if !after.is_among(t.n) {
+        return Err(Refusal::Controller);
     }
-    let pair = next_pair(n, controllers, receiver, owner);
-    let r = pair.receiver;
-    if (0 < r) & (room < Table::SCRATCH) {
-        return no_pair(refusal::SCRATCH);
+    let next = next_pair(t.n, &t.controllers, after);
+    if next.is_some() && room < Table::SCRATCH {
+        return Err(Refusal::Scratch);
     }
-    Choice {
-        refusal: refusal::ACCEPTED,
-        pair,
-    }
+    Ok(next)
 }
 
 // What the call answers, and the table that it leaves.
@@ -121,7 +93,8 @@ pub struct Handed {
     pub table: Table,
 }
 
-// No handover is made, and nothing is changed.
+// No handover is made, and nothing is changed: a refusal, or 0 where none waits (the number is the C interface's). The table goes by
+// value, as in the call: a rule of the project.
 #[tactic(auto, unfolding(crate::specs::Handed::unchanged))]
 fn unserved(t: Table, refusal: u8) -> Handed
     ensures { result ≡ unchanged t refusal }
@@ -138,33 +111,20 @@ fn unserved(t: Table, refusal: u8) -> Handed
     }
 }
 
-// Carries out the next handover after this pair, or refuses, or finds that none waits.
-pub fn dispatch(t: Table, receiver: usize, owner: usize, scratch: &mut [u8]) -> Handed
-    ensures { Dispatches t (pair receiver owner) scratch.old result scratch.new }
+// Carries out the next handover after this pair, or refuses, or finds that none waits. The table goes by value: a rule of the project.
+pub fn dispatch(t: Table, after: Pair, scratch: &mut [u8]) -> Handed
+    ensures { Dispatches t after scratch.old result scratch.new }
 {
-    if !validity::well_formed(t) {
-        return unserved(t, refusal::TABLE);
-    }
-    let controllers = t.controllers;
-    let chosen = choose(t.n, controllers, receiver, owner, scratch.len());
-    let pair = chosen.pair;
-    let r = pair.receiver;
-    if r == 0 {
-        return unserved(t, chosen.refusal);
-    }
-    let e = Event::Handover {
-        receiver: r as u8,
-        owner: pair.owner as u8,
+    let pair = match choose(&t, after, scratch.len()) {
+        Ok(Some(pair)) => pair,
+        Ok(None) => return unserved(t, refusal::ACCEPTED),
+        Err(refusal) => return unserved(t, u8::from(refusal)),
     };
-    let p = effects::at_hand(controllers, Command::Act(e));
-    let x = p.subject;
-    let y = p.owner;
-    let done = effects::carry_out(t, x, y, e, scratch);
+    let e = effects::handover(pair);
+    let done = effects::act(&t, e, scratch);
     let answer = done.answer;
-    let controller = done.controller;
-    let table = effects::stored(t, e, controller);
     Handed {
         answer: DispatchAnswer { pair, answer },
-        table,
+        table: effects::stored(t, e, done.controller),
     }
 }

@@ -1,5 +1,5 @@
 -- A handover: the set that the delivery rule answers is the definition's, and what the code stores is its answer. Assumes nothing.
-use mathlib.Core.Path.{◌≡◌, refl, sym, ap, subst, ◌∙◌}
+use mathlib.Core.Path.{◌≡◌, refl, sym, ap, ◌∙◌}
 use mathlib.Core.Bool.{Bool, true, false, ◌&&◌, cond}
 use mathlib.Core.List.{List}
 use Prim.Native.Nat.{ℕ, zero, suc, ◌≤◌, ◌<◌}
@@ -11,12 +11,11 @@ use lib.Dec.{eqb}
 use borrow.Author.Tests.{le-leb}
 use Rattle.lists.proofs.Tests.{cond_true, refuted, contradiction}
 use Rattle.lists.proofs.Clipped.{any_none}
-use Rattle.model.specs.Tables.{Messages, seats, sync_kind, scratch_size, no_sums, message_in, message, messages_of}
+use Rattle.model.specs.Tables.{Messages, sync_kind, scratch_size, no_sums, message_in, message, messages_of}
 use Rattle.model.specs.Delivery.{Slots, has}
 use Rattle.model.specs.Events.{received, handover_set, deliver, subject, after, with_sent, next, applied_by, sums, name_of, insert, names_below, names_of, finishes}
 use Rattle.model.specs.Calls.{cleared, answer_of}
-use Rattle.model.specs.Facts.{Among}
-use Rattle.model.specs.Sized.{Sized, SizedController}
+use Rattle.model.specs.Sized.{SizedController}
 use Rattle.model.specs.declared.Message.{Message}
 use Rattle.model.specs.declared.Sums.{Sums}
 use Rattle.model.specs.declared.Controller.{Controller}
@@ -28,13 +27,11 @@ use Rattle.model.proofs.Handovers.{received_at, set_at}
 use Rattle.delivery.specs.Apply.{apply_answer, apply_scratch, Applied}
 use Rattle.naming.specs.declared.Names.{Names}
 use Rattle.naming.specs.SortedNames.{padded}
-use Rattle.invariant.proofs.Stores.{at_sized}
-use Rattle.invariant.proofs.Sizes.{received_sized}
 use Rattle.effects.specs.Conditions.{Readable, Deliverable}
 use Rattle.effects.specs.Parties.{owner_of, Allowed}
 use Rattle.effects.specs.Effects.{no_set, effect_of, Effected}
-use Rattle.effects.proofs.Room.{subject_seated, readable, deliverable}
-use Rattle.effects.proofs.StoredEffect.{sums-shown}
+use Rattle.effects.proofs.Room.{readable, deliverable, receiver_within}
+use Rattle.effects.proofs.StoredEffect.{sums-within}
 use Rattle.effects.proofs.SetApplied.{deliver-none}
 
 -- THE NAMES
@@ -62,13 +59,9 @@ none_counted M S a e n = sym (ap (λ (b : Names). b.size) e) ∙ n
 -- THE HANDOVER of a table t with n controllers and the messages M: c is the receiver after it has read, S the set that the delivery rule
 -- answers, and a the names of S
 
-module _ (t : Table) (z : Sized t) (n : ℕ) (en : t.n ≡ n) (M : Messages) (em : messages_of t ≡ M) (x y : Controller) (r o : ℕ) (q : Allowed t (Handover r o) x y)
-    (c : Controller) (fc : Readable M.slots x y o → c ≡ received M x y o) (w v : List ℕ) (h : scratch_size ≤ length w)
+module _ (t : Table) (n : ℕ) (en : t.n ≡ n) (M : Messages) (em : messages_of t ≡ M) (x y : Controller) (r o : ℕ) (q : Allowed t (Handover r o) x y)
+    (c : Controller) (z : SizedController c) (fc : Readable M.slots x y o → c ≡ received M x y o) (w v : List ℕ) (h : scratch_size ≤ length w)
     (S : Slots) (fs : Applied n c.pending w S v) (a : Names) (ea : a ≡ padded (names_of M S)) where
-  receiver : Among seats r
-  unfolding subject
-  receiver = subject_seated t (Handover r o) q.accepted
-
   entry_read : c ≡ received_at t r o
   unfolding subject owner_of
   entry_read = (rw (← em, q.subject_is, q.owner_is) at fc) (readable t r o q.accepted)
@@ -82,16 +75,16 @@ module _ (t : Table) (z : Sized t) (n : ℕ) (en : t.n ≡ n) (M : Messages) (em
   clear = fs.scratch ∙ cond_true _ _ (le-leb scratch_size (length w) h)
 
   of_run : Deliverable (messages_of t) S
-  of_run = rw set_is (deliverable t r o q.accepted z)
+  of_run = rw set_is (deliverable t r o q.accepted)
 
-  pub handed_over_lem : (f : Bool) → f ≡ finishes M S r → (u : Controller) → (Deliverable M S → u ≡ deliver M c S)
+  pub handed_over_lem : (f : Bool) → f ≡ finishes M S r → (u : Controller) → (SizedController c → Deliverable M S → u ≡ deliver M c S)
       → (k : Sums) → k ≡ cond f (sums M u.applied) no_sums → (g : ℕ) → g ≡ cond f 1 0
       → Effected t (Handover r o) w (record { answer = record { refusal = 0; finished = g; sums = k; size = a.size; names = a.names }; controller = u }) v
   unfolding effect_of answer_of next subject after with_sent applied_by padded
   handed_over_lem f ef u eu k ek g eg =
-      let u-is = (rw (← em) at eu) of_run in
+      let u-is = (rw (← em) at eu) z of_run in
       record {
-        effect = rw (eg, rw (← em) at ek, sums-shown t r u z receiver, rw (← em) at ef, rw (← em) at ea, u-is, entry_read, set_is) refl;
+        effect = rw (eg, rw (← em) at ek, sums-within t r u (receiver_within t r o q.accepted), rw (← em) at ef, rw (← em) at ea, u-is, entry_read, set_is) refl;
         clear = clear;
       }
 
@@ -99,11 +92,10 @@ module _ (t : Table) (z : Sized t) (n : ℕ) (en : t.n ≡ n) (M : Messages) (em
   pub handed_none : a.size ≡ 0 → (b : Answer) → b ≡ no_set 0 → Effected t (Handover r o) w (record { answer = b; controller = c }) v
   unfolding effect_of no_set applied_by subject after finishes
   handed_none k b eb =
-      let u : SizedController c = subst SizedController (sym entry_read) (received_sized t r o (at_sized t r z receiver)) in
       let e = none_counted (messages_of t) S a (rw (← em) at ea) k in
       let none = none_in (messages_of t) S of_run e in
       record {
         effect = rw (eb, ← set_is, sym (take_all 0 (names_of (messages_of t) S) (omega (arith, e))), ← any_none t.count (λ s. has S s && (eqb (message t s).payload.kind sync_kind && eqb (message t s).sender r)) (λ s l. rw (none s) refl))
-            (ap (λ (d : Controller). record { answer = no_set 0; controller = d }) (deliver-none (messages_of t) c S u.highest u.pending u.applied of_run.fits none ∙ rw entry_read refl));
+            (ap (λ (d : Controller). record { answer = no_set 0; controller = d }) (deliver-none (messages_of t) c S z.highest z.pending z.applied of_run.fits none ∙ rw entry_read refl));
         clear = clear;
       }

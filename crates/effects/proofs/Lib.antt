@@ -1,6 +1,6 @@
+pub mod Greater
 pub mod Room
 pub mod Seats
-pub mod Forwarding
 pub mod SetApplied
 pub mod WriteDates
 pub mod StoredEffect

@@ -1,12 +1,16 @@
 -- What the code of an event relies on where no question refuses it: its controllers have seats, and its stores have room. Assumes nothing.
 use mathlib.Core.Path.{◌≡◌, refl, ◌∙◌}
+use mathlib.Core.Logic.{◌≢◌}
 use mathlib.Core.Bool.{true, false}
-use Prim.Native.Nat.{ℕ, ◌<◌}
+use Prim.Native.Nat.{ℕ, ◌+◌, ◌-◌, ◌≤◌, ◌<◌}
 use native.Mathlib.Omega.{arith}
+use native.Mathlib.Decide.{dec_lt}
+use lib.ListN.{length, get_or, get_or-eq_default}
 use lib.Dec.{leb}
-use Rattle.model.specs.Tables.{seats, capacity, at, message, held, highest, messages_of}
-use Rattle.model.specs.Events.{subject}
-use Rattle.model.specs.Sized.{Sized}
+use Rattle.lists.proofs.Tests.{contradiction}
+use Rattle.model.specs.Tables.{seats, capacity, yes?, no_controller, unheld, at, controller_in, message, place, held, highest, messages_of, with_entry, with_read}
+use Rattle.model.specs.Delivery.{has}
+use Rattle.model.specs.Events.{received, handover_set, subject}
 use Rattle.model.specs.Fair.{fair_register}
 use Rattle.model.specs.declared.Payload.{Payload}
 use Rattle.model.specs.declared.Table.{Table}
@@ -15,10 +19,11 @@ use Rattle.model.specs.declared.Event.TheVariants.{Send, Handover}
 use Rattle.model.specs.Facts.{Among, WellFormed}
 use Rattle.model.proofs.Tested.{facts}
 use Rattle.model.proofs.Allowed.{HandoverAllowed, send_allowed, handover_allowed, subject_allowed}
-use Rattle.model.proofs.Handovers.{next_at, set_at}
-use Rattle.invariant.proofs.Stores.{seated}
+use Rattle.model.proofs.Handovers.{next_at, received_at, set_at}
+use Rattle.model.proofs.Largest.{applicable-held, applicable-largest}
+use Rattle.invariant.proofs.Stores.{seated, marked_held_other, forward_case}
 use Rattle.invariant.proofs.Logs.{log_within, log_shorter}
-use Rattle.invariant.proofs.Receiving.{above_unapplied, next_slot_run, set_of_run}
+use Rattle.invariant.proofs.Receiving.{above_unapplied, next_slot_run}
 use Rattle.effects.specs.Conditions.{Accepted, Readable, Deliverable}
 
 -- the subject of an accepted event has a seat
@@ -69,16 +74,51 @@ module _ (t : Table) (w : WellFormed t) (r o : ℕ) (a : HandoverAllowed t r o) 
         };
       }
 
+  -- what the run has not is neither read nor buffered
+  outside_unheld : (s : ℕ) → s < capacity → t.count ≤ s → held (received_at t r o) s ≡ false
+  unfolding received
+  outside_unheld s l h =
+      let x = with_read (at t r) o in
+      let i = next_at t r o in
+      let out = ((w.controllers r a.receiver).outside s l h).0 in
+      let d : s ≢ i = λ e. omega (arith, next_slot_run t w r o a) in
+      forward_case (λ c. held c s ≡ false) x (message t i) i o (place (at t r) o + 1)
+      (λ _. out) (λ _ _. marked_held_other x i _ o _ s d ∙ out)
+      (λ _ _. marked_held_other (with_entry x i) i unheld.marks o _ s d ∙ out)
+
+  -- the set that it applies is of messages of the run
+  set_of_run : (s : ℕ) → has (set_at t r o) s ≡ true → s < t.count
+  set_of_run s m = of_run (dec_lt s t.count) (dec_lt s capacity)
+    where
+      buffered : s < capacity → held (received_at t r o) s ≡ true
+      buffered l = unfold handover_set in (applicable-held t.n (received_at t r o).pending s l m)
+
+      size : length (set_at t r o) ≡ capacity
+      size = unfold handover_set in (applicable-largest t.n (received_at t r o).pending).size
+
+      of_run : Dec (s < t.count) → Dec (s < capacity) → s < t.count
+      of_run (yes h) d = h
+      of_run (no h) (yes l) = contradiction (buffered l) (outside_unheld s l (omega arith))
+      of_run (no h) (no l) = contradiction m (get_or-eq_default (set_at t r o) false (omega (arith, size)))
+
 module _ (t : Table) (r o : ℕ) (q : Accepted t (Handover r o)) where
   pub readable : Readable t.messages (at t r) (at t o) o
   readable = entry_readable t (facts t q.0) r o (handover_allowed t r o q.1)
 
-  -- the set that it applies is of messages of the run
-  pub deliverable : Sized t → Deliverable (messages_of t) (set_at t r o)
-  deliverable z =
+  pub deliverable : Deliverable (messages_of t) (set_at t r o)
+  deliverable =
       let w = facts t q.0 in
       record {
         fits = w.fitting;
         senders = λ s h. seated w.few (w.senders s h);
-        of_run = set_of_run t w z r o (handover_allowed t r o q.1);
+        of_run = set_of_run t w r o (handover_allowed t r o q.1);
       }
+
+  -- the receiver runs, and so stands in the table
+  pub receiver_within : r - 1 < length t.controllers
+  unfolding controller_in
+  receiver_within = go (dec_lt (r - 1) (length t.controllers)) (handover_allowed t r o q.1).running
+    where
+      go : Dec (r - 1 < length t.controllers) → yes? (at t r).running ≡ true → r - 1 < length t.controllers
+      go (yes h) e = h
+      go (no h) e = let none : get_or t.controllers (r - 1) no_controller ≡ no_controller = get_or-eq_default t.controllers no_controller (omega arith) in cc

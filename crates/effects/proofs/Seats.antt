@@ -1,6 +1,6 @@
 -- The controllers that a record names, taken out of the table: they are the definition's. Assumes nothing.
 use mathlib.Core.Path.{◌≡◌, refl, ap}
-use Prim.Native.Nat.{ℕ, ◌-◌, ◌≤◌, ◌<◌}
+use Prim.Native.Nat.{ℕ, ◌-◌, ◌<◌}
 use native.Mathlib.Omega.{arith}
 use lib.ListN.{get_or}
 use Rattle.model.specs.Tables.{seats, no_controller, controller_in, at}
@@ -11,28 +11,17 @@ use Rattle.model.specs.declared.Event.TheVariants.{Send, Handover, Stop}
 use Rattle.model.specs.declared.Command.{Command}
 use Rattle.model.specs.declared.Command.TheVariants.{Act, Read}
 use Rattle.model.specs.Facts.{Among}
-use Rattle.effects.specs.declared.Parties.{Parties as Both}
 use Rattle.effects.specs.Conditions.{Accepted}
-use Rattle.effects.specs.Parties.{owner_of, seat_of, indices_of, hand_of, Allowed}
+use Rattle.effects.specs.Parties.{Both, owner_of, seat_of, indices_of, hand_of, Allowed}
 use Rattle.effects.proofs.Room.{subject_seated, readable}
 
 pub seat_is : (c i : ℕ) → i ≡ seat_of c → Among seats c → i ≡ c - 1
-unfolding seat_of
 seat_is c i e h = omega (arith, e, h.low, h.high)
-
-pub seat_low : (c i : ℕ) → i ≡ seat_of c → i < seats
-unfolding seat_of
-seat_low c i e = omega (arith, e)
-
--- past the last controller nothing is said
-pub seat_within : (c i : ℕ) → i ≡ seat_of c → c ≤ seats → i ≡ c - 1
-unfolding seat_of
-seat_within c i e h = omega (arith, e, h)
 
 pub indices_low : (a : Command) → ((indices_of a).subject < seats) × ((indices_of a).owner < seats)
 unfolding indices_of
-indices_low (Act e) = (seat_low (subject e) _ refl, seat_low (owner_of e) _ refl)
-indices_low (Read c) = (seat_low c _ refl, seat_low c _ refl)
+indices_low (Act e) = (omega arith, omega arith)
+indices_low (Read c) = (omega arith, omega arith)
 
 module _ (t : Table) where
   owner_seated : (e : Event) → Accepted t e → Among seats (owner_of e)

@@ -1,21 +1,22 @@
 -- A set applied one message at a time, in the order of the slots, is applied as one. Assumes nothing.
 use mathlib.Core.Path.{◌≡◌, refl, sym, ap, ◌∙◌}
 use mathlib.Core.Bool.{true, false, cond}
-use Prim.Native.Nat.{ℕ, zero, suc, ◌+◌, ◌-◌, max, ◌≤◌, ◌<◌}
+use mathlib.Core.List.{List}
+use Prim.Native.Nat.{ℕ, zero, suc, ◌+◌, ◌-◌, min, max, ◌≤◌, ◌<◌}
 use native.Mathlib.Numerals.{add-one}
 use native.Mathlib.Omega.{arith}
-use lib.ListN.{length, get_or, set, replicate}
+use lib.ListN.{length, get_or, set, take}
 use borrow.Author.Tests.{eq-eqb, ne_eqb}
+use Rattle.std.proofs.lemmas.List.{length-take, get_or-take}
 use Rattle.lists.specs.Below.{greatest}
 use Rattle.lists.specs.Build.{tabulate, over}
 use Rattle.lists.proofs.Tests.{cond_true, cond_false, refuted, contradiction}
 use Rattle.lists.proofs.Below.{greatest_last}
 use Rattle.lists.proofs.Build.{get_d_tabulate, tabulate_ext, tabulate_self, over_more}
 use Rattle.lists.proofs.Stores.{over-same, over_enough, set-tabulate}
-use Rattle.model.specs.Tables.{Messages, seats, capacity, absent, message_in, entry, highest, unheld, none, no_pending, forward_number, message_number, with_delivered}
+use Rattle.model.specs.Tables.{Messages, seats, capacity, message_in, no_message, entry, highest, unheld, none, no_pending, message_number, with_delivered}
 use Rattle.model.specs.Delivery.{Slots, has}
 use Rattle.model.specs.Events.{number_of, highest_in, deliver}
-use Rattle.model.specs.declared.ForwardNumber.{ForwardNumber}
 use Rattle.model.specs.declared.MessageNumber.{MessageNumber}
 use Rattle.model.specs.declared.Pending.{Pending}
 use Rattle.model.specs.declared.Message.{Message}
@@ -36,13 +37,15 @@ other_number : (x : ℕ) (m : Message) → (m.sender ≡ x → ⊥) → number_o
 unfolding number_of
 other_number x m d = cond_false m.number.0 0 (ne_eqb m.sender x d)
 
--- ONE MESSAGE: i is the index of its sender, f the mark that takes the place of all, and k its sender's highest number then
+-- THE MESSAGES, of which those sent are told
 
-pub one_applied : (c : Controller) (m : Message) (s i : ℕ) (f : ForwardNumber) (k : MessageNumber)
-    → i ≡ m.sender - 1 → f ≡ forward_number absent → k ≡ message_number (max (get_or c.highest i none).0 m.number.0)
-    → with_delivered c (set c.pending s (record { held = 0; marks = replicate seats f })) (set c.applied s 1) (set c.highest i k) ≡ with_applied c m s
-unfolding with_applied
-one_applied c m s i f k ei ef ek = rw (ek, ei, ef) refl
+pub sent_before : (M : Messages) (xs : List Message) (s : ℕ) → xs ≡ take (min M.count capacity) M.slots → s < length xs → s < M.count
+sent_before M xs s e h = omega (arith, ap length e, length-take (min M.count capacity) M.slots)
+
+pub sent_at : (M : Messages) (xs : List Message) (s : ℕ) → xs ≡ take (min M.count capacity) M.slots → s < length xs → get_or xs s no_message ≡ message_in M.slots s
+unfolding message_in
+sent_at M xs s e h = ap (λ (l : List Message). get_or l s no_message) e
+    ∙ get_or-take (min M.count capacity) M.slots s no_message (omega (arith, ap length e, length-take (min M.count capacity) M.slots))
 
 -- A SET APPLIED UP TO A SLOT
 

@@ -6,10 +6,11 @@ use mathlib.Core.List.{[]}
 use mathlib.Core.Logic.{◌⊎◌, inl, inr}
 use Prim.Native.Nat.{ℕ, ◌+◌, ◌-◌, min, ◌<◌}
 use native.Mathlib.Omega.{arith}
-use lib.ListN.{set}
+use lib.ListN.{length, set}
+use lib.Seq.{get_or-set_same}
 use denote.Enum.Declared.{tag_of}
 use Rattle.lists.proofs.Clipped.{any_none}
-use Rattle.model.specs.Tables.{Messages, seats, capacity, unheld, message_number, message_of, at, messages_of, with_controller, with_message, with_entry, with_mark, with_stop}
+use Rattle.model.specs.Tables.{Messages, seats, capacity, unheld, message_number, message_of, no_controller, controller_in, at, messages_of, with_controller, with_message, with_entry, with_mark, with_stop}
 use Rattle.model.specs.Registers.{date_of}
 use Rattle.model.specs.Events.{sent_message, sent, subject, after, with_sent, next, applied_by, sums, shown, panel_of, finishes}
 use Rattle.model.specs.Fair.{fair_register}
@@ -24,7 +25,6 @@ use Rattle.model.specs.declared.Event.{Event}
 use Rattle.model.specs.declared.Event.TheVariants.{Send, Handover, Stop}
 use Rattle.model.specs.contracts.Event as event
 use Rattle.model.proofs.Lengths.{none_named}
-use Rattle.invariant.proofs.Stores.{at_same}
 use Rattle.effects.specs.declared.Effect.{Effect}
 use Rattle.effects.specs.declared.Sent.{Sent}
 use Rattle.effects.specs.Conditions.{Accepted, Dated}
@@ -36,9 +36,12 @@ use Rattle.effects.proofs.WriteDates.{formed_dated}
 -- THE SUBJECT
 
 -- the sums of r as x, where it stands in the table
+pub sums-within : (t : Table) (r : ℕ) (x : Controller) → r - 1 < length t.controllers → sums (messages_of t) x.applied ≡ (panel_of (with_controller t r x) r).sums
+unfolding sums shown panel_of with_controller controller_in
+sums-within t r x h = rw (get_or-set_same t.controllers (r - 1) x no_controller h) refl
+
 pub sums-shown : (t : Table) (r : ℕ) (x : Controller) → Sized t → Among seats r → sums (messages_of t) x.applied ≡ (panel_of (with_controller t r x) r).sums
-unfolding sums shown panel_of with_controller
-sums-shown t r x z h = rw (at_same t r x z h) refl
+sums-shown t r x z h = sums-within t r x (omega (arith, z.controllers, h.low, h.high))
 
 -- EVENTS THAT APPLY NOTHING
 

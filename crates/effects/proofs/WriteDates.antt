@@ -6,8 +6,8 @@ use mathlib.Core.List.{List}
 use Prim.Native.Nat.{ℕ, suc, ◌+◌, ◌-◌, min, ◌≤◌, ◌<◌}
 use native.Mathlib.Omega.{arith}
 use lib.ListN.{get_or}
-use lib.Dec.{ltb}
-use borrow.Author.Tests.{ltb-true, leb-true, eq-eqb}
+use lib.Dec.{eqb, ltb}
+use borrow.Author.Tests.{ltb-true, leb-true, eqb-true}
 use Rattle.lists.proofs.Tests.{and_left, and_right, cond_true}
 use Rattle.lists.proofs.Build.{get_d_tabulate}
 use Rattle.model.specs.Tables.{Messages, capacity, register_count, write_kind, no_register, flagged, messages_of}
@@ -33,11 +33,11 @@ write-place p k e =
 
 -- what is read at the register's index, which is bounded, and of its date, which is too
 pub date_read : (M : Messages) (A : List ℕ) (p : Payload) (R : List Register) (i d : ℕ)
-    → p.kind ≡ write_kind → R ≡ registers M A → i ≡ min (p.reg - 1) (register_count - 1) → d ≡ min (get_or R i no_register).stamp.date capacity
+    → eqb p.kind write_kind ≡ true → R ≡ registers M A → i ≡ min (p.reg - 1) (register_count - 1) → d ≡ min (get_or R i no_register).stamp.date capacity
     → Dated M → fair_register p ≡ true → d + 1 ≡ date_of M A p
 unfolding date_of registers
 date_read M A p R i d w is ei ed dated e =
-    let h = write-place p w e in
+    let h = write-place p (eqb-true p.kind write_kind w) e in
     let q : suc i ≡ p.reg = omega (arith, ei, h.0, h.1) in
     let read : get_or R i no_register ≡ register_of M A p.reg
     = ap (λ (S : List Register). get_or S i no_register) is
@@ -45,4 +45,4 @@ date_read M A p R i d w is ei ed dated e =
     ∙ ap (register_of M A) q in
     let room : (register_of M A p.reg).stamp.date ≤ capacity
     = unfold register_of in (held_date capacity (newest-held M.slots (flagged A) p.reg M.count) dated) in
-    omega (arith, ed, ap (λ (y : Register). y.stamp.date) read, room) ∙ sym (cond_true _ _ (eq-eqb p.kind write_kind w))
+    omega (arith, ed, ap (λ (y : Register). y.stamp.date) read, room) ∙ sym (cond_true _ _ w)

@@ -2,7 +2,6 @@
 use Rattle.std.specs.Prelude.{ℕ, ◌+◌, ◌-◌, ◌≤◌, max, ◌≡◌, false, cond, List, [], length, set}
 use Rattle.model.specs.Tables.{Messages, scratch_size, no_sums, unheld, message_number, at, messages_of, highest, with_delivered}
 use Rattle.model.specs.Events.{sent_message, subject, after, next, applied_by, sums, panel_of, names_of, finishes}
-use Rattle.model.specs.Sized.{Sized}
 use Rattle.model.specs.Calls.{cleared, answer_of}
 use Rattle.model.specs.declared.Message.{Message}
 use Rattle.model.specs.declared.Payload.{Payload}
@@ -69,9 +68,13 @@ pub record Reads (t : Table) (x : Controller) (w : List ℕ) (answer : Answer) (
 pub record CarriesOut (t : Table) (e : Event) (x y : Controller) (w : List ℕ) (answer : Effect) (scratch : List ℕ) : Type 0 where
   pub effected : Allowed t e x y → scratch_size ≤ length w → Effected t e w answer scratch
 
+-- an event whose controllers are those of the table
+pub record Acts (t : Table) (e : Event) (w : List ℕ) (answer : Effect) (scratch : List ℕ) : Type 0 where
+  pub effected : Accepted t e → scratch_size ≤ length w → Effected t e w answer scratch
+
 -- one handover to r, which is x, from the log of o, which is y: of every table of n controllers with the messages M
 pub record HandsOver (n : ℕ) (M : Messages) (x y : Controller) (r o : ℕ) (w : List ℕ) (answer : Effect) (scratch : List ℕ) : Type 0 where
-  pub effected : (t : Table) → Sized t → t.n ≡ n → messages_of t ≡ M → Allowed t (Handover r o) x y → scratch_size ≤ length w
+  pub effected : (t : Table) → t.n ≡ n → messages_of t ≡ M → Allowed t (Handover r o) x y → scratch_size ≤ length w
       → Effected t (Handover r o) w answer scratch
 
 -- the message m that c sends after those of M; its sender is then x

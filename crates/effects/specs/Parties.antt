@@ -9,7 +9,7 @@ use Rattle.model.specs.declared.Event.TheVariants.{Send, Handover, Stop}
 use Rattle.model.specs.declared.Command.{Command}
 use Rattle.model.specs.declared.Command.TheVariants.{Act, Read}
 use Rattle.effects.specs.declared.Places.{Places}
-use Rattle.effects.specs.declared.Parties.{Parties as Both}
+use Rattle.model.specs.declared.Parties.{Parties}
 use Rattle.effects.specs.Conditions.{Accepted}
 
 -- the controller whose log a handover reads; the subject of any other event
@@ -19,7 +19,7 @@ owner_of (Handover r o) = o
 owner_of (Stop c k) = c
 
 -- the index of controller c, from 1, and always that of some controller
-unfoldable pub seat_of : ℕ → ℕ
+abbrev pub seat_of : ℕ → ℕ
 seat_of c = min (c - 1) (seats - 1)
 
 -- the indices of the controllers that a record names; a local read has its controller for both
@@ -27,9 +27,18 @@ unfoldable pub indices_of : Command → Places
 indices_of (Act e) = record { subject = seat_of (subject e); owner = seat_of (owner_of e) }
 indices_of (Read c) = record { subject = seat_of c; owner = seat_of c }
 
+-- the two controllers that a record names
+pub record Both : Type 0 where
+  pub subject : Controller
+  pub owner : Controller
+
 -- what stands among the controllers C in these places
 unfoldable pub hand_of : List Controller → Command → Both
 hand_of C a = record { subject = get_or C (indices_of a).subject no_controller; owner = get_or C (indices_of a).owner no_controller }
+
+-- the controllers that references lead to
+abbrev pub both : Parties → Both
+both p = record { subject = p.subject.now; owner = p.owner.now }
 
 -- no question refuses the event; its subject is x, and it reads the log of y
 pub record Allowed (t : Table) (e : Event) (x y : Controller) : Type 0 where

@@ -7,24 +7,18 @@ ghost use Rattle.model.specs.Tables.{seats, capacity, no_sums, unheld, first_of,
 ghost use Rattle.model.specs.Registers.{date_of};
 ghost use Rattle.model.specs.Fair.{fair_register};
 ghost use Rattle.model.specs.Events.{forward, received, deliver, subject, sums};
+ghost use Rattle.model.specs.Handed.{all_of};
+ghost use Rattle.model.specs.Sized.{SizedController};
 ghost use Rattle.effects.specs.Conditions.{Receivable, Readable, Deliverable, Dated};
-ghost use Rattle.effects.specs.Parties.{owner_of, seat_of, indices_of, hand_of};
-ghost use Rattle.effects.specs.Effects.{with_applied, no_set, Quiet, Reads, HandsOver, CarriesOut, Sends, Adds, Stores};
+ghost use Rattle.effects.specs.Parties.{owner_of, seat_of, indices_of, both, hand_of};
+ghost use Rattle.effects.specs.Effects.{with_applied, no_set, Quiet, Reads, HandsOver, CarriesOut, Acts, Sends, Adds, Stores};
 
 use model::{
-    Answer, Command, Controller, Event, ForwardNumber, Message, MessageNumber, Name, Panel,
-    Payload, Pending, Sums, Table,
+    Answer, Command, Controller, Event, ForwardNumber, Kind, Message, MessageNumber, Messages,
+    Name, Pair, Panel, Parties, Payload, Pending, Sums, Table, refusal,
 };
 
 // THE CONTROLLERS
-
-// The controllers that an event reads: its subject, and the one whose log a handover reads. An event of another kind has its
-// subject for both.
-#[derive(Clone, Copy)]
-pub struct Parties {
-    pub subject: Controller,
-    pub owner: Controller,
-}
 
 // The controller that an event changes.
 #[tactic(auto, unfolding(model::specs::Events::subject))]
@@ -32,33 +26,32 @@ pub fn subject(e: Event) -> u8
     ensures { result ≡ subject e }
 {
     match e {
-        Event::Send { sender, payload } => sender,
-        Event::Handover { receiver, owner } => receiver,
-        Event::Stop { controller, kept } => controller,
+        Event::Send { sender, .. } => sender,
+        Event::Handover { receiver, .. } => receiver,
+        Event::Stop { controller, .. } => controller,
     }
 }
 
-// The controller whose log a handover reads; the subject of any other event.
+// The controller whose log a handover reads; the subject of any other event. (Beside `subject`: they differ in one arm, and one function
+// for both is no plainer.)
 #[tactic(auto, unfolding(crate::specs::Parties::owner_of))]
 pub fn owner(e: Event) -> u8
     ensures { result ≡ owner_of e }
 {
     match e {
-        Event::Send { sender, payload } => sender,
-        Event::Handover { receiver, owner } => owner,
-        Event::Stop { controller, kept } => controller,
+        Event::Send { sender, .. } => sender,
+        Event::Handover { owner, .. } => owner,
+        Event::Stop { controller, .. } => controller,
     }
 }
 
 // The index of a controller, and of some controller where there is none of that number.
-#[tactic(auto, unfolding(crate::specs::Parties::seat_of))]
 pub fn seat(controller: u8) -> usize
     ensures { result ≡ seat_of controller }
 {
-    numbers::at_most(
-        numbers::predecessor(controller as usize),
-        Table::CONTROLLERS - 1,
-    )
+    (controller as usize)
+        .saturating_sub(1)
+        .min(Table::CONTROLLERS - 1)
 }
 
 // The indices of the controllers that a record names. A local read has its controller for both.
@@ -68,6 +61,7 @@ pub struct Places {
     pub owner: usize,
 }
 
+#[tactic(auto, unfolding(crate::specs::Parties::indices_of))]
 pub fn indices(a: Command) -> Places
     ensures { result ≡ indices_of a }
 {
@@ -84,147 +78,113 @@ pub fn indices(a: Command) -> Places
 }
 
 // The two controllers that a record names, out of all.
-pub fn at_hand(controllers: [Controller; Table::CONTROLLERS], a: Command) -> Parties
-    ensures { result ≡ hand_of controllers a }
+#[tactic(auto, using(crate::proofs::Seats::indices_low), unfolding(crate::specs::Parties::hand_of))]
+pub fn at_hand(controllers: &[Controller; Table::CONTROLLERS], a: Command) -> Parties<'_>
+    ensures { both result ≡ hand_of controllers.now a }
 {
     let places = indices(a);
-    let i = places.subject;
-    let j = places.owner;
     Parties {
-        subject: controllers[i],
-        owner: controllers[j],
+        subject: &controllers[places.subject],
+        owner: &controllers[places.owner],
     }
 }
 
-// WHAT EACH KIND DOES
+// WHAT EACH KIND DOES. A slot is below 64 and a place below 256 in each: a type for either, with its own proof at each place that makes
+// one, is no plainer than the two bounds.
 
 // One entry more at the end of a log.
-fn with_entry(c: Controller, slot: usize) -> Controller
+fn add_entry(c: &mut Controller, slot: usize)
     requires { slot < capacity }
-    ensures { c.length < capacity → result ≡ with_entry c slot }
+    ensures { c.old.length < capacity → c.new ≡ with_entry c.old slot }
 {
-    let end = numbers::at_most(c.length, Table::MESSAGES - 1);
-    let mut next = c;
-    next.log[end] = slot as u8;
-    next.length = end + 1;
-    next
+    let end = c.length.min(Table::MESSAGES - 1);
+    c.log[end] = slot as u8;
+    c.length = end + 1;
 }
 
-// A slot buffered with these marks, and a place in the owner's log marked.
-fn with_mark(
-    c: Controller,
+// A slot buffered with these marks, and a place in the owner's log marked. Marks go by value: a rule of the project.
+fn set_mark(
+    c: &mut Controller,
     slot: usize,
-    marks: [ForwardNumber; Table::CONTROLLERS],
+    mut marks: [ForwardNumber; Table::CONTROLLERS],
     owner: u8,
     place: usize,
-) -> Controller
+)
     requires { (slot < capacity) × (place < 256) }
-    ensures { Among seats owner → result ≡ with_mark c slot marks owner place }
+    ensures { Among seats owner → c.new ≡ with_mark c.old slot marks owner place }
 {
-    let i = seat(owner);
-    let mut marked = marks;
-    marked[i] = ForwardNumber::of(place as u8);
-    let mut next = c;
-    next.pending[slot] = Pending {
-        held: 1,
-        marks: marked,
-    };
-    next
+    marks[seat(owner)] = ForwardNumber::of(place as u8);
+    c.pending[slot] = Pending { held: 1, marks };
 }
 
 // A slot ends the log and is buffered, with one mark.
-fn buffered(c: Controller, slot: usize, owner: u8, place: usize) -> Controller
+fn buffer(c: &mut Controller, slot: usize, owner: u8, place: usize)
     requires { (slot < capacity) × (place < 256) }
-    ensures { c.length < capacity → Among seats owner → result ≡ with_mark (with_entry c slot) slot unheld.marks owner place }
+    ensures { c.old.length < capacity → Among seats owner → c.new ≡ with_mark (with_entry c.old slot) slot unheld.marks owner place }
 {
-    let absent = ForwardNumber::of(ForwardNumber::ABSENT);
-    let longer = with_entry(c, slot);
-    with_mark(longer, slot, [absent; Table::CONTROLLERS], owner, place)
+    add_entry(c, slot);
+    set_mark(c, slot, Pending::UNHELD.marks, owner, place);
 }
 
 // The controller runs no longer, and its log has the entries kept.
-fn stopped(c: Controller, kept: usize) -> Controller
-    ensures { result ≡ with_stop c kept }
+fn stop(c: &mut Controller, kept: usize)
+    ensures { c.new ≡ with_stop c.old kept }
 {
-    let mut next = c;
-    next.running = 0;
-    next.length = kept;
-    next
+    c.running = 0;
+    c.length = kept;
 }
 
 // An entry of the owner's log is passed over, marked, or buffered and forwarded.
-fn forwarded(c: Controller, m: Message, slot: usize, owner: u8, place: usize) -> Controller
+#[tactic(auto, unfolding(model::specs::Events::forward))]
+fn forward(c: &mut Controller, m: &Message, slot: usize, owner: u8, place: usize)
     requires { (slot < capacity) × (place < 256) }
-    ensures { Receivable c m slot owner → result ≡ forward c m slot owner place }
+    ensures { Receivable c.old m.now slot owner → c.new ≡ forward c.old m.now slot owner place }
 {
-    let i = seat(m.sender);
-    let highest = c.highest[i];
-    if m.number.0 <= highest.0 {
-        return c;
+    if m.number <= c.highest[seat(m.sender)] {
+        return;
     }
     let entry = c.pending[slot];
-    if entry.held != 0 {
-        let marks = entry.marks;
-        return with_mark(c, slot, marks, owner, place);
+    if entry.is_held() {
+        set_mark(c, slot, entry.marks, owner, place);
+    } else {
+        buffer(c, slot, owner, place);
     }
-    buffered(c, slot, owner, place)
 }
 
-// The receiver after it has read the next entry of the owner's log, and before it applies.
-fn received(
-    count: usize,
-    messages: [Message; Table::MESSAGES],
-    x: Controller,
-    y: Controller,
-    owner: u8,
-) -> Controller
-    ensures { Readable messages x y owner → result ≡ received (first_of count messages) x y owner }
+// The receiver, which is the subject, after it has read the next entry of the owner's log, and before it applies.
+fn received(messages: Messages, p: Parties, owner: u8) -> Controller
+    ensures { Readable messages.entry.slots.now p.entry.subject.now p.entry.owner.now owner → result ≡ received (all_of messages.entry) p.entry.subject.now p.entry.owner.now owner }
 {
     let i = seat(owner);
-    let mut c = x;
-    let place = numbers::at_most(c.read[i], Table::MESSAGES - 1);
+    let mut c = *p.subject;
+    let place = c.read[i].min(Table::MESSAGES - 1);
     c.read[i] = place + 1;
-    let slot = numbers::at_most(y.log[place] as usize, Table::MESSAGES - 1);
-    let m = messages[slot];
-    forwarded(c, m, slot, owner, place + 1)
+    let slot = (p.owner.log[place] as usize).min(Table::MESSAGES - 1);
+    forward(&mut c, &messages.slots[slot], slot, owner, place + 1);
+    c
 }
 
 // A message leaves the buffer and is applied.
-fn with_applied(c: Controller, m: Message, slot: usize) -> Controller
+#[tactic(auto, using(crate::proofs::Greater::greater_number), unfolding(crate::specs::Effects::with_applied))]
+fn apply(c: &mut Controller, m: &Message, slot: usize)
     requires { slot < capacity }
-    ensures { Among seats m.sender → result ≡ with_applied c m slot }
+    ensures { Among seats m.now.sender → c.new ≡ with_applied c.old m.now slot }
 {
-    let absent = ForwardNumber::of(ForwardNumber::ABSENT);
     let i = seat(m.sender);
-    let before = c.highest[i];
-    let mut next = c;
-    next.pending[slot] = Pending {
-        held: 0,
-        marks: [absent; Table::CONTROLLERS],
-    };
-    next.applied[slot] = 1;
-    let number = numbers::greater(before.0, m.number.0);
-    next.highest[i] = MessageNumber::of(number);
-    next
+    c.pending[slot] = Pending::UNHELD;
+    c.applied[slot] = 1;
+    c.highest[i] = c.highest[i].max(m.number);
 }
 
 // The members leave the buffer as one.
-fn delivered(
-    count: usize,
-    messages: [Message; Table::MESSAGES],
-    c: Controller,
-    members: [bool; Table::MESSAGES],
-) -> Controller
-    ensures { Deliverable (first_of count messages) members → result ≡ deliver (first_of count messages) c members }
+fn deliver(messages: Messages, c: &mut Controller, members: &[bool; Table::MESSAGES])
+    ensures { SizedController c.old → Deliverable (all_of messages.entry) members.now → c.new ≡ deliver (all_of messages.entry) c.old members.now }
 {
-    let mut next = c;
-    for slot in 0..numbers::at_most(count, Table::MESSAGES) {
-        if !members[slot] {
-            continue;
+    for (slot, m) in messages.sent().iter().enumerate() {
+        if members[slot] {
+            apply(c, m, slot);
         }
-        next = with_applied(next, messages[slot], slot);
     }
-    next
 }
 
 // THE EFFECT
@@ -236,170 +196,169 @@ pub struct Effect {
     pub controller: Controller,
 }
 
-// The answer of a refusal, or of what applies nothing.
+// The answer of a refusal, or of what applies nothing. The refusal goes by its number: the C interface.
 #[tactic(auto, unfolding(crate::specs::Effects::no_set, model::specs::Calls::answer_of, lists::specs::Build::overlay))]
 pub fn no_set(refusal: u8) -> Answer
     ensures { result ≡ no_set refusal }
 {
-    let none = Name {
-        sender: 0,
-        number: MessageNumber(MessageNumber::NONE),
-    };
     Answer {
         refusal,
         finished: 0,
         sums: Sums::zero(),
         size: 0,
-        names: [none; Table::MESSAGES],
+        names: [Name::NONE; Table::MESSAGES],
     }
 }
 
 // The sums that the panel of a controller shows, which may not be in the table yet.
-pub fn sums(t: Table, c: Controller) -> Sums
-    ensures { result ≡ sums (messages_of t) c.applied }
+pub fn sums(t: &Table, c: &Controller) -> Sums
+    ensures { result ≡ sums (messages_of t.now) c.now.applied }
 {
-    let messages = t.messages;
-    let applied = c.applied;
-    totals::sums(t.count, messages, applied)
+    totals::sums(t.sent(), &c.applied)
 }
 
-// The effect of a command that applies nothing and leaves its subject as c. Whatever is accepted leaves scratch zero: here, or by
+// The effect of a command that applies nothing and leaves its subject as c, which is moved in. Whatever is accepted leaves scratch zero: here, or by
 // the delivery rule of a handover.
 pub fn quiet(c: Controller, scratch: &mut [u8]) -> Effect
     ensures { Quiet c scratch.old result scratch.new }
 {
     delivery::clear(scratch);
     Effect {
-        answer: no_set(0),
+        answer: no_set(refusal::ACCEPTED),
         controller: c,
     }
 }
 
 // What a local read answers: the sums that the panel of its controller, which is x, shows.
-pub fn read_answer(t: Table, x: Controller, scratch: &mut [u8]) -> Answer
-    ensures { Reads t x scratch.old result scratch.new }
+#[tactic(auto, unfolding(crate::specs::Effects::no_set, crate::specs::Effects::read_answer, model::specs::Calls::answer_of))]
+pub fn read_answer(t: &Table, x: &Controller, scratch: &mut [u8]) -> Answer
+    ensures { Reads t.now x.now scratch.old result scratch.new }
 {
     let sums = sums(t, x);
-    let done = quiet(x, scratch);
-    let mut answer = done.answer;
-    answer.sums = sums;
-    answer
+    delivery::clear(scratch);
+    Answer {
+        sums,
+        ..no_set(refusal::ACCEPTED)
+    }
 }
 
-// A finished sync's answer, where this was applied; zeros where none is finished.
-fn sync_answer(
-    count: usize,
-    messages: [Message; Table::MESSAGES],
-    applied: [u8; Table::MESSAGES],
-    finished: bool,
-) -> Sums
-    ensures { result ≡ cond finished (sums (first_of count messages) applied) no_sums }
+// A finished sync's answer, where this was applied; zeros where none is finished (the C interface has the flag beside the sums).
+fn sync_answer(messages: Messages, applied: &[u8; Table::MESSAGES], finished: bool) -> Sums
+    ensures { result ≡ cond finished (sums (all_of messages.entry) applied.now) no_sums }
 {
     if finished {
-        return totals::sums(count, messages, applied);
+        totals::sums(messages, applied)
+    } else {
+        Sums::zero()
     }
-    Sums::zero()
 }
 
-// One handover, to the receiver x from the log of the owner y: an entry is read, and a set that is not empty is named and applied.
+// One handover, to the receiver, which is the subject, from the log of the owner: an entry is read, and a set that is not empty is
+// named and applied.
 pub fn hand_over(
     n: usize,
-    count: usize,
-    messages: [Message; Table::MESSAGES],
-    x: Controller,
-    y: Controller,
+    messages: Messages,
+    p: Parties,
     receiver: u8,
     owner: u8,
     scratch: &mut [u8],
 ) -> Effect
-    ensures { HandsOver n (first_of count messages) x y receiver owner scratch.old result scratch.new }
+    ensures { HandsOver n (all_of messages.entry) p.entry.subject.now p.entry.owner.now receiver owner scratch.old result scratch.new }
 {
-    let c = received(count, messages, x, y, owner);
-    let pending = c.pending;
-    let members = delivery::apply(n, pending, scratch);
-    let all = naming::names_of(count, messages, members);
-    let size = all.size;
-    if size == 0 {
+    let mut c = received(messages, p, owner);
+    let members = delivery::apply(n, &c.pending, scratch);
+    let all = naming::names_of(messages, &members);
+    if all.size == 0 {
         return Effect {
-            answer: no_set(0),
+            answer: no_set(refusal::ACCEPTED),
             controller: c,
         };
     }
+    let finished = totals::finishes(messages, &members, receiver);
+    deliver(messages, &mut c, &members);
+    let sums = sync_answer(messages, &c.applied, finished);
     let names = all.names;
-    let finished = totals::finishes(count, messages, members, receiver);
-    let after = delivered(count, messages, c, members);
-    let applied = after.applied;
-    let sums = sync_answer(count, messages, applied, finished);
     Effect {
         answer: Answer {
-            refusal: 0,
-            finished: numbers::flag(finished),
+            refusal: refusal::ACCEPTED,
+            finished: u8::from(finished),
             sums,
-            size,
+            size: all.size,
             names,
         },
-        controller: after,
+        controller: c,
     }
 }
 
-// What an event does whose subject is x, and which reads the log of y.
-pub fn carry_out(t: Table, x: Controller, y: Controller, e: Event, scratch: &mut [u8]) -> Effect
-    ensures { CarriesOut t e x y scratch.old result scratch.new }
+// What an event does to its subject, which reads the log of the owner.
+pub fn carry_out(t: &Table, p: Parties, e: Event, scratch: &mut [u8]) -> Effect
+    ensures { CarriesOut t.now e p.entry.subject.now p.entry.owner.now scratch.old result scratch.new }
 {
     match e {
-        Event::Send { sender, payload } => {
-            let slot = numbers::at_most(t.count, Table::MESSAGES - 1);
-            let place = numbers::at_most(x.length, Table::MESSAGES - 1) + 1;
-            quiet(buffered(x, slot, sender, place), scratch)
+        Event::Send { sender, .. } => {
+            let slot = t.count.min(Table::MESSAGES - 1);
+            let mut c = *p.subject;
+            let place = c.length.min(Table::MESSAGES - 1) + 1;
+            buffer(&mut c, slot, sender, place);
+            quiet(c, scratch)
         }
         Event::Handover { receiver, owner } => {
-            let messages = t.messages;
-            hand_over(t.n, t.count, messages, x, y, receiver, owner, scratch)
+            hand_over(t.n, t.sent(), p, receiver, owner, scratch)
         }
-        Event::Stop { controller, kept } => quiet(stopped(x, kept), scratch),
+        Event::Stop { kept, .. } => {
+            let mut c = *p.subject;
+            stop(&mut c, kept);
+            quiet(c, scratch)
+        }
     }
+}
+
+// The handover of a pair of controllers.
+pub fn handover(pair: Pair) -> Event
+    ensures { Among seats pair.receiver → Among seats pair.owner → result ≡ Event.Handover pair.receiver pair.owner }
+{
+    Event::Handover {
+        receiver: pair.receiver.min(Table::CONTROLLERS) as u8,
+        owner: pair.owner.min(Table::CONTROLLERS) as u8,
+    }
+}
+
+// What an event does to its subject, where the controllers that it names stand in the table.
+#[tactic(auto, using(crate::proofs::Seats::allowed_hand))]
+pub fn act(t: &Table, e: Event, scratch: &mut [u8]) -> Effect
+    ensures { Acts t.now e scratch.old result scratch.new }
+{
+    let p = at_hand(&t.controllers, Command::Act(e));
+    carry_out(t, p, e, scratch)
 }
 
 // THE TABLE
 
 // The date of a message that follows these, whose sender has applied what is flagged: that of a write is one more than its register
 // has there.
-fn date_of(
-    count: usize,
-    messages: [Message; Table::MESSAGES],
-    applied: [u8; Table::MESSAGES],
-    p: Payload,
-) -> u16
-    ensures { Dated (first_of count messages) → fair_register p ≡ true → result ≡ date_of (first_of count messages) applied p }
+#[tactic(auto, using(crate::proofs::WriteDates::date_read), unfolding(model::specs::Registers::date_of))]
+fn date_of(messages: Messages, applied: &[u8; Table::MESSAGES], p: Payload) -> u16
+    ensures { Dated (all_of messages.entry) → fair_register p ≡ true → result ≡ date_of (all_of messages.entry) applied.now p }
 {
-    let kind = p.kind;
-    if kind != Payload::WRITE {
+    if !p.is(Kind::Write) {
         return 0;
     }
-    let i = numbers::at_most(numbers::predecessor(p.reg as usize), Panel::REGISTERS - 1);
-    let registers = totals::registers(count, messages, applied);
-    let register = registers[i];
-    let date = numbers::at_most(register.stamp.date as usize, Table::MESSAGES);
+    let i = (p.reg as usize).saturating_sub(1).min(Panel::REGISTERS - 1);
+    let registers = totals::registers(messages, applied);
+    let date = (registers[i].stamp.date as usize).min(Table::MESSAGES);
     date as u16 + 1
 }
 
 // The message that a send adds to these, where its sender is then c.
-fn sent_message(
-    count: usize,
-    messages: [Message; Table::MESSAGES],
-    c: Controller,
-    sender: u8,
-    payload: Payload,
-) -> Message
-    ensures { Sends (first_of count messages) c sender payload result }
+fn sent_message(messages: Messages, c: &Controller, sender: u8, payload: Payload) -> Message
+    ensures { Sends (all_of messages.entry) c.now sender payload result }
 {
-    let number = MessageNumber::of(numbers::at_most(c.length, Table::MESSAGES) as u8);
-    let applied = c.applied;
-    let date = date_of(count, messages, applied, payload);
+    let number = MessageNumber::of(c.length.min(Table::MESSAGES) as u8);
+    let date = date_of(messages, &c.applied, payload);
     Message::of(sender, number, date, payload)
 }
 
-// The messages, and how many they are.
+// The messages, and how many they are: an array with its length beside it (no heap).
 #[derive(Clone, Copy)]
 pub struct Sent {
     pub count: usize,
@@ -407,38 +366,35 @@ pub struct Sent {
 }
 
 // The messages after a send, whose sender is then c.
-pub fn with_sent(
-    count: usize,
-    messages: [Message; Table::MESSAGES],
-    c: Controller,
-    sender: u8,
-    payload: Payload,
-) -> Sent
-    ensures { Adds (first_of count messages) c sender payload result }
+pub fn with_sent(messages: Messages, c: &Controller, sender: u8, payload: Payload) -> Sent
+    ensures { Adds (all_of messages.entry) c.now sender payload result }
 {
-    let slot = numbers::at_most(count, Table::MESSAGES - 1);
-    let mut next = messages;
-    next[slot] = sent_message(count, messages, c, sender, payload);
+    let slot = messages.count.min(Table::MESSAGES - 1);
+    let mut next = *messages.slots;
+    next[slot] = sent_message(messages, c, sender, payload);
     Sent {
         count: slot + 1,
         messages: next,
     }
 }
 
-// The table after an event that leaves its subject as c: a send adds its message.
-pub fn stored(t: Table, e: Event, c: Controller) -> Table
+// Stores what an event leaves: its subject as c, which is moved in, and the message of a send.
+pub fn store(t: &mut Table, e: Event, c: Controller)
+    ensures { Stores t.old e c t.new }
+{
+    t.controllers[seat(subject(e))] = c;
+    if let Event::Send { sender, payload } = e {
+        let sent = with_sent(t.sent(), &c, sender, payload);
+        let messages = sent.messages;
+        t.count = sent.count;
+        t.messages = messages;
+    }
+}
+
+// The table after an event that leaves its subject as c. By value, as the by-value event call has it: a rule of the project.
+pub fn stored(mut t: Table, e: Event, c: Controller) -> Table
     ensures { Stores t e c result }
 {
-    let i = seat(subject(e));
-    let mut next = t;
-    next.controllers[i] = c;
-    let Event::Send { sender, payload } = e else {
-        return next;
-    };
-    let messages = t.messages;
-    let sent = with_sent(t.count, messages, c, sender, payload);
-    let all = sent.messages;
-    next.count = sent.count;
-    next.messages = all;
-    next
+    store(&mut t, e, c);
+    t
 }

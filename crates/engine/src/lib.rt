@@ -1,5 +1,6 @@
 // The calls that C and Rust make. Each hands what it is lent to the function that answers it and stores what comes back. Its
-// contract is an equation for its result and for all that it may write.
+// contract is an equation for its result and for all that it may write. Calls that differ in their types are each their own, and a pair
+// is two numbers: the C interface.
 #![tactic(auto)]
 
 ghost use Rattle.std.specs.Prelude.{◌≡◌};
@@ -8,6 +9,8 @@ ghost use Rattle.turns.specs.Dispatcher.{pair};
 ghost use Rattle.files.specs.FileRun.{Runs};
 ghost use Rattle.supervisor.specs.Supervised.{Asks};
 ghost use Rattle.engine.specs.Called.{Counted, DispatchLeaves, CommitLeaves, interface};
+
+use model::Pair;
 
 // The state of the interface. It goes up whenever a struct, a constant, a refusal or a call changes that C or Rust see.
 const INTERFACE: usize = 4;
@@ -40,7 +43,7 @@ pub extern "C" fn furnacejade_event(
 pub extern "C" fn furnacejade_look(t: &model::Table, c: usize, answer: &mut model::LookAnswer)
     ensures { answer.new ≡ look t.now c }
 {
-    *answer = looks::look_at(*t, c);
+    *answer = looks::look_at(t, c);
 }
 
 // How many controllers put the first message before the second, as controller c has it.
@@ -54,7 +57,7 @@ pub extern "C" fn furnacejade_count_before(
 )
     ensures { answer.new ≡ count_before t.now c first.now second.now }
 {
-    *answer = looks::count_before(*t, c, *first, *second);
+    *answer = looks::count_before(t, c, *first, *second);
 }
 
 // The fresh table of a version, of n controllers.
@@ -76,7 +79,7 @@ pub extern "C" fn furnacejade_dispatch(
 )
     ensures { DispatchLeaves t.old (pair receiver owner) scratch.old t.new answer.new scratch.new }
 {
-    let s = dispatcher::dispatch(*t, receiver, owner, scratch);
+    let s = dispatcher::dispatch(*t, Pair { receiver, owner }, scratch);
     *t = s.table;
     *answer = s.answer;
 }
@@ -92,7 +95,7 @@ pub extern "C" fn furnacejade_ask(
 )
     ensures { Asks t.now (pair receiver owner) scratch.old answer.new scratch.new }
 {
-    *answer = supervisor::ask(*t, receiver, owner, scratch);
+    *answer = supervisor::ask(t, Pair { receiver, owner }, scratch);
 }
 
 // That handover, made if the receiver's act count is the one given.
@@ -107,7 +110,7 @@ pub extern "C" fn furnacejade_commit(
 )
     ensures { CommitLeaves t.old (pair receiver owner) acts scratch.old t.new answer.new scratch.new }
 {
-    let s = supervisor::commit(*t, receiver, owner, acts, scratch);
+    let s = supervisor::commit(*t, Pair { receiver, owner }, acts, scratch);
     *t = s.table;
     *answer = s.answer;
 }

@@ -1,10 +1,9 @@
 -- From what an event does to what the event call answers and leaves, refused or not. Assumes nothing.
-use mathlib.Core.Path.{◌≡◌, refl, ◌∙◌}
+use mathlib.Core.Path.{◌≡◌, refl}
 use mathlib.Core.Logic.{◌≢◌}
-use mathlib.Core.Bool.{true, false}
-use mathlib.Core.List.{List}
+use mathlib.Core.Bool.{true}
+use mathlib.Core.List.{List, ◌∷◌}
 use Prim.Native.Nat.{ℕ, ◌+◌}
-use native.Mathlib.Omega.{arith}
 use lib.ListN.{length}
 use borrow.Author.Tests.{ne_eqb}
 use Rattle.model.specs.Tables.{at}
@@ -18,7 +17,10 @@ use Rattle.model.specs.declared.Table.{Table}
 use Rattle.model.specs.declared.Event.{Event}
 use Rattle.model.specs.declared.Command.TheVariants.{Act, Read}
 use Rattle.model.specs.declared.Answer.{Answer}
-use Rattle.model.proofs.Steps.{step_is_accepted, step_is_refused, event_is_step}
+use Rattle.model.specs.Refusals.{refusal_number}
+use Rattle.model.specs.declared.refusal.Refusal.{Refusal}
+use Rattle.model.proofs.Steps.{step_is_accepted, event_is_step}
+use Rattle.model.proofs.Refused.{refusal_is}
 use Rattle.events.specs.declared.Stepped.{Stepped}
 use Rattle.effects.specs.declared.Effect.{Effect}
 use Rattle.effects.specs.Effects.{no_set, read_answer, effect_of, Effected, Reads}
@@ -28,10 +30,6 @@ module _ (t : Table) (s w : List ℕ) where
   refused_answer : (o : Outcome) (k : ℕ) → o ≡ refused t s k → k ≢ 0 → (r : Stepped) → r ≡ unchanged t k → Answers o s w r w
   unfolding stepped_of refused unchanged no_set answer_of scratch_after
   refused_answer o k e n r d = rw e (record { outcome = rw (ne_eqb k 0 n) d; clear = rw (ne_eqb k 0 n) refl })
-
-  pub step-refused : (k : ℕ) → k ≡ first_no (step_questions t s (length w)) → k ≢ 0 → (r : Stepped) → r ≡ unchanged t k
-      → Answers (step t s (length w)) s w r w
-  step-refused k e n r d = refused_answer (step t s (length w)) k (rw e (step_is_refused t s (length w) (λ z. n (e ∙ z)))) n r d
 
   -- the command of the bytes is accepted, and uses them
   module _ (z : first_no (step_questions t s (length w)) ≡ 0) (u : ℕ) (eu : u ≡ size s + 1) where
@@ -47,12 +45,11 @@ module _ (t : Table) (s w : List ℕ) where
     step_read c q x ex a v r =
         rw (step_is_accepted t s (length w) z) (record { outcome = rw (r.sums_are, ex, eu, q) refl; clear = rw q r.clear })
 
-  event_is_refused : (room : ℕ) → well_formed t ≡ false → event t s room ≡ refused t s 4
-  unfolding event settled first_no lent_table
-  event_is_refused room f = rw f refl
-
-  pub event-refused_four : (r : Stepped) → well_formed t ≡ false → r ≡ unchanged t 4 → Steps t s w r w
-  event-refused_four r f d = refused_answer (event t s (length w)) 4 (event_is_refused (length w) f) (λ z. omega arith) r d
+  -- a refusal, by the questions in their order
+  pub event-refused : (q : Refusal) → refusal_number q ≡ first_no (lent_table t ∷ step_questions t s (length w)) → (r : Stepped)
+      → r ≡ unchanged t (refusal_number q) → Steps t s w r w
+  unfolding event settled
+  event-refused q e r d = refused_answer (event t s (length w)) (refusal_number q) (rw (← e, ne_eqb _ 0 (refusal_is q)) refl) (refusal_is q) r d
 
   pub event_stepped : (r : Stepped) (v : List ℕ) → well_formed t ≡ true → Answers (step t s (length w)) s w r v → Steps t s w r v
   event_stepped r v f d = rw (event_is_step t s (length w) f) d

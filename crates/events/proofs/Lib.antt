@@ -1,4 +1,3 @@
 pub mod QuestionOrder
 pub mod CallOutcome
-pub mod FreshTable
 pub mod UnreadRest

@@ -1,16 +1,16 @@
 -- What the event call answers and leaves, as its callers get it by value; and the questions that are put to a record once it was read.
 use Rattle.std.specs.Prelude.{ℕ, ◌+◌, ◌≡◌, cond, List, [], ◌∷◌, ◌++◌, length, eqb}
 use Rattle.model.specs.Records.{size}
-use Rattle.model.specs.Questions.{ask, first_no, command_questions, scratch_room}
+use Rattle.model.specs.Questions.{first_no, command_questions, scratch_room}
+use Rattle.model.specs.declared.Command.{Command}
 use Rattle.model.specs.Calls.{Outcome, event, scratch_after, answer_of}
 use Rattle.model.specs.declared.Table.{Table}
-use Rattle.records.specs.declared.Record.{Record}
 use Rattle.effects.specs.Effects.{no_set}
 use Rattle.events.specs.declared.Stepped.{Stepped}
 
--- the first no of questions 5 to 15 and 17 to 20; the scratch area has `room` bytes
-unfoldable pub refusal_of : Table → Record → ℕ → ℕ
-refusal_of t r room = first_no (ask r.refusal (eqb r.refusal 0) ∷ (command_questions t r.command ++ (scratch_room room ∷ [])))
+-- the first no of questions 8 to 15 and 17 to 20, of what a record asks for; the scratch area has `room` bytes
+unfoldable pub refusal_of : Table → Command → ℕ → ℕ
+refusal_of t a room = first_no (command_questions t a ++ (scratch_room room ∷ []))
 
 -- an outcome of the bytes s: the unread rest is what stands after the bytes used
 unfoldable pub stepped_of : Outcome → List ℕ → Stepped

@@ -1,4 +1,3 @@
 pub mod FileQuestions
 pub mod OneRecord
-pub mod StoredRecord
 pub mod RecordLoop

@@ -6,34 +6,35 @@ use mathlib.Core.List.{List, [], ◌∷◌, ◌++◌}
 use Prim.Native.Nat.{ℕ, ◌+◌, ◌-◌, ◌≤◌, ◌<◌}
 use native.Mathlib.Omega.{arith}
 use lib.ListN.{length, take, drop, length-drop, length-append}
-use lib.Seq.{length-take-le, take-append_seam, drop-append_seam, drop-drop}
+use lib.Seq.{length-take-le, take-append_seam, drop-append_seam, drop-drop, drop-length}
 use lib.Dec.{eqb}
 use borrow.Author.Tests.{eqb-true, eq-eqb, ne_eqb, le-leb}
 use Rattle.lists.specs.Build.{overlay}
 use Rattle.lists.proofs.Tests.{cond_case, cond_true, cond_false}
 use Rattle.lists.proofs.Build.{length_over, over-over, length-overlay}
+use Rattle.std.specs.Prelude.{Result, Ok, Err}
 use Rattle.model.specs.Tables.{scratch_size, start, fresh}
-use Rattle.model.specs.Events.{resulting, names_below, names_of}
+use Rattle.model.specs.Events.{names_below, names_of}
 use Rattle.model.specs.Records.{byte, size, after_record, decode}
+use Rattle.model.specs.Refusals.{refusal_number, refusal_in}
 use Rattle.model.specs.Sized.{Sized}
 use Rattle.model.specs.WellFormed.{well_formed}
 use Rattle.model.specs.Questions.{first_no, line_fits, file_questions}
 use Rattle.model.specs.Calls.{Outcome, answering, accepted, refused, step, cleared, scratch_after}
 use Rattle.model.specs.Runs.{Progress, line_of, line_at, verdict, records, begun, progress, ran}
 use Rattle.model.specs.declared.Table.{Table}
-use Rattle.model.specs.declared.RunAnswer.{RunAnswer}
 use Rattle.model.specs.declared.Command.{Command}
 use Rattle.model.specs.declared.Command.TheVariants.{Act, Read}
+use Rattle.model.specs.declared.refusal.Refusal.{Refusal}
 use Rattle.model.proofs.Tested.{tested}
 use Rattle.model.proofs.Allowed.{file_allowed}
-use Rattle.model.proofs.Steps.{step_case, accepted_table, accepted_room}
-use Rattle.model.proofs.Runs.{gone, ended, verdict_passed, advance_case, records-none, fuel_suffices, records_turn}
+use Rattle.model.proofs.Steps.{step_case, accepted_room}
+use Rattle.model.proofs.Runs.{gone, ended, verdict_passed, advance_case, advance-verdict, advance-gone, records-none, fuel_suffices, records_turn}
+use Rattle.model.proofs.Refused.{refusal_is}
 use Rattle.invariant.proofs.Sizes.{fresh_sized}
 use Rattle.invariant.proofs.Kept.{fresh_well_formed, step_kept}
-use Rattle.files.specs.declared.Header.{Header}
 use Rattle.files.specs.declared.Cursor.{Cursor}
-use Rattle.files.specs.declared.Advance.{Advance}
-use Rattle.files.specs.Turns.{header_of, at_start, answer_at, progress_of, Before, turned, Turned, Ran}
+use Rattle.files.specs.Turns.{opened_of, at_start, answer_at, progress_of, turned, Turned, Ran}
 
 -- THE LISTING AND THE SCRATCH AREA
 
@@ -96,15 +97,14 @@ pub record Running (s l₀ w₀ l w b : List ℕ) (c : Cursor) (t : Table) : Typ
   pub scratch : w ≡ leaves c.events w₀
   pub unsent : c.events ≡ 0 → t.count ≡ 0
   pub few : c.events + length b ≤ 65535
-  pub ahead : records (length b) (progress_of c t l) b (length w₀) (length l₀) ≡ progress s (length w₀) (length l₀)
+  pub ahead : records (length b) (progress_of 0 c t l) b (length w₀) (length l₀) ≡ progress s (length w₀) (length l₀)
 
-pub run_begins : (s l w : List ℕ) → first_no (file_questions s) ≡ 0 → (h : Header) → h ≡ header_of s → (x : Table) → x ≡ fresh h.version h.n
+pub run_begins : (s l w : List ℕ) → first_no (file_questions s) ≡ 0 → (x : Table) → x ≡ opened_of s
     → (b : List ℕ) → b ≡ drop 2 s → (c : Cursor) → c ≡ at_start → Running s l w l w b c x
-unfolding overlay fresh start progress begun progress_of header_of at_start
-run_begins s l w q h eh x ex b eb c ec =
+unfolding overlay fresh start progress begun progress_of
+run_begins s l w q x ex b eb c ec =
     let a = file_allowed s q in
-    let e : x ≡ fresh (byte s 0) (byte s 1) = rw eh at ex in
-    rw (e, eb, ec) (record {
+    rw (ex, eb, ec) (record {
       sized = fresh_sized (byte s 0) (byte s 1);
       formed = tested (fresh (byte s 0) (byte s 1)) (fresh_well_formed a.fresh);
       within = omega arith;
@@ -116,57 +116,50 @@ run_begins s l w q h eh x ex b eb c ec =
       ahead = fuel_suffices (length (drop 2 s)) (length s) (begun (byte s 0) (byte s 1)) (drop 2 s) (length w) (length l) (omega arith) (omega (arith, length-drop 2 s));
     })
 
+-- a run that has come to what the definition says
+run_done : (s l₀ w₀ l w : List ℕ) (k : ℕ) (c : Cursor) (t : Table) → progress_of k c t l ≡ progress s (length w₀) (length l₀)
+    → c.written ≤ length l → l ≡ overlay (take c.written l) l₀ → w ≡ leaves c.events w₀ → Ran s l₀ w₀ (answer_at c k t) l w
+unfolding ran progress_of answer_at
+run_done s l₀ w₀ l w k c t e h el ew = record {
+  outcome = rw (← e) (ap (λ (n : ℕ). record { refusal = k; events = c.events; written = n; table = t }) (sym (length-take-le c.written l h)));
+  listed = rw (← e) el;
+  clear = rw (← e) ew;
+}
+
+none_left : (b : List ℕ) → length b ≤ 0 → (p : Progress) (room space : ℕ) → records (length b) p b room space ≡ p
+none_left [] h p room space = records-none 0 p room space
+none_left (x ∷ xs) h p room space = absurd (omega arith)
+
 module _ (s l₀ w₀ l w b : List ℕ) (c : Cursor) (t : Table) (r : Running s l₀ w₀ l w b c t) where
-  pub scratch_size_lem : length w ≡ length w₀
+  scratch_size_lem : length w ≡ length w₀
   scratch_size_lem = ap length r.scratch ∙ length_leaves c.events w₀
 
-  pub run_before : Before c t b l
-  run_before = record { formed = r.formed; within = r.within; few = r.few }
-
-  -- nothing is left: what the run has done is what the definition says
-  pub run_ends : length b ≤ 0 → (a : RunAnswer) → a ≡ answer_at c t → Ran s l₀ w₀ a l w
-  unfolding ran progress_of answer_at
-  run_ends h a ea = record {
-    outcome = ea ∙ rw (← done) (ap (λ (k : ℕ). record { refusal = c.refusal; events = c.events; written = k; table = t }) (sym (length-take-le c.written l r.within)));
-    listed = rw (← done) r.listing;
-    clear = rw (← done) r.scratch;
-  }
-    where
-      none : (xs : List ℕ) → length xs ≤ 0 → records (length xs) (progress_of c t l) xs (length w₀) (length l₀) ≡ progress_of c t l
-      none [] k = records-none 0 (progress_of c t l) (length w₀) (length l₀)
-      none (x ∷ xs) k = absurd (omega arith)
-
-      done : progress_of c t l ≡ progress s (length w₀) (length l₀)
-      done = sym (none b h) ∙ r.ahead
+  -- nothing is left
+  pub run_ends : length b ≤ 0 → Ran s l₀ w₀ (answer_at c 0 t) l w
+  run_ends h = run_done s l₀ w₀ l w 0 c t (sym (none_left b h _ _ _) ∙ r.ahead) r.within r.listing r.scratch
 
   -- ONE RECORD MORE
 
-  module _ (h : 0 < length b) (a : Advance) (m u : List ℕ) (d : Turned c t b l w a m u) (b' : List ℕ) (eb : b' ≡ drop a.used b) where
+  module _ (h : 0 < length b) (a : Result ℕ Refusal) (c' : Cursor) (t' : Table) (m u : List ℕ) (d : Turned c t b l w a c' t' m u) where
     abbrev p : Progress
-    p = progress_of c t l
+    p = progress_of 0 c t l
 
     -- the run after it, by the definition
     abbrev q : Progress
     q = turned c t b l (length w)
+
+    verdict_is : verdict p b (length w) (length l) ≡ refusal_in a
+    unfolding turned
+    verdict_is = sym (d.refusal ∙ advance-verdict p b (length w) (length l))
 
     by_verdict : (P : Progress → Type 0) → (verdict p b (length w) (length l) ≡ 0 → P (gone p b (length w) (length l)))
         → (verdict p b (length w) (length l) ≢ 0 → P (ended p b (length w) (length l))) → P q
     unfolding turned
     by_verdict P f g = advance_case p b (length w) (length l) P f g
 
-    passed : verdict p b (length w) (length l) ≡ 0 → (step t b (length w)).answer.refusal ≡ 0
-    unfolding progress_of
-    passed z = (verdict_passed p b (length w) (length l) z).0
-
     lines_length : length p.lines ≡ c.written
     unfolding progress_of
     lines_length = length-take-le c.written l r.within
-
-    kept : Sized q.table × (well_formed q.table ≡ true)
-    unfolding progress_of
-    kept =
-        by_verdict (λ (g : Progress). Sized g.table × (well_formed g.table ≡ true))
-        (λ _. step_kept t b (length w) r.sized r.formed) (λ _. (r.sized, r.formed))
 
     -- the lines: those before stand first, and all fit
     lines_fit : length q.lines ≤ length l
@@ -182,14 +175,17 @@ module _ (s l₀ w₀ l w b : List ℕ) (c : Cursor) (t : Table) (r : Running s 
         by_verdict (λ (g : Progress). length (take c.written l) ≤ length g.lines)
         (λ _. omega (arith, length-append p.lines (line_at p b (length w)))) (λ _. omega arith)
 
-    lines_are : take a.cursor.written m ≡ q.lines
+    lines_are : take c'.written m ≡ q.lines
     lines_are = rw (d.written, d.listed) (take-overlay q.lines l)
 
     space_kept : length m ≡ length l
     space_kept = rw d.listed (length-overlay q.lines l lines_fit)
 
-    listing_is : m ≡ overlay q.lines l₀
-    listing_is = d.listed ∙ (ap (overlay q.lines) r.listing ∙ overlay-over (take c.written l) q.lines l₀ lines_grow)
+    within_kept : c'.written ≤ length m
+    within_kept = omega (arith, d.written, lines_fit, space_kept)
+
+    listing_is : m ≡ overlay (take c'.written m) l₀
+    listing_is = d.listed ∙ (ap (overlay q.lines) r.listing ∙ overlay-over (take c.written l) q.lines l₀ lines_grow) ∙ rw (← lines_are) refl
 
     -- the scratch area: a line that does not fit is not the first event's, so it was clear already
     clear_kept : verdict p b (length w) (length l) ≢ 0 → scratch_after (step t b (length w)).answer.refusal w ≡ leaves c.events w₀
@@ -205,65 +201,60 @@ module _ (s l₀ w₀ l w b : List ℕ) (c : Cursor) (t : Table) (r : Running s 
         ap cleared (r.scratch ∙ clear) ∙ (cleared_again w₀ (omega (arith, scratch_size_lem)) ∙ sym clear))
         (λ _. r.scratch)
 
-    clear_is : u ≡ leaves q.events w₀
+    clear_is : u ≡ leaves c'.events w₀
     unfolding scratch_after progress_of
     clear_is =
         d.clear
         ∙ by_verdict (λ (g : Progress). scratch_after (step t b (length w)).answer.refusal w ≡ leaves g.events w₀)
         (λ z.
-        let room = accepted_room t b (length w) (passed z) in
-        rw (passed z) (ap cleared r.scratch ∙ (leaves_cleared c.events w₀ (omega (arith, scratch_size_lem))
+        let passed = (verdict_passed p b (length w) (length l) z).0 in
+        let room = accepted_room t b (length w) passed in
+        rw passed (ap cleared r.scratch ∙ (leaves_cleared c.events w₀ (omega (arith, scratch_size_lem))
         ∙ sym (cond_false w₀ (cleared w₀) (ne_eqb (c.events + 1) 0 (λ o. omega arith))))))
         clear_kept
+        ∙ rw (← d.events) refl
 
-    sent-first : q.events ≡ 0 → q.table.count ≡ 0
+    progress_is : progress_of (refusal_in a) c' t' m ≡ q
     unfolding progress_of
-    sent-first = by_verdict (λ (g : Progress). g.events ≡ 0 → g.table.count ≡ 0) (λ _ e. absurd (omega arith)) (λ _. r.unsent)
+    progress_is = rw (d.refusal, d.events, lines_are, d.stored) refl
 
-    -- the bytes left
-    left_is : b' ≡ drop (cond (eqb q.refusal 0) (size b + 1) (length b)) b
+    -- from the bytes left the run goes on
+    ahead_is : (b' : List ℕ) → b' ≡ drop (cond (eqb (refusal_in a) 0) (size b + 1) (length b)) b
+        → records (length b') (progress_of (refusal_in a) c' t' m) b' (length w₀) (length l₀) ≡ progress s (length w₀) (length l₀)
+    unfolding turned
+    ahead_is b' e =
+        rw (progress_is, ← scratch_size_lem, ← r.space)
+        (sym (records_turn p b (length w) (length l) h b' (rw d.refusal at e)) ∙ rw (scratch_size_lem, r.space) r.ahead)
+
+  -- a refusal ends it
+  pub run_stops : 0 < length b → (k : Refusal) (c' : Cursor) (t' : Table) (m u : List ℕ) → Turned c t b l w (Err k) c' t' m u
+      → Ran s l₀ w₀ (answer_at c' (refusal_number k) t') m u
+  run_stops h k c' t' m u d =
+      let none : [] ≡ drop (cond (eqb (refusal_number k) 0) (size b + 1) (length b)) b = rw (ne_eqb _ 0 (refusal_is k)) (sym (drop-length b)) in
+      run_done s l₀ w₀ m u (refusal_number k) c' t'
+      (sym (records-none 0 _ _ _) ∙ ahead_is h (Err k) c' t' m u d [] none)
+      (within_kept h (Err k) c' t' m u d) (listing_is h (Err k) c' t' m u d) (clear_is h (Err k) c' t' m u d)
+
+  module _ (h : 0 < length b) (n : ℕ) (c' : Cursor) (t' : Table) (m u : List ℕ) (d : Turned c t b l w (Ok n) c' t' m u) (b' : List ℕ) (eb : b' ≡ drop n b) where
+    left_is : b' ≡ drop (size b + 1) b
     left_is = eb ∙ ap (λ (k : ℕ). drop k b) d.used
 
-    left_fewer : (q.events + length (drop (cond (eqb q.refusal 0) (size b + 1) (length b)) b) ≤ 65535)
-        × (length (drop (cond (eqb q.refusal 0) (size b + 1) (length b)) b) < length b)
-    unfolding progress_of
-    left_fewer =
-        by_verdict
-        (λ (g : Progress). (g.events + length (drop (cond (eqb g.refusal 0) (size b + 1) (length b)) b) ≤ 65535)
-        × (length (drop (cond (eqb g.refusal 0) (size b + 1) (length b)) b) < length b))
-        (λ _. (omega (arith, r.few, length-drop (size b + 1) b), omega (arith, length-drop (size b + 1) b)))
-        (λ n. rw (ne_eqb _ 0 n) (omega (arith, r.few, length-drop (length b) b), omega (arith, length-drop (length b) b)))
-
-    pub run_further : length b' < length b
-    run_further = rw left_is left_fewer.1
-
-    ahead_is : records (length b') q b' (length w₀) (length l₀) ≡ progress s (length w₀) (length l₀)
-    unfolding turned
-    ahead_is =
-        rw (← scratch_size_lem, ← r.space)
-        (sym (records_turn p b (length w) (length l) h b' left_is) ∙ rw (scratch_size_lem, r.space) r.ahead)
-
-    -- the table, as the code has stored it
-    module _ (y : Table) (on : a.cursor.refusal ≡ 0 → y ≡ resulting t (decode t.version b)) (off : a.cursor.refusal ≢ 0 → y ≡ t) where
-      table_is : y ≡ q.table
-      unfolding progress_of
-      table_is =
-          by_verdict (λ (g : Progress). a.cursor.refusal ≡ g.refusal → y ≡ g.table)
-          (λ z e. on e ∙ sym (accepted_table t b (length w) (passed z))) (λ n e. off (λ o. n (sym e ∙ o))) d.refusal
-
-      progress_is : progress_of a.cursor y m ≡ q
-      unfolding progress_of
-      progress_is = rw (d.refusal, d.events, lines_are, table_is) refl
-
-      pub run_goes_on : Running s l₀ w₀ m u b' a.cursor y
-      run_goes_on = record {
-        sized = rw table_is kept.0;
-        formed = rw table_is kept.1;
-        within = omega (arith, d.written, lines_fit, space_kept);
-        space = space_kept ∙ r.space;
-        listing = listing_is ∙ rw (← lines_are) refl;
-        scratch = rw d.events clear_is;
-        unsent = λ e. rw table_is (sent-first (sym d.events ∙ e));
-        few = omega (arith, ap length left_is, left_fewer.0, d.events);
-        ahead = rw progress_is ahead_is;
-      }
+    pub run_goes_on : Running s l₀ w₀ m u b' c' t'
+    unfolding turned progress_of
+    run_goes_on =
+        let on = advance-gone (progress_of 0 c t l) b (length w) (length l) (verdict_is h (Ok n) c' t' m u d) in
+        let events : c'.events ≡ c.events + 1 = d.events ∙ ap (λ (g : Progress). g.events) on in
+        let table : t' ≡ (step t b (length w)).table = d.stored ∙ ap (λ (g : Progress). g.table) on in
+        let kept = step_kept t b (length w) r.sized r.formed in
+        let size_kept = space_kept h (Ok n) c' t' m u d in
+        record {
+          sized = rw table kept.0;
+          formed = rw table kept.1;
+          within = within_kept h (Ok n) c' t' m u d;
+          space = size_kept ∙ r.space;
+          listing = listing_is h (Ok n) c' t' m u d;
+          scratch = clear_is h (Ok n) c' t' m u d;
+          unsent = λ e. absurd (omega (arith, e, events));
+          few = omega (arith, ap length left_is, length-drop (size b + 1) b, events, r.few, h);
+          ahead = ahead_is h (Ok n) c' t' m u d b' left_is;
+        }

@@ -1,5 +1,5 @@
 // The event call on a table that is lent: the table goes by value to the function that answers it. The answer that comes back is
-// stored, and then the table if bytes were used. A refused event uses none and leaves the table, so its table is not copied back.
+// stored, and then the table if bytes were used, which tells that the event was accepted (the by-value call: a rule of the project). A refused event uses none and leaves the table, so its table is not copied back.
 #![tactic(auto)]
 
 ghost use Rattle.lent.specs.Called.{Called};

@@ -1,4 +1,1 @@
-pub mod Storing
-pub mod Names
 pub mod Lines
-pub mod Writing

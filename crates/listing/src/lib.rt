@@ -1,183 +1,159 @@
 // The lines of a listing, each written into the tail of the listing after the line before.
 #![tactic(auto)]
 
-ghost use Rattle.std.specs.Prelude.{[], ◌∷◌, ◌++◌, ◌+◌, ◌≤◌, ◌<◌, length, take};
+ghost use Rattle.std.specs.Prelude.{◌≡◌, ℕ, List, [], ◌∷◌, ◌++◌, ◌+◌, ◌*◌, ◌≤◌, ◌<◌, length, take};
 ghost use Rattle.model.specs.Tables.{capacity};
-ghost use Rattle.model.specs.Runs.{decimal, sum_fields, name_fields, line, header, footer};
-ghost use Rattle.listing.specs.Writing.{Wrote, Stored};
+ghost use Rattle.model.specs.Runs.{sum_fields, name_fields, line, header, footer};
+ghost use Rattle.listing.specs.Writing.{line_size, Wrote};
 
-use model::{Name, Sums, Table, refusal};
-
-// What a writer answers: the refusal number, 0 if the line fits, and the bytes written.
-#[derive(Clone, Copy)]
-pub struct Put {
-    pub refusal: u8,
-    pub written: usize,
-}
-
-const SPACE: u8 = 32;
-
-const POINT: u8 = 46;
-
-const ZERO: u8 = 48;
-
-const NEWLINE: u8 = 10;
+use itoa::{Buffer, Integer};
+use model::refusal::Refusal;
+use model::{Name, Sums, Table};
+use std::marker::Model;
 
 // The longest line: numbers of 20, 3, 10 and 10 bytes, three spaces, 8 bytes for each name, and the end of the line.
 const LINE: usize = 47 + 8 * Table::MESSAGES;
 
-// Stores a byte.
-#[tactic(auto, unfolding(crate::specs::Writing::stored))]
-fn put_byte(buffer: &mut [u8], at: usize, b: u8) -> usize
-    requires { at < length buffer.old }
-    ensures { Stored (b ∷ []) buffer.old at buffer.new result }
-{
-    buffer[at] = b;
-    at + 1
+// A line that is put together part by part, in an array that has room for the longest one (no heap): the bytes that stand in it so far.
+// How much room a part needs differs from part to part, so each says it.
+#[derive(Drop)]
+struct Line {
+    bytes: [u8; LINE],
+    size: usize,
 }
 
-// Stores a number in decimal.
-fn put_number(buffer: &mut [u8], at: usize, x: usize) -> usize
-    requires { at + length (decimal x) ≤ length buffer.old }
-    ensures { Stored (decimal x) buffer.old at buffer.new result }
-{
-    if x < 10 {
-        return put_byte(buffer, at, ZERO + x as u8);
+impl Model for Line {
+    ghost Value = { List ℕ };
+
+    ghost view = { λ l. take l.size l.bytes };
+
+    ghost invariant = { λ l. l.size ≤ line_size };
+}
+
+impl Line {
+    fn new() -> Line
+        ensures { result ≡ [] }
+    {
+        Line {
+            bytes: [0; LINE],
+            size: 0,
+        }
     }
-    let next = put_number(buffer, at, x / 10);
-    put_byte(buffer, next, ZERO + (x % 10) as u8)
-}
 
-// Stores a byte and then a number.
-fn put_field(buffer: &mut [u8], at: usize, b: u8, x: usize) -> usize
-    requires { at + length (b ∷ decimal x) ≤ length buffer.old }
-    ensures { Stored (b ∷ decimal x) buffer.old at buffer.new result }
-{
-    let next = put_byte(buffer, at, b);
-    put_number(buffer, next, x)
-}
-
-// Stores the two sums, with a space before each.
-fn put_sums(buffer: &mut [u8], at: usize, sums: Sums) -> usize
-    requires { at + length (sum_fields sums) ≤ length buffer.old }
-    ensures { Stored (sum_fields sums) buffer.old at buffer.new result }
-{
-    let next = put_field(buffer, at, SPACE, sums.added as usize);
-    put_field(buffer, next, SPACE, sums.withdrawn as usize)
-}
-
-// Stores a name, with a space before it.
-fn put_name(buffer: &mut [u8], at: usize, name: Name) -> usize
-    requires { at + length (name_fields (name ∷ [])) ≤ length buffer.old }
-    ensures { Stored (name_fields (name ∷ [])) buffer.old at buffer.new result }
-{
-    let number = name.number;
-    let next = put_field(buffer, at, SPACE, name.sender as usize);
-    put_field(buffer, next, POINT, number.0 as usize)
-}
-
-// Stores the first of the names.
-fn put_names(buffer: &mut [u8], from: usize, names: [Name; Table::MESSAGES], count: usize) -> usize
-    requires { (count ≤ capacity) × (from + length (name_fields (take count names)) ≤ length buffer.old) }
-    ensures { Stored (name_fields (take count names)) buffer.old from buffer.new result }
-{
-    let mut at = from;
-    for i in 0..count {
-        at = put_name(buffer, at, names[i]);
+    fn push_text(&mut self, text: &[u8])
+        requires { length self.old + length text.now ≤ line_size }
+        ensures { self.new ≡ self.old ++ text.now }
+    {
+        let end = self.size + text.len();
+        self.bytes[self.size..end].copy_from_slice(text);
+        self.size = end;
     }
-    at
-}
 
-// Stores the line of an event, up to its end.
-fn store_line(
-    buffer: &mut [u8],
-    event: usize,
-    controller: u8,
-    sums: Sums,
-    names: [Name; Table::MESSAGES],
-    count: usize,
-) -> usize
-    requires { (count ≤ capacity) × (length (line event controller sums (take count names)) ≤ length buffer.old) }
-    ensures { Stored (((decimal event ++ (32 ∷ decimal controller)) ++ sum_fields sums) ++ name_fields (take count names)) buffer.old 0 buffer.new result }
-{
-    let after_event = put_number(buffer, 0, event);
-    let after_controller = put_field(buffer, after_event, SPACE, controller as usize);
-    let after_sums = put_sums(buffer, after_controller, sums);
-    put_names(buffer, after_sums, names, count)
-}
-
-// Stores a text at the front.
-fn put_text(buffer: &mut [u8], text: &[u8]) -> usize
-    requires { length text.now ≤ length buffer.old }
-    ensures { Stored text.now buffer.old 0 buffer.new result }
-{
-    let end = text.len();
-    for i in 0..end {
-        buffer[i] = text[i];
+    // A number in decimal. Its digits come from a buffer, since of `write!` no clause says that it succeeds where there is room.
+    fn push_number<I: Integer>(&mut self, x: I)
+        requires { length self.old + I.MAX_STR_LEN ≤ line_size }
+        ensures text { self.new ≡ self.old ++ I.text x }
+        ensures size { length self.new ≤ length self.old + I.MAX_STR_LEN }
+    {
+        let mut digits = Buffer::new();
+        self.push_text(digits.format(x).as_bytes());
     }
-    end
-}
 
-// Stores a word at the front and a number after it.
-fn put_word(buffer: &mut [u8], word: &[u8], x: usize) -> usize
-    requires { length word.now + length (32 ∷ decimal x) ≤ length buffer.old }
-    ensures { Stored (word.now ++ (32 ∷ decimal x)) buffer.old 0 buffer.new result }
-{
-    let after_word = put_text(buffer, word);
-    put_field(buffer, after_word, SPACE, x)
-}
-
-// Ends the line that was stored up to a place, and writes it at the front of the tail, where it fits.
-fn end_line(tail: &mut [u8], buffer: &mut [u8], end: usize) -> Put
-    requires { end < length buffer.old }
-    ensures { Wrote (take end buffer.old ++ (10 ∷ [])) tail.old tail.new result }
-{
-    let size = put_byte(buffer, end, NEWLINE);
-    if tail.len() < size {
-        return Put {
-            refusal: refusal::LISTING,
-            written: 0,
-        };
+    // A byte and then a number.
+    fn push_field<I: Integer>(&mut self, b: u8, x: I)
+        requires { length self.old + I.MAX_STR_LEN < line_size }
+        ensures text { self.new ≡ self.old ++ (b ∷ I.text x) }
+        ensures size { length self.new ≤ length self.old + I.MAX_STR_LEN + 1 }
+    {
+        self.push_text(&[b]);
+        self.push_number(x);
     }
-    let written = put_text(tail, &buffer[..size]);
-    Put {
-        refusal: refusal::ACCEPTED,
-        written,
+
+    // The two sums, with a space before each.
+    fn push_sums(&mut self, sums: Sums)
+        requires { length self.old + 22 ≤ line_size }
+        ensures text { self.new ≡ self.old ++ sum_fields sums }
+        ensures size { length self.new ≤ length self.old + 22 }
+    {
+        self.push_field(b' ', sums.added);
+        self.push_field(b' ', sums.withdrawn);
+    }
+
+    // A name, with a space before it.
+    fn push_name(&mut self, name: &Name)
+        requires { length self.old + 8 ≤ line_size }
+        ensures text { self.new ≡ self.old ++ name_fields (name.now ∷ []) }
+        ensures size { length self.new ≤ length self.old + 8 }
+    {
+        self.push_field(b' ', name.sender);
+        self.push_field(b'.', name.number.0);
+    }
+
+    fn push_names(&mut self, names: &[Name])
+        requires { length self.old + 8 * length names.now ≤ line_size }
+        ensures text { self.new ≡ self.old ++ name_fields names.now }
+        ensures size { length self.new ≤ length self.old + 8 * length names.now }
+    {
+        for name in names {
+            self.push_name(name);
+        }
+    }
+
+    // Ends the line, and writes it at the front of the tail, where it fits.
+    fn end(&mut self, tail: &mut [u8]) -> Result<usize, Refusal>
+        requires { length self.old < line_size }
+        ensures { Wrote (self.old ++ (10 ∷ [])) tail.old tail.new result }
+    {
+        self.push_text(b"\n");
+        let text = &self.bytes[..self.size];
+        if tail.len() < text.len() {
+            return Err(Refusal::Listing);
+        }
+        tail[..text.len()].copy_from_slice(text);
+        Ok(text.len())
     }
 }
 
-// Writes the line of an event whose set has the first of the names, at the front of the tail.
+// Writes the line of an event whose set has these names, at most the first 64 of them, at the front of the tail.
+#[tactic(auto, using(crate::proofs::Lines::line_printed, std::proofs::lemmas::List::take_min))]
 pub fn put_line(
     tail: &mut [u8],
     event: usize,
     controller: u8,
     sums: Sums,
-    names: [Name; Table::MESSAGES],
-    size: usize,
-) -> Put
-    ensures { Wrote (line event controller sums (take size names)) tail.old tail.new result }
+    names: &[Name],
+) -> Result<usize, Refusal>
+    ensures { Wrote (line event controller sums (take capacity names.now)) tail.old tail.new result }
 {
-    let count = numbers::at_most(size, Table::MESSAGES);
-    let mut buffer = [0u8; LINE];
-    let end = store_line(&mut buffer, event, controller, sums, names, count);
-    end_line(tail, &mut buffer, end)
+    let mut line = Line::new();
+    line.push_number(event);
+    line.push_field(b' ', controller);
+    line.push_sums(sums);
+    line.push_names(&names[..Table::MESSAGES.min(names.len())]);
+    line.end(tail)
 }
 
-// Writes the line that stands before the listing of n controllers.
-pub fn put_header(tail: &mut [u8], n: u8) -> Put
+// Writes the line that stands before the listing of n controllers. (Beside `put_footer`: each is a text of its own, and one of both is no
+// plainer.)
+#[tactic(auto, using(crate::proofs::Lines::printed), unfolding(model::specs::Runs::header))]
+pub fn put_header(tail: &mut [u8], n: u8) -> Result<usize, Refusal>
     ensures { Wrote (header n) tail.old tail.new result }
 {
-    let mut buffer = [0u8; LINE];
-    let end = put_word(&mut buffer, b"controllers", n as usize);
-    end_line(tail, &mut buffer, end)
+    let mut line = Line::new();
+    line.push_text(b"controllers ");
+    line.push_number(n);
+    line.end(tail)
 }
 
-// Writes the line that stands after the listing: the events accepted and the refusal number.
-pub fn put_footer(tail: &mut [u8], events: usize, refusal: u8) -> Put
+// Writes the line that stands after the listing: the events accepted and the refusal number, 0 if there is none. Any number may be given,
+// which may not change.
+#[tactic(auto, using(crate::proofs::Lines::footer_printed))]
+pub fn put_footer(tail: &mut [u8], events: usize, refusal: u8) -> Result<usize, Refusal>
     ensures { Wrote (footer events refusal) tail.old tail.new result }
 {
-    let mut buffer = [0u8; LINE];
-    let after_events = put_word(&mut buffer, b"end", events);
-    let end = put_field(&mut buffer, after_events, SPACE, refusal as usize);
-    end_line(tail, &mut buffer, end)
+    let mut line = Line::new();
+    line.push_text(b"end ");
+    line.push_number(events);
+    line.push_field(b' ', refusal);
+    line.end(tail)
 }

@@ -7,3 +7,4 @@ pub mod Loops
 pub mod Clipped
 pub mod Stores
 pub mod Every
+pub mod Chains

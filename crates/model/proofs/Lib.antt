@@ -1,6 +1,7 @@
 pub mod Names
 pub mod Tested
 pub mod Allowed
+pub mod Refused
 pub mod Handovers
 pub mod Registers
 pub mod Steps
@@ -13,3 +14,4 @@ pub mod Before
 pub mod Computed
 pub mod Cases
 pub mod Owned
+pub mod Passes

@@ -1,4 +1,7 @@
 pub mod Tables
+pub mod Refusals
+pub mod Kinds
+pub mod Handed
 pub mod Names
 pub mod Sized
 pub mod Delivery

@@ -17,17 +17,28 @@ impl Panel {
     pub const REGISTERS: usize = 8;
 }
 
-// A place in a log (the source's sn_g), 1 to 64; 255 is absent.
+// A place in a log (the source's sn_g), 1 to 64; 255 is absent (the C interface has no `Option`).
 #[repr(C)]
-#[derive(Clone, Copy)]
+#[derive(Clone, Copy, PartialEq, Eq, PartialOrd, Ord)]
 pub struct ForwardNumber(pub u8);
 
-// The number that a sender gives its message (the source's sn), 1 to 64; 0 is none.
+// The number that a sender gives its message (the source's sn), 1 to 64; 0 is none (the C interface).
 #[repr(C)]
-#[derive(Clone, Copy)]
+#[derive(Clone, Copy, PartialEq, Eq, PartialOrd, Ord)]
 pub struct MessageNumber(pub u8);
 
-// What a message says, as its record does: kind 1 is a report, 2 a sync and 6 a write; a report's weight class, 0 for none; the
+// The kinds of records, by their numbers.
+#[derive(Clone, Copy, Debug, PartialEq, Eq)]
+pub enum Kind {
+    Report = 1,
+    Sync = 2,
+    Handover = 3,
+    Stop = 4,
+    Read = 5,
+    Write = 6,
+}
+
+// What a message says, as its record does: the number of its kind (the C interface has no enum), a report, a sync or a write; a report's weight class, 0 for none; the
 // amount is two magnitudes, at most one of them not 0; the register that a write sets, 0 for none, and the value.
 #[repr(C)]
 #[derive(Clone, Copy)]
@@ -50,15 +61,15 @@ pub struct Message {
     pub payload: Payload,
 }
 
-// The name of a message outside the table.
+// The name of a message outside the table. Names are ordered by sender and then number.
 #[repr(C)]
-#[derive(Clone, Copy)]
+#[derive(Clone, Copy, PartialEq, Eq, PartialOrd, Ord)]
 pub struct Name {
     pub sender: u8,
     pub number: MessageNumber,
 }
 
-// A buffered message: each controller's forward number for it. Flags are 0 for no and anything else for yes.
+// A buffered message: each controller's forward number for it. Flags are 0 for no and anything else for yes (the C interface).
 #[repr(C)]
 #[derive(Clone, Copy)]
 pub struct Pending {
@@ -66,7 +77,8 @@ pub struct Pending {
     pub marks: [ForwardNumber; Table::CONTROLLERS],
 }
 
-// A process: what it has forwarded, read, buffered and scd-delivered. Logs hold slots; pending and applied go by slot.
+// A process: what it has forwarded, read, buffered and scd-delivered. Logs hold slots; pending and applied go by slot. Each part is an
+// array, the log with its length beside it, and whether it runs a flag (the C interface; no heap).
 #[repr(C)]
 #[derive(Clone, Copy)]
 pub struct Controller {
@@ -80,7 +92,8 @@ pub struct Controller {
 }
 
 // The whole machine: the version that its records are read in, how many controllers and messages there are, the messages in
-// the order sent, the controllers. No field of a table, or of what stands in it, has padding before or after it.
+// the order sent, the controllers. No field of a table, or of what stands in it, has padding before or after it. Arrays have their
+// lengths beside them (the C interface; no heap).
 #[repr(C)]
 #[derive(Clone, Copy)]
 pub struct Table {
@@ -89,6 +102,14 @@ pub struct Table {
     pub count: usize,
     pub messages: [Message; Table::MESSAGES],
     pub controllers: [Controller; Table::CONTROLLERS],
+}
+
+// The messages of a run, as functions are handed them: how many were sent, and the array that has them, each in its slot. Not a slice:
+// a count above 64, of a table that is not well formed, is part of what is promised.
+#[derive(Clone, Copy)]
+pub struct Messages<'a> {
+    pub count: usize,
+    pub slots: &'a [Message; Table::MESSAGES],
 }
 
 // Two sums of amounts: of those above 0, and of those below 0 with the sign dropped.
@@ -101,7 +122,7 @@ pub struct Sums {
 
 // A stamp (the source's timestamp): the date of a write, and its writer. Dates decide before writers.
 #[repr(C)]
-#[derive(Clone, Copy)]
+#[derive(Clone, Copy, PartialEq, Eq, PartialOrd, Ord)]
 pub struct Stamp {
     pub date: u16,
     pub writer: u16,
@@ -127,7 +148,7 @@ pub struct Panel {
 
 // What the single-event call answers: the refusal number, 0 if accepted; whether a sync of the receiver's own is in the
 // set applied, and then its answer, the sums after the set; or the sums that a local read gives; how many messages are in
-// the set, and their names, zeros after them.
+// the set, and their names, zeros after them. The C interface has refusals by number, flags, and an array with its length beside it.
 #[repr(C)]
 #[derive(Clone, Copy)]
 pub struct Answer {
@@ -146,6 +167,14 @@ pub struct Pair {
     pub owner: usize,
 }
 
+// The controllers that an event reads: its subject, and the one whose log a handover reads. An event of another kind has its
+// subject for both.
+#[derive(Clone, Copy)]
+pub struct Parties<'a> {
+    pub subject: &'a Controller,
+    pub owner: &'a Controller,
+}
+
 // What the dispatcher answers: the pair that it served, 0 and 0 if it served none, and what the event call answers of the handover.
 #[repr(C)]
 #[derive(Clone, Copy)]
@@ -154,7 +183,7 @@ pub struct DispatchAnswer {
     pub answer: Answer,
 }
 
-// What an ask answers: the refusal number, 0 if accepted; how many acts of the receiver there were; how many messages are in the set
+// What an ask answers (a struct of the C interface): the refusal number, 0 if accepted; how many acts of the receiver there were; how many messages are in the set
 // that the handover would apply, and their names, zeros after them.
 #[repr(C)]
 #[derive(Clone, Copy)]
@@ -165,7 +194,7 @@ pub struct AskAnswer {
     pub names: [Name; Table::MESSAGES],
 }
 
-// What a request for a fresh table answers.
+// What a request for a fresh table answers (a struct of the C interface).
 #[repr(C)]
 #[derive(Clone, Copy)]
 pub struct FreshAnswer {
@@ -173,7 +202,7 @@ pub struct FreshAnswer {
     pub table: Table,
 }
 
-// What a panel look answers.
+// What a panel look answers (a struct of the C interface).
 #[repr(C)]
 #[derive(Clone, Copy)]
 pub struct LookAnswer {
@@ -181,7 +210,7 @@ pub struct LookAnswer {
     pub panel: Panel,
 }
 
-// What the count of "goes before" answers: how many controllers have a smaller forward number for the one message than for the other.
+// What the count of "goes before" answers (a struct of the C interface): how many controllers have a smaller forward number for the one message than for the other.
 #[repr(C)]
 #[derive(Clone, Copy)]
 pub struct CountAnswer {
@@ -189,7 +218,7 @@ pub struct CountAnswer {
     pub count: usize,
 }
 
-// What a file run answers: the refusal number, the events accepted, the listing bytes written and the last table.
+// What a file run answers (a struct of the C interface): the refusal number, the events accepted, the listing bytes written and the last table.
 #[repr(C)]
 #[derive(Clone, Copy)]
 pub struct RunAnswer {

@@ -1,5 +1,4 @@
-pub mod Owned
-pub mod PastTheArray
+pub mod NameOrder
 pub mod Inserting
 pub mod NamesSoFar
 pub mod PendingOfName

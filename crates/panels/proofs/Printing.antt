@@ -8,9 +8,11 @@ use native.Mathlib.Nat.{le_of_suc-le-suc}
 use native.Mathlib.Omega.{arith}
 use lib.ListN.{length, take, drop, length-append, length-drop, length-take, take-append-drop}
 use lib.Seq.{take-append_seam, drop-append_seam, drop-drop, length-take-le}
-use lib.Dec.{eqb, leb, ltb}
+use lib.Dec.{eqb, leb}
 use borrow.Author.Tests.{le-leb, lt-leb, eq-eqb, ne_eqb, eqb-true, eqb-false}
 use borrow.Rule.Slice.PartMut.{mid_of, put_mid, same_len_mid}
+use Rattle.std.specs.Prelude.{Result, Ok, Err}
+use Rattle.std.specs.Result.{IsOk}
 use Rattle.lists.specs.Build.{overlay}
 use Rattle.lists.proofs.Build.{length-overlay}
 use Rattle.lists.proofs.Tests.{cond_case, cond_true, cond_false, by_contradiction, contradiction}
@@ -20,6 +22,7 @@ use Rattle.model.specs.Questions.{Question, first_no, fresh_questions, file_ques
 use Rattle.model.specs.Calls.{step}
 use Rattle.model.specs.Runs.{header, footer, Progress, RunOutcome, line_at, verdict, records, begun, progress, ran, file_run}
 use Rattle.model.specs.declared.Table.{Table}
+use Rattle.model.specs.declared.refusal.Refusal.{Refusal}
 use Rattle.model.specs.declared.RunAnswer.{RunAnswer}
 use Rattle.model.proofs.Decimals.{decimal_one}
 use Rattle.model.proofs.Lengths.{footer_bound}
@@ -28,8 +31,8 @@ use Rattle.model.proofs.Steps.{step-first_no, file_run_ran}
 use Rattle.model.proofs.Runs.{gone, advance_case}
 use Rattle.invariant.proofs.Refusals.{step_refusals}
 use Rattle.invariant.proofs.Listing.{listing_fits}
-use Rattle.listing.specs.declared.Put.{Put}
-use Rattle.listing.specs.Writing.{put_answer, tail_after, Wrote}
+use Rattle.model.proofs.Refused.{refusal_is}
+use Rattle.listing.specs.Writing.{tail_after, Wrote}
 use Rattle.panels.specs.Printed.{header_size, listing_size, footer_size, text_size, printed}
 
 -- TEXTS LAID ONE AFTER THE OTHER
@@ -39,12 +42,15 @@ pub record Laid (x l t : List ℕ) (k : ℕ) : Type 0 where
   pub text : t ≡ overlay x l
   pub end : k ≡ length x
 
--- a line that fits
-laid_line : {x l t : List ℕ} {q : Put} → length x ≤ length l → Wrote x l t q → Laid x l t q.written
-unfolding put_answer tail_after
-laid_line {x} {l} {t} {q} h w =
-    let fits = le-leb (length x) (length l) h in
-    record { text = w.tail ∙ cond_true _ _ fits; end = ap (λ (p : Put). p.written) w.answer ∙ cond_true _ _ fits }
+-- a line that fits is written
+pub line_ok : {x l t : List ℕ} (q : Result ℕ Refusal) → length x ≤ length l → Wrote x l t q → IsOk q
+unfolding first_no line_fits
+line_ok (Ok n) h w = refl
+line_ok {x} {l} (Err k) h w = absurd (refusal_is k (w.answer ∙ cond_true _ _ (le-leb (length x) (length l) h)))
+
+laid_line : {x l t : List ℕ} {n : ℕ} → length x ≤ length l → Wrote x l t (Ok n) → Laid x l t n
+unfolding tail_after
+laid_line {x} {l} h w = record { text = w.tail ∙ cond_true _ _ (le-leb (length x) (length l) h); end = w.written }
 
 laid_read : {x l t : List ℕ} {k : ℕ} → Laid x l t k → take k t ≡ x
 unfolding overlay
@@ -89,7 +95,7 @@ laid_before g h y l t k e p =
 -- THE NUMBER OF A REFUSAL: questions 1 to 3 refuse a file, and later ones a record
 
 abbrev pub early : ℕ → Bool
-early k = ltb 0 k && leb k 3
+early k = leb 1 k && leb k 3
 
 abbrev Early : ℕ → Type 0
 Early k = k ≢ 0 → early k ≡ true
@@ -103,7 +109,7 @@ Late k = (k ≡ 0) ⊎ (3 < k)
 
 late_not_early : (k : ℕ) → Late k → early k ≡ false
 late_not_early k (inl z) = rw z refl
-late_not_early k (inr h) = and_none (ltb 0 k) (lt-leb k 3 h)
+late_not_early k (inr h) = and_none (leb 1 k) (lt-leb k 3 h)
   where
     and_none : (b : Bool) {c : Bool} → c ≡ false → (b && c) ≡ false
     and_none true e = e
@@ -223,12 +229,15 @@ has_lines s l w m j r z ll lw ej er em same =
     }
 
 -- the header line takes that place
-pub has-header : (s l t u : List ℕ) (r : RunAnswer) (q : Put) (n : ℕ) → n ≡ byte s 1 → length l ≡ text_size → Passed s → Holds (take header_size l) s l t r → Wrote (header n) t u q
+pub header_fits : (s l t : List ℕ) (r : RunAnswer) (n : ℕ) → n ≡ byte s 1 → Passed s → Holds (take header_size l) s l t r → length (header n) ≤ length t
+header_fits s l t r n en p h = omega (arith, header-size n (omega (arith, en, p.few)), h.size)
+
+pub has-header : (s l t u : List ℕ) (r : RunAnswer) (q n : ℕ) → n ≡ byte s 1 → length l ≡ text_size → Passed s → Holds (take header_size l) s l t r → Wrote (header n) t u (Ok q)
     → Holds (header (byte s 1)) s l u r
 has-header s l t u r q n en ll p h w =
     let x = header n in
     let size = header-size n (omega (arith, en, p.few)) in
-    let front = laid_line (omega (arith, h.size)) w in
+    let front = laid_line (header_fits s l t r n en p h) w in
     let whole = laid_before (take header_size l) x (lent s).lines l t (header_size + r.written) (length-take-le header_size l (omega arith) ∙ sym size) h.laid in
     record {
       laid = rw (← front.text, en) at whole;
@@ -238,34 +247,39 @@ has-header s l t u r q n en ll p h w =
       refusal = h.refusal;
     }
 
--- with the end line after them, which has q's bytes
-pub record HasEnd (s t : List ℕ) (k : ℕ) (q : Put) : Type 0 where
-  pub short : q.written ≤ footer_size
-  pub text : take (k + q.written) t ≡ printed s
+-- THE END LINE, of q bytes
 
-pub has_end : (s l t v : List ℕ) (r : RunAnswer) (q : Put) → first_no (file_questions s) ≡ 0 → r.events < 2 ^ 64 → r.refusal < 256 → Holds (header (byte s 1)) s l t r
-    → let k = header_size + r.written in
-    Wrote (footer r.events r.refusal) (mid_of k (length t - k) t) v q
-    → HasEnd s (put_mid k (length t - k) t v) k q
-unfolding printed
-has_end s l t v r q z be bn h w =
-    let x = footer r.events r.refusal in
-    let bound = footer_bound r.events r.refusal be bn in
-    let k = header_size + r.written in
-    let j = length t - k in
-    let p = laid_line (omega (arith, length-take j (drop k t), length-drop k t, h.short, h.size)) w in
-    let whole = laid_after x v j (omega (arith, h.short, h.size)) h.laid p.text in
-    record {
-      short = omega (arith, p.end);
-      text = ap (λ (i : ℕ). take (k + i) (put_mid k j t v)) p.end ∙ laid_read whole
+module _ (s : List ℕ) (r : RunAnswer) (be : r.events < 2 ^ 64) (bn : r.refusal < 256) (t : List ℕ) where
+  -- after the lines
+  module _ (l : List ℕ) (h : Holds (header (byte s 1)) s l t r) where
+    abbrev k : ℕ
+    k = header_size + r.written
+
+    pub footer_fits : length (footer r.events r.refusal) ≤ length (mid_of k (length t - k) t)
+    footer_fits = omega (arith, footer_bound r.events r.refusal be bn, length-take (length t - k) (drop k t), length-drop k t, h.short, h.size)
+
+    module _ (v : List ℕ) (q : ℕ) (w : Wrote (footer r.events r.refusal) (mid_of k (length t - k) t) v (Ok q)) where
+      pub footer_short : q ≤ footer_size
+      footer_short = omega (arith, (laid_line footer_fits w).end, footer_bound r.events r.refusal be bn)
+
+      pub has_end : first_no (file_questions s) ≡ 0 → take (k + q) (put_mid k (length t - k) t v) ≡ printed s
+      unfolding printed
+      has_end z =
+          let x = footer r.events r.refusal in
+          let j = length t - k in
+          let p = laid_line footer_fits w in
+          let whole = laid_after x v j (omega (arith, footer_bound r.events r.refusal be bn, h.short, h.size)) h.laid p.text in
+          ap (λ (i : ℕ). take (k + i) (put_mid k j t v)) p.end ∙ laid_read whole
           ∙ append_assoc (header (byte s 1)) (lent s).lines x
-          ∙ rw (h.events, h.refusal) (sym (cond_true _ _ (eq-eqb (first_no (file_questions s)) 0 z)));
-    }
+          ∙ rw (h.events, h.refusal) (sym (cond_true _ _ (eq-eqb (first_no (file_questions s)) 0 z)))
 
--- of a file that was refused, the end line alone
-pub only_end : (s t u : List ℕ) (r : RunAnswer) (q : Put) → length t ≡ text_size → r.events < 2 ^ 64 → r.refusal < 256 → Refused s r
-    → Wrote (footer r.events r.refusal) t u q → take q.written u ≡ printed s
-unfolding printed
-only_end s t u r q lt be bn d w =
-    laid_read (laid_line (omega (arith, footer_bound r.events r.refusal be bn)) w)
-    ∙ rw (d.events, d.refusal) (sym (cond_false _ _ (ne_eqb (first_no (file_questions s)) 0 d.asked)))
+  -- alone, of a file that was refused
+  module _ (size : length t ≡ text_size) where
+    pub alone_fits : length (footer r.events r.refusal) ≤ length t
+    alone_fits = omega (arith, footer_bound r.events r.refusal be bn, size)
+
+    pub only_end : Refused s r → (v : List ℕ) (q : ℕ) → Wrote (footer r.events r.refusal) t v (Ok q) → take q v ≡ printed s
+    unfolding printed
+    only_end d v q w =
+        laid_read (laid_line alone_fits w)
+        ∙ rw (d.events, d.refusal) (sym (cond_false _ _ (ne_eqb (first_no (file_questions s)) 0 d.asked)))

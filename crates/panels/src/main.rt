@@ -2,23 +2,22 @@
 // and the events accepted with the refusal number.
 #![tactic(auto)]
 
-ghost use Rattle.std.specs.Prelude.{◌≡◌, ◌≤◌, length, take, IfOk};
+ghost use Rattle.std.specs.Prelude.{◌≡◌, ◌≤◌, ◌&&◌, leb, length, take, IfOk};
 ghost use Rattle.std.specs.Io.KnownBytes.{Consumes};
 ghost use Rattle.model.specs.Tables.{scratch_size};
 ghost use Rattle.panels.specs.Printed.{text_size, printed};
 
-use model::{Table, refusal};
+use model::Table;
+use model::refusal::Refusal;
 use std::io;
 use std::io::{ErrorKind, Read, Write};
 
 // The bytes that stand first, all of them where there are fewer.
+#[tactic(auto, using(std::proofs::lemmas::List::take_min))]
 fn first(bytes: &[u8], size: usize) -> &[u8]
     ensures { result.now ≡ take size bytes.now }
 {
-    if size < bytes.len() {
-        return &bytes[..size];
-    }
-    bytes
+    &bytes[..size.min(bytes.len())]
 }
 
 // The header line of a number of one digit.
@@ -31,27 +30,32 @@ const FOOTER: usize = 29;
 
 const TEXT: usize = HEADER + LISTING + FOOTER;
 
+// Whether it is the number (the run's answer has no more: the C interface) of one of questions 1 to 3, which are put to a file, and not to its records.
+fn is_early(number: u8) -> bool
+    ensures { result ≡ (leb 1 number && leb number 3) }
+{
+    (u8::from(Refusal::FileLength)..=u8::from(Refusal::ControllerCount)).contains(&number)
+}
+
 // Writes what is to be printed of a file, and answers how many bytes that is. The run comes first, since its refusal tells whether
 // there is a header line: not of a file that questions 1 to 3 refuse. The number of controllers is the file's second byte. The run's
-// table has it too, but with that read the compiler would keep a second table.
+// table has it too, but with that read the compiler would keep a second table. The text has room for each line.
 fn report(file: &[u8], text: &mut [u8], scratch: &mut [u8]) -> usize
     requires { (length text.old ≡ text_size) × (length scratch.old ≡ scratch_size) }
     ensures { take result text.new ≡ printed file.now }
 {
     let run = files::run(file, &mut text[HEADER..HEADER + LISTING], scratch);
-    let number = run.refusal;
-    if (0 < number) & (number <= refusal::CONTROLLER_COUNT) {
-        let only = listing::put_footer(text, run.events, number);
-        return only.written;
+    if is_early(run.refusal) {
+        return listing::put_footer(text, run.events, run.refusal).unwrap();
     }
-    listing::put_header(text, records::byte_at(file, 1));
+    listing::put_header(text, records::byte_at(file, 1)).unwrap();
     let end = HEADER + run.written;
-    let tail = listing::put_footer(&mut text[end..], run.events, run.refusal);
-    end + tail.written
+    let tail = listing::put_footer(&mut text[end..], run.events, run.refusal).unwrap();
+    end + tail
 }
 
 // Reads until the buffer is full or the input ends, and answers how many bytes stand in the buffer then. A read that was interrupted
-// is made again.
+// is made again. The loop counts attempts: a `while` would have no measure, since any number of reads may be interrupted.
 fn read_full<R: Read>(input: &mut R, buffer: &mut [u8]) -> io::Result<usize>
     ensures bound { IfOk result (λ n. n ≤ length buffer.new) }
     ensures bytes { IfOk result (λ n. Consumes (R.remaining input.old) (R.remaining input.new) (take n buffer.new)) }
@@ -64,11 +68,8 @@ fn read_full<R: Read>(input: &mut R, buffer: &mut [u8]) -> io::Result<usize>
         match input.read(&mut buffer[done..]) {
             Ok(0) => break,
             Ok(n) => done += n,
-            Err(e) => {
-                if e.kind() != ErrorKind::Interrupted {
-                    return Err(e);
-                }
-            }
+            Err(e) if e.kind() == ErrorKind::Interrupted => {}
+            Err(e) => return Err(e),
         }
     }
     Ok(done)

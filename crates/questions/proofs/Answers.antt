@@ -1,25 +1,15 @@
 -- The number that a list of questions gives, from the answers as a function's tests have them. Assumes nothing.
-use mathlib.Core.Path.{◌≡◌, refl, sym, ap, ◌∙◌}
+use mathlib.Core.Path.{◌≡◌, refl, sym, ◌∙◌}
 use mathlib.Core.Logic.{◌≢◌}
-use mathlib.Core.Bool.{Bool, true, false, not, ◌&&◌, ◌||◌, cond}
+use mathlib.Core.Bool.{Bool, true, false, cond}
 use mathlib.Core.List.{List, [], ◌∷◌, ◌++◌}
-use borrow.Author.Tests.{not-true, not-false}
-use Rattle.model.specs.Questions.{Question, first_no}
+use Prim.Native.Nat.{ℕ}
+use Rattle.model.specs.Refusals.{refusal_number}
+use Rattle.model.specs.Questions.{Question, first_no, payload_questions}
+use Rattle.model.specs.declared.Payload.{Payload}
+use Rattle.model.specs.declared.refusal.Refusal.{Refusal}
 use Rattle.model.proofs.Allowed.{Numbered, none, more, no_no}
-
--- an answer r to what b says, as the test `!r` came out
-
-module _ {r b : Bool} (e : r ≡ b) where
-  pub seen_no : not r ≡ true → b ≡ false
-  seen_no t = sym e ∙ not-true r t
-
-  pub seen_yes : not r ≡ false → b ≡ true
-  seen_yes t = sym e ∙ not-false r t
-
--- question 11, of a message that waits if it is no report and one of its sender's is pending
-pub unless_waits : (report pending : Bool) {waits w : Bool} → waits ≡ (not report && pending) → waits ≡ w → (report || not pending) ≡ not w
-unless_waits true pending e f = ap not (sym e ∙ f)
-unless_waits false pending e f = ap not (sym e ∙ f)
+use Rattle.model.proofs.Refused.{refusal_is}
 
 -- TWO LISTS OF QUESTIONS, one after the other
 
@@ -39,3 +29,11 @@ first_passed none rs e = refl
 first_passed (more {k = k} {b = b} {qs = qs} n) rs e =
     let q = no_no k b qs e in
     rw q.0 (first_passed n rs q.1)
+
+-- a refusal by the first list is that of both
+pub refused_first : (r : Refusal) (qs rs : List Question) → refusal_number r ≡ first_no qs → refusal_number r ≡ first_no (qs ++ rs)
+refused_first r qs rs e = e ∙ sym (first-refused qs rs (λ z. refusal_is r (e ∙ z)))
+
+pub payload_passed : (v : ℕ) (p : Payload) (rs : List Question) → 0 ≡ first_no (payload_questions v p) → first_no (payload_questions v p ++ rs) ≡ first_no rs
+unfolding payload_questions
+payload_passed v p rs e = first_passed (more (more (more none))) rs (sym e)

@@ -1,1 +1,1 @@
-pub mod AtHand
+pub mod Seats

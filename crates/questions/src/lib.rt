@@ -1,310 +1,230 @@
-// Questions 8 to 14 and 17 to 20, on every table. Past the last controller the definitions read zeros; no value of the
-// type has empty arrays, so each function that reads a controller answers that case by itself. A function that indexes an
-// array of the table copies it, so a caller hands over the controllers that it has at hand, and only a stop reads all.
+// Questions 8 to 14 and 17 to 20, on every table. Past the last controller there is none, and the definitions read zeros (`or_none`).
 #![tactic(auto)]
 
-ghost use Rattle.std.specs.Prelude.{◌≡◌, not, ◌&&◌, ◌||◌, ◌≤◌, ◌<◌, eqb, leb, ltb, get_or};
+ghost use Rattle.std.specs.Prelude.{◌≡◌, ◌≤◌, ◌<◌, [], ◌∷◌, IfOk, IsSome, leb, get_or};
 ghost use Rattle.lists.specs.Below.{all};
-ghost use Rattle.model.specs.Tables.{seats, capacity, report_kind, write_kind, no_controller, controller_in, first_of};
-ghost use Rattle.model.specs.Questions.{first_no, own_pending, latest, synced, payload_questions, sender_questions, send_questions, handover_questions, stop_questions, read_questions, command_questions};
-ghost use Rattle.questions.specs.AtHand.{or_none, AtHand};
+ghost use Rattle.model.specs.Fair.{named};
+ghost use Rattle.model.specs.Handed.{all_of};
+ghost use Rattle.model.specs.Tables.{seats, yes?, no_controller, at, messages_of};
+ghost use Rattle.model.specs.Refusals.{refusal_in};
+ghost use Rattle.model.specs.Questions.{ask, first_no, own_pending, latest, synced, unread, payload_questions, sender_questions, send_questions, handover_questions, stop_questions, read_questions, command_questions};
+ghost use Rattle.questions.specs.Seats.{or_none};
 
-use model::{Command, Controller, Event, Message, Payload, Pending, Table, refusal};
+use model::refusal::Refusal;
+use model::{Command, Controller, Event, Kind, Messages, Payload, Pending, Table};
 
-// Whether c is one of n controllers.
-fn named(n: usize, c: u8) -> bool
-    ensures { result ≡ (ltb 0 c && leb c n) }
+// Question 8: c is one of n controllers.
+#[tactic(auto, unfolding(model::specs::Questions::first_no))]
+fn named(n: usize, c: u8) -> Result<(), Refusal>
+    ensures { refusal_in result ≡ first_no (ask 8 (named n c) ∷ []) }
 {
-    (0 < c) & (c as usize <= n)
+    if Controller::is_among(n, c as usize) {
+        Ok(())
+    } else {
+        Err(Refusal::Controller)
+    }
 }
 
-// Whether one of the first messages is in this buffer and c's own. Past the end of the arrays none is.
-fn own_pending(
-    count: usize,
-    messages: [Message; Table::MESSAGES],
-    pending: [Pending; Table::MESSAGES],
-    c: u8,
-) -> bool
-    ensures { result ≡ own_pending (first_of count messages) pending c }
+// Controller c of the table; past the last there is none.
+#[tactic(auto, unfolding(model::specs::Tables::controller_in, crate::specs::Seats::or_none))]
+fn controller(t: &Table, c: u8) -> Option<&Controller>
+    ensures { or_none result ≡ at t.now c }
 {
-    for s in 0..numbers::at_most(count, Table::MESSAGES) {
-        let held = pending[s].held;
-        let sender = messages[s].sender;
-        if (0 < held) & (sender == c) {
-            return true;
-        }
-    }
-    false
+    t.controllers.get((c as usize).saturating_sub(1))
+}
+
+// Question 10: the controller, if it is there and runs.
+#[tactic(auto, unfolding(model::specs::Questions::first_no, crate::specs::Seats::or_none))]
+fn running(x: Option<&Controller>) -> Result<&Controller, Refusal>
+    ensures asked { refusal_in result ≡ first_no (ask 10 (yes? (or_none x.entry).running) ∷ []) }
+    ensures there { IfOk result (λ _. IsSome x.entry) }
+    ensures found { IfOk result (λ y. y.now ≡ or_none x.entry) }
+{
+    x.filter(|x| x.is_running()).ok_or(Refusal::Stopped)
+}
+
+// Whether one of the messages is in this buffer and c's own. Past the end of the arrays none is.
+fn own_pending(messages: Messages, pending: &[Pending; Table::MESSAGES], c: u8) -> bool
+    ensures { result ≡ own_pending (all_of messages.entry) pending.now c }
+{
+    messages
+        .sent()
+        .iter()
+        .zip(pending)
+        .any(|(m, p)| p.is_held() && m.sender == c)
 }
 
 // A REPORT, SYNC OR WRITE
 
-// Whether a message of this kind has to wait for one of its sender's own: a report has not.
-fn must_wait(
-    kind: u8,
-    count: usize,
-    messages: [Message; Table::MESSAGES],
-    pending: [Pending; Table::MESSAGES],
-    c: u8,
-) -> bool
-    ensures { result ≡ (not (eqb kind report_kind) && own_pending (first_of count messages) pending c) }
+// The greatest number of c among the messages.
+fn latest(messages: Messages, c: u8) -> u8
+    ensures { result ≡ latest (all_of messages.entry) c }
 {
-    if kind == Payload::REPORT {
-        return false;
-    }
-    own_pending(count, messages, pending, c)
+    messages
+        .sent()
+        .iter()
+        .filter(|m| m.sender == c)
+        .map(|m| m.number.0)
+        .max()
+        .unwrap_or(0)
 }
 
-// The greatest number of c among the first messages.
-fn latest(count: usize, messages: [Message; Table::MESSAGES], c: u8) -> u8
-    requires { count < capacity }
-    ensures { result ≡ latest (first_of count messages) c }
+// Whether the latest message of c is a sync that is flagged as applied (a byte: the C interface).
+fn synced(messages: Messages, applied: &[u8; Table::MESSAGES], c: u8) -> bool
+    ensures { result ≡ synced (all_of messages.entry) applied.now c }
 {
-    let mut latest: u8 = 0;
-    for s in 0..count {
-        let m = messages[s];
-        if m.sender != c {
-            continue;
-        }
-        latest = numbers::greater(latest, m.number.0);
-    }
-    latest
-}
-
-// Whether the latest message of c is a sync that is flagged as applied.
-fn synced(
-    count: usize,
-    messages: [Message; Table::MESSAGES],
-    applied: [u8; Table::MESSAGES],
-    c: u8,
-) -> bool
-    requires { count < capacity }
-    ensures { result ≡ synced (first_of count messages) applied c }
-{
-    let last = latest(count, messages, c);
-    for s in 0..count {
-        let m = messages[s];
-        let kind = m.payload.kind;
-        let own_last = (m.sender == c) & (m.number.0 == last);
-        if (0 < applied[s]) & ((kind == Payload::SYNC) & own_last) {
-            return true;
-        }
-    }
-    false
-}
-
-// Whether a message of this kind may be its sender's next: a write follows on an applied sync.
-fn may_follow(
-    kind: u8,
-    count: usize,
-    messages: [Message; Table::MESSAGES],
-    applied: [u8; Table::MESSAGES],
-    c: u8,
-) -> bool
-    requires { count < capacity }
-    ensures { result ≡ (not (eqb kind write_kind) || synced (first_of count messages) applied c) }
-{
-    if kind != Payload::WRITE {
-        return true;
-    }
-    synced(count, messages, applied, c)
+    let last = latest(messages, c);
+    messages.sent().iter().zip(applied).any(|(m, flag)| {
+        *flag != 0 && m.payload.is(Kind::Sync) && m.sender == c && m.number.0 == last
+    })
 }
 
 // Questions 9, 17 and 19.
-fn payload_refusal(version: usize, payload: Payload) -> u8
-    ensures { result ≡ first_no (payload_questions version payload) }
+#[tactic(auto, unfolding(model::specs::Questions::first_no, model::specs::Questions::payload_questions))]
+fn payload_refusal(version: usize, payload: Payload) -> Result<(), Refusal>
+    ensures { refusal_in result ≡ first_no (payload_questions version payload) }
 {
-    if !Payload::fair_amount(payload) {
-        return refusal::AMOUNT;
+    if !payload.fair_amount() {
+        return Err(Refusal::Amount);
     }
-    if !Payload::fair_class(version, payload) {
-        return refusal::CLASS;
+    if !payload.fair_class(version) {
+        return Err(Refusal::Class);
     }
-    if !Payload::fair_register(payload) {
-        return refusal::REGISTER;
+    if !payload.fair_register() {
+        return Err(Refusal::Register);
     }
-    refusal::ACCEPTED
+    Ok(())
 }
 
-// Questions 10 to 12 and 20, x being the sender.
+// Questions 10 to 12 and 20, x being the sender. A report does not wait for messages of its sender's own, and a write alone
+// follows on a sync.
+#[tactic(auto, unfolding(model::specs::Questions::first_no, model::specs::Questions::sender_questions))]
 fn sender_refusal(
-    count: usize,
-    messages: [Message; Table::MESSAGES],
-    x: Controller,
+    messages: Messages,
+    x: Option<&Controller>,
     sender: u8,
     payload: Payload,
-) -> u8
-    ensures { result ≡ first_no (sender_questions (first_of count messages) x sender payload) }
+) -> Result<(), Refusal>
+    ensures { refusal_in result ≡ first_no (sender_questions (all_of messages.entry) (or_none x.entry) sender payload) }
 {
-    let flag = x.running;
-    if flag == 0 {
-        return refusal::STOPPED;
+    let x = running(x)?;
+    if !payload.is(Kind::Report) && own_pending(messages, &x.pending, sender) {
+        return Err(Refusal::OwnPending);
     }
-    let pending = x.pending;
-    let kind = payload.kind;
-    if must_wait(kind, count, messages, pending, sender) {
-        return refusal::OWN_PENDING;
+    if Table::MESSAGES <= messages.count {
+        return Err(Refusal::Full);
     }
-    if Table::MESSAGES <= count {
-        return refusal::FULL;
+    if payload.is(Kind::Write) && !synced(messages, &x.applied, sender) {
+        return Err(Refusal::NotSynced);
     }
-    let applied = x.applied;
-    if !may_follow(kind, count, messages, applied, sender) {
-        return refusal::NOT_SYNCED;
-    }
-    refusal::ACCEPTED
+    Ok(())
 }
 
+#[tactic(auto, unfolding(model::specs::Questions::first_no, model::specs::Questions::send_questions), using(crate::proofs::Answers::refused_first, crate::proofs::Answers::payload_passed))]
 fn send_refusal(
-    version: usize,
-    n: usize,
-    count: usize,
-    messages: [Message; Table::MESSAGES],
-    x: Controller,
+    t: &Table,
+    x: Option<&Controller>,
     sender: u8,
     payload: Payload,
-) -> u8
-    ensures { result ≡ first_no (send_questions version n (first_of count messages) (or_none sender x) sender payload) }
+) -> Result<(), Refusal>
+    ensures { refusal_in result ≡ first_no (send_questions t.now.version t.now.n (messages_of t.now) (or_none x.entry) sender payload) }
 {
-    if !named(n, sender) {
-        return refusal::CONTROLLER;
-    }
-    let refusal = payload_refusal(version, payload);
-    if refusal != 0 {
-        return refusal;
-    }
-    if Table::CONTROLLERS < sender as usize {
-        return refusal::STOPPED;
-    }
-    sender_refusal(count, messages, x, sender, payload)
+    named(t.n, sender)?;
+    payload_refusal(t.version, payload)?;
+    sender_refusal(t.sent(), x, sender, payload)
 }
 
 // A HANDOVER
 
-fn handover_refusal(n: usize, x: Controller, y: Controller, receiver: u8, owner: u8) -> u8
-    ensures { result ≡ first_no (handover_questions n (or_none receiver x) (or_none owner y) receiver owner) }
+// Whether this log of controller o has an entry that x has not read.
+#[tactic(auto, unfolding(model::specs::Questions::unread, crate::specs::Seats::or_none))]
+fn has_unread(x: &Controller, y: Option<&Controller>, o: u8) -> bool
+    ensures { result ≡ unread x.now (or_none y.entry) o }
 {
-    if !(named(n, receiver) & named(n, owner)) {
-        return refusal::CONTROLLER;
+    let index = (o as usize).saturating_sub(1);
+    let place = x.read.get(index).copied().unwrap_or(0);
+    y.is_some_and(|y| place < y.length)
+}
+
+#[tactic(auto, unfolding(model::specs::Questions::first_no, model::specs::Questions::handover_questions))]
+fn handover_refusal(
+    n: usize,
+    x: Option<&Controller>,
+    y: Option<&Controller>,
+    receiver: u8,
+    owner: u8,
+) -> Result<(), Refusal>
+    ensures { refusal_in result ≡ first_no (handover_questions n (or_none x.entry) (or_none y.entry) receiver owner) }
+{
+    named(n, receiver)?;
+    named(n, owner)?;
+    let x = running(x)?;
+    if !has_unread(x, y, owner) {
+        return Err(Refusal::NoEntry);
     }
-    if Table::CONTROLLERS < receiver as usize {
-        return refusal::STOPPED;
-    }
-    let flag = x.running;
-    if flag == 0 {
-        return refusal::STOPPED;
-    }
-    let o = numbers::predecessor(owner as usize);
-    if Table::CONTROLLERS <= o {
-        return refusal::NO_ENTRY;
-    }
-    let length = y.length;
-    let read = x.read;
-    let place = read[o];
-    if length <= place {
-        return refusal::NO_ENTRY;
-    }
-    refusal::ACCEPTED
+    Ok(())
 }
 
 // A STOP
 
 // Whether none of n controllers has read more than k entries of the log at index o.
-fn none_past(n: usize, controllers: [Controller; Table::CONTROLLERS], o: usize, k: usize) -> bool
+fn none_past(n: usize, controllers: &[Controller; Table::CONTROLLERS], o: usize, k: usize) -> bool
     requires { o < seats }
-    ensures { result ≡ all n (λ j. leb (get_or (get_or controllers j no_controller).read o 0) k) }
+    ensures { result ≡ all n (λ j. leb (get_or (get_or controllers.now j no_controller).read o 0) k) }
 {
-    for r in 0..numbers::at_most(n, Table::CONTROLLERS) {
-        let x = controllers[r];
-        let read = x.read;
-        let place = read[o];
-        if k < place {
-            return false;
-        }
-    }
-    true
+    controllers.iter().take(n).all(|x| x.read[o] <= k)
 }
 
+#[tactic(auto, unfolding(model::specs::Questions::first_no, model::specs::Questions::stop_questions, model::specs::Questions::keepable, model::specs::Tables::controller_in, crate::specs::Seats::or_none))]
 fn stop_refusal(
     n: usize,
-    controllers: [Controller; Table::CONTROLLERS],
-    x: Controller,
+    controllers: &[Controller; Table::CONTROLLERS],
     controller: u8,
     kept: usize,
-) -> u8
-    ensures { (controller ≤ seats → x ≡ controller_in controllers controller) → result ≡ first_no (stop_questions n controllers controller kept) }
+) -> Result<(), Refusal>
+    ensures { refusal_in result ≡ first_no (stop_questions n controllers.now controller kept) }
 {
-    if !named(n, controller) {
-        return refusal::CONTROLLER;
+    named(n, controller)?;
+    let o = (controller as usize).saturating_sub(1);
+    let x = running(controllers.get(o))?;
+    if x.length < kept || !none_past(n, controllers, o, kept) {
+        return Err(Refusal::Kept);
     }
-    let i = numbers::predecessor(controller as usize);
-    if Table::CONTROLLERS <= i {
-        return refusal::STOPPED;
-    }
-    let flag = x.running;
-    if flag == 0 {
-        return refusal::STOPPED;
-    }
-    let length = x.length;
-    if length < kept {
-        return refusal::KEPT;
-    }
-    if !none_past(n, controllers, i, kept) {
-        return refusal::KEPT;
-    }
-    refusal::ACCEPTED
+    Ok(())
 }
 
 // A LOCAL READ
 
-fn read_refusal(
-    n: usize,
-    count: usize,
-    messages: [Message; Table::MESSAGES],
-    x: Controller,
-    controller: u8,
-) -> u8
-    ensures { result ≡ first_no (read_questions n (first_of count messages) (or_none controller x) controller) }
+#[tactic(auto, unfolding(model::specs::Questions::first_no, model::specs::Questions::read_questions))]
+fn read_refusal(t: &Table, x: Option<&Controller>, controller: u8) -> Result<(), Refusal>
+    ensures { refusal_in result ≡ first_no (read_questions t.now.n (messages_of t.now) (or_none x.entry) controller) }
 {
-    if !named(n, controller) {
-        return refusal::CONTROLLER;
+    named(t.n, controller)?;
+    let x = running(x)?;
+    if own_pending(t.sent(), &x.pending, controller) {
+        return Err(Refusal::ReadPending);
     }
-    if Table::CONTROLLERS < controller as usize {
-        return refusal::STOPPED;
-    }
-    let flag = x.running;
-    if flag == 0 {
-        return refusal::STOPPED;
-    }
-    let pending = x.pending;
-    if own_pending(count, messages, pending, controller) {
-        return refusal::READ_PENDING;
-    }
-    refusal::ACCEPTED
+    Ok(())
 }
 
 // EVERY RECORD
 
-// The first no of questions 8 to 14 and 17 to 20, in their order for each kind of record. A caller has the controllers at hand that
-// the record names: x, and y whose log a handover reads.
-pub fn refusal(t: Table, x: Controller, y: Controller, a: Command) -> u8
-    ensures { AtHand t a x y → result ≡ first_no (command_questions t a) }
+// The first no of questions 8 to 14 and 17 to 20, in their order for each kind of record.
+#[tactic(auto, unfolding(model::specs::Questions::command_questions, model::specs::Questions::event_questions))]
+pub fn refusal(t: &Table, a: Command) -> Result<(), Refusal>
+    ensures { refusal_in result ≡ first_no (command_questions t.now a) }
 {
     match a {
-        Command::Act(e) => match e {
-            Event::Send { sender, payload } => {
-                let messages = t.messages;
-                send_refusal(t.version, t.n, t.count, messages, x, sender, payload)
-            }
-            Event::Handover { receiver, owner } => handover_refusal(t.n, x, y, receiver, owner),
-            Event::Stop { controller, kept } => {
-                let controllers = t.controllers;
-                stop_refusal(t.n, controllers, x, controller, kept)
-            }
-        },
-        Command::Read(controller) => {
-            let messages = t.messages;
-            read_refusal(t.n, t.count, messages, x, controller)
+        Command::Act(Event::Send { sender, payload }) => {
+            send_refusal(t, controller(t, sender), sender, payload)
         }
+        Command::Act(Event::Handover { receiver, owner }) => {
+            let x = controller(t, receiver);
+            handover_refusal(t.n, x, controller(t, owner), receiver, owner)
+        }
+        Command::Act(Event::Stop { controller, kept }) => {
+            stop_refusal(t.n, &t.controllers, controller, kept)
+        }
+        Command::Read(c) => read_refusal(t, controller(t, c), c),
     }
 }

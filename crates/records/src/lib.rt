@@ -1,25 +1,19 @@
 // The record cutter and the decoder: what the bytes of a run file say, before any table is asked.
 #![tactic(auto)]
 
-ghost use Rattle.std.specs.Prelude.{◌≡◌, ◌+◌, ◌<◌, drop};
+ghost use Rattle.std.specs.Prelude.{◌≡◌, ◌+◌, ◌<◌, [], ◌∷◌, drop, IfOk};
+ghost use Rattle.model.specs.Kinds.{kind_number};
 ghost use Rattle.model.specs.Records.{byte, word, long, size_of, report_class, reported, decode};
-ghost use Rattle.model.specs.Questions.{first_no, kind_questions};
-ghost use Rattle.records.specs.Cuts.{cut, found, has_kind, longest_record, record_of};
+ghost use Rattle.model.specs.Refusals.{refusal_in};
+ghost use Rattle.model.specs.Questions.{first_no, kind_questions, record_questions};
+ghost use Rattle.records.specs.Cuts.{cut, found, longest_record, record_of};
 
-use model::{Command, Event, Payload, Table, refusal};
+use model::refusal::Refusal;
+use model::{Command, Event, Kind, Payload, Table};
 
-// The record at the head of the bytes is whole, and this many bytes follow its length byte; or it is not.
-#[derive(Clone, Copy)]
-enum Cut {
-    Whole(usize),
-    Short,
-}
-
-// A record that was read: the first no of questions 5 to 7, 0 if there is none; how many bytes it takes, 0 if refused; and
-// what it asks for.
+// A record that was read: how many bytes it takes, its length byte among them, and what it asks for.
 #[derive(Clone, Copy)]
 pub struct Record {
-    pub refusal: u8,
     pub used: usize,
     pub command: Command,
 }
@@ -28,94 +22,63 @@ pub struct Record {
 pub fn byte_at(bytes: &[u8], i: usize) -> u8
     ensures { result ≡ byte bytes.now i }
 {
-    if i < bytes.len() {
-        return bytes[i];
-    }
-    0
+    bytes.get(i).copied().unwrap_or(0)
 }
 
-// Cuts off the record at the head of the bytes.
-fn cut_record(bytes: &[u8]) -> Cut
+// Cuts off the record at the head of the bytes: if it is whole, this many bytes follow its length byte.
+#[tactic(auto, unfolding(model::specs::Questions::first_no))]
+fn cut_record(bytes: &[u8]) -> Option<usize>
     ensures { found result ≡ cut bytes.now }
 {
     let size = byte_at(bytes, 0) as usize;
-    if size < bytes.len() {
-        return Cut::Whole(size);
-    }
-    Cut::Short
+    if size < bytes.len() { Some(size) } else { None }
 }
 
 // What is left after that many bytes; nothing where there are fewer.
 pub fn rest(bytes: &[u8], used: usize) -> &[u8]
     ensures { result.now ≡ drop used bytes.now }
 {
-    let have = bytes.len();
-    if used <= have {
-        return &bytes[used..];
-    }
-    &bytes[have..]
+    bytes.get(used..).unwrap_or(&[])
 }
 
-const HANDOVER: u8 = 3;
-
-const STOP: u8 = 4;
-
-const LAST_KIND: u8 = Payload::WRITE;
-
-// Kinds count from 1, and 0 has a place too.
-const KINDS: usize = LAST_KIND as usize + 1;
-
-// The lengths of the kinds 1 report, 2 sync, 3 handover, 4 stop, 5 local read, 6 write in version 1.
-const SIZES: [usize; KINDS] = [0, 4, 2, 3, 4, 2, 7];
-
-const CLASSED_REPORT: usize = 5;
-
-// The length of a record of a kind, in files of a version; 0 for what is no kind. A report of version 2 has a class byte more.
-fn size_of_kind(version: usize, kind: u8) -> usize
-    ensures { result ≡ size_of version kind }
+// The length of a record of a kind, in files of a version. A report of version 2 has a class byte more.
+#[tactic(auto, unfolding(model::specs::Records::size_of))]
+fn size_of_kind(version: usize, kind: Kind) -> usize
+    ensures { result ≡ size_of version (kind_number kind) }
 {
-    if (version == Table::CLASSED) & (kind == Payload::REPORT) {
-        return CLASSED_REPORT;
+    match kind {
+        Kind::Report if version == Table::CLASSED => 5,
+        Kind::Report | Kind::Stop => 4,
+        Kind::Sync | Kind::Read => 2,
+        Kind::Handover => 3,
+        Kind::Write => 7,
     }
-    if kind <= LAST_KIND {
-        return SIZES[kind as usize];
-    }
-    0
 }
 
-// Question 6, of a record of this many bytes: there is a kind, from 1 to 6.
-fn has_kind(size: usize, kind: u8) -> bool
-    ensures { result ≡ has_kind size kind }
+// The kind with this number, of a record of this many bytes after its length byte: questions 6 and 7 ask whether there is
+// one, and whether the record has its length.
+#[tactic(auto, unfolding(model::specs::Questions::first_no, model::specs::Questions::kind_questions))]
+fn kind_of(version: usize, size: usize, number: u8) -> Result<Kind, Refusal>
+    ensures asked { refusal_in result ≡ first_no (kind_questions version size number) }
+    ensures found { IfOk result (λ kind. kind_number kind ≡ number) }
 {
     if size == 0 {
-        return false;
+        return Err(Refusal::Kind);
     }
-    0 < kind && kind <= LAST_KIND
+    let kind = Kind::try_from(number)?;
+    if size != size_of_kind(version, kind) {
+        return Err(Refusal::RecordLength);
+    }
+    Ok(kind)
 }
 
-// The first no of questions 6 and 7.
-fn kind_refusal(version: usize, size: usize, kind: u8) -> u8
-    ensures { result ≡ first_no (kind_questions version size kind) }
-{
-    if !has_kind(size, kind) {
-        return refusal::KIND;
-    }
-    let due = size_of_kind(version, kind);
-    if size == due {
-        refusal::ACCEPTED
-    } else {
-        refusal::RECORD_LENGTH
-    }
-}
-
-// Two bytes, the high one first.
+// Two bytes, the high one first; past the end a byte is 0, which no method of the library has. (`long_at` likewise: one of both is no
+// plainer.)
 fn word_at(bytes: &[u8], i: usize) -> u16
     requires { i < longest_record }
     ensures { result ≡ word bytes.now i }
 {
-    let high = byte_at(bytes, i) as u16;
-    let low = byte_at(bytes, i + 1) as u16;
-    high * 256 + low
+    u16::from_be_bytes([byte_at(bytes, i), byte_at(bytes, i + 1)])
 }
 
 // Four bytes, the high one first.
@@ -123,98 +86,84 @@ fn long_at(bytes: &[u8], i: usize) -> u32
     requires { i + 2 < longest_record }
     ensures { result ≡ long bytes.now i }
 {
-    let high = word_at(bytes, i) as u32;
-    let low = word_at(bytes, i + 2) as u32;
-    high * 65536 + low
+    u32::from_be_bytes([
+        byte_at(bytes, i),
+        byte_at(bytes, i + 1),
+        byte_at(bytes, i + 2),
+        byte_at(bytes, i + 3),
+    ])
 }
 
 // The class of a report: the byte after the amount in version 2, and 0 in version 1.
+#[tactic(auto, unfolding(model::specs::Records::report_class))]
 fn class_of(version: usize, bytes: &[u8]) -> u8
     ensures { result ≡ report_class version bytes.now }
 {
     if version == Table::CLASSED {
-        return byte_at(bytes, 5);
+        byte_at(bytes, 5)
+    } else {
+        0
     }
-    0
 }
 
-// Two bytes in two's complement name a number below 0 from here on, and their greatest value is -1.
-const NEGATIVE: u16 = 32768;
-
-const MINUS_ONE: u16 = 65535;
-
 // A report of a class and of the amount that two bytes in two's complement name.
+#[tactic(auto, unfolding(model::specs::Records::reported))]
 fn report_of(class: u8, x: u16) -> Payload
     ensures { result ≡ reported class x }
 {
-    if x < NEGATIVE {
-        return Payload::report(class, x, 0);
+    let amount = x.cast_signed();
+    let magnitude = amount.unsigned_abs();
+    if amount < 0 {
+        Payload::report(class, 0, magnitude)
+    } else {
+        Payload::report(class, magnitude, 0)
     }
-    Payload::report(class, 0, MINUS_ONE - x + 1)
 }
 
-// What a record of kind 1 to 6 and of that kind's length asks for.
-fn decode_record(version: usize, bytes: &[u8]) -> Command
+// What a record of this kind and of that kind's length asks for.
+#[tactic(auto, unfolding(model::specs::Records::decode))]
+fn decode_record(version: usize, kind: Kind, bytes: &[u8]) -> Command
+    requires { kind_number kind ≡ byte bytes.now 1 }
     ensures { result ≡ decode version bytes.now }
 {
-    let kind = byte_at(bytes, 1);
     let first = byte_at(bytes, 2);
-    if kind == Payload::REPORT {
-        return Command::Act(Event::Send {
+    match kind {
+        Kind::Report => Command::Act(Event::Send {
             sender: first,
             payload: report_of(class_of(version, bytes), word_at(bytes, 3)),
-        });
-    }
-    if kind == Payload::SYNC {
-        return Command::Act(Event::Send {
+        }),
+        Kind::Sync => Command::Act(Event::Send {
             sender: first,
             payload: Payload::sync(),
-        });
-    }
-    if kind == HANDOVER {
-        return Command::Act(Event::Handover {
+        }),
+        Kind::Handover => Command::Act(Event::Handover {
             receiver: first,
             owner: byte_at(bytes, 3),
-        });
-    }
-    if kind == STOP {
-        return Command::Act(Event::Stop {
+        }),
+        Kind::Stop => Command::Act(Event::Stop {
             controller: first,
             kept: word_at(bytes, 3) as usize,
-        });
-    }
-    if kind == Payload::WRITE {
-        return Command::Act(Event::Send {
+        }),
+        Kind::Read => Command::Read(first),
+        Kind::Write => Command::Act(Event::Send {
             sender: first,
             payload: Payload::write(byte_at(bytes, 3) as u16, long_at(bytes, 4)),
-        });
+        }),
     }
-    Command::Read(first)
 }
 
 // Cuts off the record at the head of the bytes, puts questions 5 to 7 to it and decodes it, as files of a version have it.
-pub fn read_record(version: usize, bytes: &[u8]) -> Record
-    ensures { result ≡ record_of version bytes.now }
+#[tactic(auto, unfolding(model::specs::Questions::first_no, model::specs::Questions::record_questions))]
+pub fn read_record(version: usize, bytes: &[u8]) -> Result<Record, Refusal>
+    ensures asked { refusal_in result ≡ first_no (record_questions version bytes.now) }
+    ensures found { IfOk result (λ r. r ≡ record_of version bytes.now) }
 {
-    let command = decode_record(version, bytes);
-    let Cut::Whole(size) = cut_record(bytes) else {
-        return Record {
-            refusal: refusal::RECORD,
-            used: 0,
-            command,
-        };
+    let Some(size) = cut_record(bytes) else {
+        return Err(Refusal::Record);
     };
-    let refusal = kind_refusal(version, size, byte_at(bytes, 1));
-    if refusal != 0 {
-        return Record {
-            refusal,
-            used: 0,
-            command,
-        };
-    }
-    Record {
-        refusal,
+    let kind = kind_of(version, size, byte_at(bytes, 1))?;
+    Ok(Record {
         used: size + 1,
-        command,
-    }
+        command: decode_record(version, kind, bytes),
+    })
 }

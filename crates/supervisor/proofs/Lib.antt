@@ -1,2 +1,3 @@
 pub mod ActCounts
+pub mod Pairs
 pub mod SupervisedAnswers

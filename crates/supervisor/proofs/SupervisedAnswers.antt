@@ -1,181 +1,119 @@
--- From the numbers that the questions give to what ask and commit answer and leave: a refusal, or the one handover. Assumes nothing.
-use mathlib.Core.Path.{◌≡◌, refl, sym, ◌∙◌}
-use mathlib.Core.Logic.{◌≢◌}
-use mathlib.Core.Bool.{Bool, true, false, ◌&&◌, cond}
-use mathlib.Core.List.{List, [], ◌∷◌, ◌++◌}
+-- From the number that the questions give to what ask and commit answer and leave: a refusal, or the one handover. Assumes nothing.
+use mathlib.Core.Path.{◌≡◌, refl, sym, ap}
+use mathlib.Core.Bool.{true}
+use mathlib.Core.List.{List, [], ◌∷◌}
 use Prim.Native.Nat.{ℕ, ◌≤◌}
-use lib.Dec.{eqb, leb}
+use lib.Dec.{leb}
 use lib.ListN.{length}
 use borrow.Author.Tests.{leb-true, ne_eqb}
-use Rattle.lists.proofs.Tests.{and_left, and_right}
-use Rattle.model.specs.Tables.{seats, capacity, scratch_size, Among, yes?, at, messages_of}
-use Rattle.model.specs.Events.{next, subject}
-use Rattle.model.specs.Fair.{named}
+use Rattle.model.specs.Tables.{Among, seats, scratch_size}
 use Rattle.model.specs.WellFormed.{well_formed}
-use Rattle.model.specs.Questions.{ask, first_no, lent_table, unread, handover_questions, event_questions, scratch_room}
+use Rattle.model.specs.Refusals.{refusal_number}
+use Rattle.model.specs.Questions.{first_no, lent_table, event_questions, scratch_room}
 use Rattle.model.specs.Calls.{answering, refused, answer_of, scratch_after}
 use Rattle.model.specs.declared.Pair.{Pair}
 use Rattle.model.specs.declared.Table.{Table}
 use Rattle.model.specs.declared.AskAnswer.{AskAnswer}
-use Rattle.model.specs.declared.Command.TheVariants.{Act}
-use Rattle.model.proofs.Tested.{named-at, facts}
-use Rattle.model.proofs.Allowed.{no_no}
-use Rattle.turns.specs.Dispatcher.{handover}
-use Rattle.previews.specs.Previews.{Preview, act_count, acts_of, ask_questions, preview_of, preview, ask_answer_of, commit_questions, taking, commit}
+use Rattle.model.specs.declared.refusal.Refusal.{Refusal}
+use Rattle.model.proofs.Tested.{facts}
+use Rattle.model.proofs.Allowed.{no_no, no_no_append, event_numbered, handover_allowed}
+use Rattle.model.proofs.Refused.{refusal_is}
 use Rattle.invariant.proofs.Stores.{seated}
+use Rattle.turns.specs.Dispatcher.{handover}
+use Rattle.previews.specs.Previews.{Preview, acts_of, ask_questions, preview_of, preview, ask_answer_of, commit_questions, taking, commit}
+use Rattle.previews.proofs.AcceptedCalls.{commit_asked}
 use Rattle.effects.specs.declared.Effect.{Effect}
-use Rattle.effects.specs.declared.Parties.{Parties}
 use Rattle.effects.specs.Conditions.{Accepted}
-use Rattle.effects.specs.Parties.{hand_of, indices_of, owner_of, Allowed}
-use Rattle.effects.specs.Effects.{no_set, effect_of, Effected}
-use Rattle.effects.proofs.Seats.{at_seat}
+use Rattle.effects.specs.Effects.{no_set, effect_of, Effected, Acts, Stores}
 use Rattle.supervisor.specs.declared.Committed.{Committed}
-use Rattle.supervisor.specs.Supervised.{Bounded, first_questions, other_questions, no_preview, unchanged, committed_of, Asks, Commits}
-use Rattle.supervisor.proofs.ActCounts.{reads_bounded}
+use Rattle.supervisor.specs.Supervised.{no_preview, unchanged, committed_of, Asks, Commits}
 
-module _ (t : Table) (p : Pair) where
-  -- PAST QUESTIONS 4 AND 8
-
-  pub record Named : Type 0 where
-    pub formed : well_formed t ≡ true
-    pub both_named : (named t.n p.receiver && named t.n p.owner) ≡ true
+module _ (t : Table) (p : Pair) (w : List ℕ) where
+  -- no question refuses: the handover is allowed
+  pub record Granted : Type 0 where
     pub receiver : Among seats p.receiver
     pub owner : Among seats p.owner
-    pub countable : (t.n ≤ seats) × ((t.count ≤ capacity) × Bounded t.n (at t p.receiver).read)
+    pub accepted : Accepted t (handover p)
+    pub roomy : scratch_size ≤ length w
 
-  pub named-first : first_no (first_questions t p) ≡ 0 → Named
-  unfolding first_questions lent_table
-  named-first e =
-      let q4 = no_no 3 (well_formed t) _ e in
-      let q8 = (no_no 7 (named t.n p.receiver && named t.n p.owner) [] q4.1).0 in
-      let w = facts t q4.0 in
-      let r = named-at t p.receiver (and_left _ _ q8) in
+  granted : well_formed t ≡ true → first_no (event_questions t (handover p)) ≡ 0 → first_no (scratch_room (length w) ∷ []) ≡ 0 → Granted
+  unfolding scratch_room
+  granted f e r =
+      let a = handover_allowed t p.receiver p.owner e in
+      let few = (facts t f).few in
       record {
-        formed = q4.0;
-        both_named = q8;
-        receiver = seated w.few r;
-        owner = seated w.few (named-at t p.owner (and_right (named t.n p.receiver) _ q8));
-        countable = (w.few, (w.fitting, reads_bounded t w p.receiver r));
+        receiver = seated few a.receiver;
+        owner = seated few a.owner;
+        accepted = (f, e);
+        roomy = leb-true scratch_size (length w) (no_no 14 (leb scratch_size (length w)) [] r).0;
       }
 
-  -- and the two controllers that are then taken out of the table
-  pub record InHand (h : Parties) : Type 0 where
-    pub past : Named
-    pub subject_is : h.subject ≡ at t p.receiver
-    pub owner_is : h.owner ≡ at t p.owner
-    pub countable : (t.n ≤ seats) × ((t.count ≤ capacity) × Bounded t.n h.subject.read)
-    pub counted : (k : ℕ) → k ≡ act_count t.n (messages_of t) h.subject p.receiver → k ≡ acts_of t p.receiver
+  -- ASK
 
-  pub in_hand : Named → (h : Parties) → h ≡ hand_of t.controllers (Act (handover p)) → InHand h
-  unfolding hand_of indices_of subject owner_of
-  in_hand n h e =
-      let x : h.subject ≡ at t p.receiver = rw e (at_seat t p.receiver _ refl n.receiver) in
-      record {
-        past = n;
-        subject_is = x;
-        owner_is = rw e (at_seat t p.owner _ refl n.owner);
-        countable = rw x n.countable;
-        counted = λ k q. rw x at q;
-      }
+  abbrev asked : ℕ
+  asked = first_no (ask_questions t p (length w))
 
-  -- THE QUESTIONS OF BOTH CALLS: an ask has no act count, and question 21 is answered yes
+  pub ask_granted : 0 ≡ asked → Granted
+  unfolding ask_questions lent_table
+  ask_granted e =
+      let q4 = no_no 3 (well_formed t) _ (sym e) in
+      let q = no_no_append (event_numbered t (handover p)) _ q4.1 in
+      granted q4.0 q.0 q.1
 
-  module _ (current : Bool) (room : ℕ) where
-    abbrev pub others : ℕ
-    others = first_no (other_questions (at t p.receiver) (at t p.owner) p.owner current room)
+  pub ask_refused : (r : Refusal) → refusal_number r ≡ asked → (a : AskAnswer) → a ≡ no_preview (refusal_number r) → Asks t p w a w
+  unfolding no_preview scratch_after
+  ask_refused r e a d = record { answer_is = rw is d; scratch_is = rw (is, ne_eqb (refusal_number r) 0 (refusal_is r)) refl }
+    where
+      is : ◌≡◌ {A = Preview} (preview t p (length w)) (record { refusal = refusal_number r; names = []; acts = 0 })
+      is = unfold preview in (rw (← e, ne_eqb (refusal_number r) 0 (refusal_is r)) refl)
 
-    abbrev pub number : ℕ
-    number = first_no (first_questions t p ++ other_questions (at t p.receiver) (at t p.owner) p.owner current room)
+  pub ask_shown : 0 ≡ asked → (d : Effect) (v : List ℕ) → Acts t (handover p) w d v → (acts : ℕ) → acts ≡ acts_of t p.receiver
+      → Asks t p w (record { refusal = 0; acts = acts; size = d.answer.size; names = d.answer.names }) v
+  unfolding preview_of ask_answer_of effect_of answer_of scratch_after
+  ask_shown e d v a acts ea = record { answer_is = rw (is, f.effect, ea) refl; scratch_is = rw is f.clear }
+    where
+      g : Granted
+      g = ask_granted e
 
-    -- k is the number of a refusal
-    pub record Refuses (k : ℕ) : Type 0 where
-      pub first_no : number ≡ k
-      pub some : k ≢ 0
+      f : Effected t (handover p) w d v
+      f = a.effected g.accepted g.roomy
 
-    -- no question refuses: the handover is allowed
-    pub record Granted : Type 0 where
-      pub first_no : number ≡ 0
-      pub accepted : Accepted t (handover p)
-      pub roomy : scratch_size ≤ room
+      is : preview t p (length w) ≡ preview_of t p
+      is = unfold preview in (rw (← e) refl)
 
-    pub first_refuses : (k : ℕ) → k ≡ first_no (first_questions t p) → k ≢ 0 → Refuses k
-    unfolding first_no first_questions lent_table
-    first_refuses k e n = record { first_no = go (well_formed t) (named t.n p.receiver && named t.n p.owner) (λ z. n (e ∙ z)) ∙ sym e; some = n }
+  -- COMMIT
+
+  module _ (acts : ℕ) where
+    abbrev put : ℕ
+    put = first_no (commit_questions t p acts (length w))
+
+    pub commit_granted : 0 ≡ put → Granted
+    unfolding commit_questions lent_table
+    commit_granted e =
+        let q4 = no_no _ _ _ (sym e) in
+        let q8 = no_no _ _ _ q4.1 in
+        let q10 = no_no _ _ _ q8.1 in
+        let q21 = no_no _ _ _ q10.1 in
+        let q13 = no_no _ _ _ q21.1 in
+        granted q4.0 (commit_asked t p (length w) acts (sym e)).1 q13.1
+
+    pub commit_refused : (r : Refusal) → refusal_number r ≡ put → (a : Committed) → a ≡ unchanged t (refusal_number r) → Commits t p acts w a w
+    unfolding committed_of unchanged refused no_set scratch_after
+    commit_refused r e a d = record { outcome = rw is d; clear = rw (is, ne_eqb (refusal_number r) 0 (refusal_is r)) refl }
       where
-        go : (a b : Bool) → ◌≢◌ {A = ℕ} (cond a (cond b 0 8) 4) 0 → ◌≡◌ {A = ℕ} (cond a (cond b others 8) 4) (cond a (cond b 0 8) 4)
-        go true true m = absurd (m refl)
-        go true false m = refl
-        go false b m = refl
+        is : commit t p acts (length w) ≡ refused t [] (refusal_number r)
+        is = unfold commit in (rw (← e, ne_eqb (refusal_number r) 0 (refusal_is r)) refl)
 
-    -- past questions 4 and 8
-    module _ (h : Parties) (i : InHand h) (k : ℕ) (e : k ≡ first_no (other_questions h.subject h.owner p.owner current room)) where
-      asked : k ≡ others
-      asked = rw (← i.subject_is, ← i.owner_is) e
-
-      number_is : number ≡ k
-      unfolding first_no first_questions lent_table
-      number_is = rw (i.past.formed, i.past.both_named) (sym asked)
-
-      pub other_refuses : k ≢ 0 → Refuses k
-      other_refuses m = record { first_no = number_is; some = m }
-
-      pub granted : k ≡ 0 → Granted
-      unfolding first_no other_questions scratch_room event_questions handover_questions
-      granted z =
-          let x = at t p.receiver in
-          let q13 = ask 13 (unread x (at t p.owner) p.owner) ∷ scratch_room room ∷ [] in
-          let e10 = no_no 9 (yes? x.running) (ask 21 current ∷ q13) (sym asked ∙ z) in
-          let e21 = no_no 20 current q13 e10.1 in
-          let e13 = no_no 12 (unread x (at t p.owner) p.owner) (scratch_room room ∷ []) e21.1 in
-          record {
-            first_no = number_is ∙ z;
-            accepted = (i.past.formed, rw (i.past.both_named, e10.0, e13.0) refl);
-            roomy = leb-true scratch_size room (no_no 14 (leb scratch_size room) [] e13.1).0;
-          }
-
-    pub allowed : Granted → (h : Parties) → InHand h → Allowed t (handover p) h.subject h.owner
-    unfolding subject owner_of
-    allowed g h i = record { accepted = g.accepted; subject_is = i.subject_is; owner_is = i.owner_is }
-
-  -- WHAT IS ANSWERED AND LEFT
-
-  module _ (w : List ℕ) where
-    ask_number : first_no (ask_questions t p (length w)) ≡ number true (length w)
-    unfolding first_no ask_questions event_questions handover_questions first_questions other_questions
-    ask_number = refl
-
-    pub ask-refused : (k : ℕ) → Refuses true (length w) k → (r : AskAnswer) → r ≡ no_preview k → Asks t p w r w
-    unfolding no_preview scratch_after
-    ask-refused k f r e = record { answer_is = rw is e; scratch_is = rw (is, ne_eqb k 0 f.some) refl }
+    pub commit_taken : 0 ≡ put → (d : Effect) (v : List ℕ) → Acts t (handover p) w d v → (x : Table) → Stores t (handover p) d.controller x
+        → Commits t p acts w (record { answer = d.answer; table = x }) v
+    unfolding taking committed_of answering effect_of scratch_after
+    commit_taken e d v a x l = record { outcome = rw (is, f.effect, l.stored (g.accepted, ap (λ (y : Effect). y.controller) f.effect)) refl; clear = rw is f.clear }
       where
-        is : ◌≡◌ {A = Preview} (preview t p (length w)) (record { refusal = k; names = []; acts = 0 })
-        is = unfold preview in (rw (ask_number ∙ f.first_no, ne_eqb k 0 f.some) refl)
+        g : Granted
+        g = commit_granted e
 
-    pub ask-shown : Granted true (length w) → (d : Effect) (v : List ℕ) → Effected t (handover p) w d v → (acts : ℕ) → acts ≡ acts_of t p.receiver
-        → Asks t p w (record { refusal = 0; acts = acts; size = d.answer.size; names = d.answer.names }) v
-    unfolding preview_of ask_answer_of effect_of answer_of scratch_after
-    ask-shown g d v a acts ea = record { answer_is = rw (is, a.effect, ea) refl; scratch_is = rw is a.clear }
-      where
-        is : preview t p (length w) ≡ preview_of t p
-        is = unfold preview in (rw (ask_number ∙ g.first_no) refl)
+        f : Effected t (handover p) w d v
+        f = a.effected g.accepted g.roomy
 
-    -- of an act count, where that of the receiver is `own`
-    module _ (acts own : ℕ) (eo : own ≡ acts_of t p.receiver) where
-      commit_number : first_no (commit_questions t p acts (length w)) ≡ number (eqb acts own) (length w)
-      unfolding commit_questions first_questions other_questions
-      commit_number = rw eo refl
-
-      pub commit_refused : (k : ℕ) → Refuses (eqb acts own) (length w) k → (r : Committed) → r ≡ unchanged t k → Commits t p acts w r w
-      unfolding committed_of unchanged refused no_set scratch_after
-      commit_refused k f r e = record { outcome = rw is e; clear = rw (is, ne_eqb k 0 f.some) refl }
-        where
-          is : commit t p acts (length w) ≡ refused t [] k
-          is = unfold commit in (rw (commit_number ∙ f.first_no, ne_eqb k 0 f.some) refl)
-
-      pub commit_taken : Granted (eqb acts own) (length w) → (d : Effect) (v : List ℕ) → Effected t (handover p) w d v → (x : Table) → x ≡ next t (handover p)
-          → Commits t p acts w (record { answer = d.answer; table = x }) v
-      unfolding taking committed_of answering effect_of scratch_after
-      commit_taken g d v a x ex = record { outcome = rw (is, a.effect, ex) refl; clear = rw is a.clear }
-        where
-          is : commit t p acts (length w) ≡ taking t p
-          is = unfold commit in (rw (commit_number ∙ g.first_no) refl)
+        is : commit t p acts (length w) ≡ taking t p
+        is = unfold commit in (rw (← e) refl)

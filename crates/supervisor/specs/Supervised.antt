@@ -1,12 +1,10 @@
 -- What ask and commit answer and leave, as their callers get it by value; and what their helpers are asked.
-use Rattle.std.specs.Prelude.{ℕ, ◌≤◌, ◌<◌, ◌≡◌, Bool, ◌&&◌, List, [], ◌∷◌, length, get_or}
-use Rattle.model.specs.Tables.{capacity, yes?}
-use Rattle.model.specs.Fair.{named}
-use Rattle.model.specs.Questions.{Question, ask, lent_table, unread, scratch_room}
+use Rattle.std.specs.Prelude.{ℕ, ◌≤◌, ◌<◌, ◌≡◌, List, [], length, get_or, Option, Some, None}
+use Rattle.model.specs.Tables.{capacity}
+use Rattle.model.specs.Questions.{Question}
 use Rattle.model.specs.Calls.{Outcome, answer_of, scratch_after}
-use Rattle.previews.specs.Previews.{preview, ask_answer_of, commit}
+use Rattle.previews.specs.Previews.{ask_questions, preview, ask_answer_of, commit_questions, commit}
 use Rattle.model.specs.declared.Pair.{Pair}
-use Rattle.model.specs.declared.Controller.{Controller}
 use Rattle.model.specs.declared.Table.{Table}
 use Rattle.model.specs.declared.AskAnswer.{AskAnswer}
 use Rattle.effects.specs.Effects.{no_set}
@@ -16,14 +14,10 @@ use Rattle.supervisor.specs.declared.Committed.{Committed}
 abbrev pub Bounded : ℕ → List ℕ → Type 0
 Bounded n R = (o : ℕ) → o < n → get_or R o 0 ≤ capacity
 
--- questions 4 and 8, which are put to both calls first
-unfoldable pub first_questions : Table → Pair → List Question
-first_questions t p = lent_table t ∷ ask 8 (named t.n p.receiver && named t.n p.owner) ∷ []
-
--- and those after them, of a handover to x from the log of o, which is y: 10; 21, where `current` says that the act count is the
--- receiver's; 13 and 15
-unfoldable pub other_questions : Controller → Controller → ℕ → Bool → ℕ → List Question
-other_questions x y o current room = ask 10 (yes? x.running) ∷ ask 21 current ∷ ask 13 (unread x y o) ∷ scratch_room room ∷ []
+-- the questions of an ask, and those of a commit of this act count
+abbrev pub questions_of : Table → Pair → Option ℕ → ℕ → List Question
+questions_of t p None room = ask_questions t p room
+questions_of t p (Some acts) room = commit_questions t p acts room
 
 -- a refused ask, and a refused commit
 unfoldable pub no_preview : ℕ → AskAnswer

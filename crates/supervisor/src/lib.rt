@@ -1,152 +1,119 @@
 // Ask and commit, by value: what a handover would apply, and that handover, made if its receiver has not acted since.
 #![tactic(auto)]
 
-ghost use Rattle.std.specs.Prelude.{◌≡◌, ◌≤◌};
-ghost use Rattle.model.specs.Tables.{seats, capacity, Among, first_of, messages_of};
+ghost use Rattle.std.specs.Prelude.{◌≡◌, ◌≤◌, IfOk};
+ghost use Rattle.model.specs.Tables.{seats, capacity, messages_of};
+ghost use Rattle.model.specs.Refusals.{refusal_number, refusal_in};
 ghost use Rattle.model.specs.Questions.{first_no};
-ghost use Rattle.turns.specs.Dispatcher.{pair};
-ghost use Rattle.previews.specs.Previews.{sends_by, reads_by, act_count};
-ghost use Rattle.supervisor.specs.Supervised.{Bounded, first_questions, other_questions, no_preview, unchanged, Asks, Commits};
+ghost use Rattle.model.specs.Handed.{all_of};
+ghost use Rattle.previews.specs.Previews.{sends_by, reads_by, act_count, acts_of};
+ghost use Rattle.supervisor.specs.Supervised.{Bounded, questions_of, no_preview, unchanged, Asks, Commits};
 
-use model::{
-    Answer, AskAnswer, Command, Controller, Event, Message, MessageNumber, Name, Table, refusal,
-};
+use model::refusal::Refusal;
+use model::{Answer, AskAnswer, Controller, Messages, Name, Pair, Table, refusal};
 
 // THE ACT COUNT
 
-// How many of the first messages c sent.
-fn sends_by(count: usize, messages: [Message; Table::MESSAGES], c: u8) -> usize
-    requires { count ≤ capacity }
-    ensures { result ≡ sends_by (first_of count messages) c }
+// How many of the messages c sent.
+fn sends_by(messages: Messages, c: usize) -> usize
+    requires { messages.count ≤ capacity }
+    ensures { result ≡ sends_by (all_of messages.entry) c }
 {
-    let mut sends: usize = 0;
-    for s in 0..count {
-        let sender = messages[s].sender;
-        if sender == c {
-            sends += 1;
-        }
-    }
-    sends
+    messages
+        .sent()
+        .iter()
+        .filter(|m| m.sender as usize == c)
+        .count()
 }
 
-// How many entries of the logs of n controllers were read, by these read positions.
-fn reads_by(n: usize, read: [usize; Table::CONTROLLERS]) -> usize
-    requires { (n ≤ seats) × Bounded n read }
-    ensures { result ≡ reads_by n read }
+// How many entries of the logs of n controllers were read, by these read positions. (That n is at most 7 is asked here and of the count:
+// the caller has it from question 4.)
+fn reads_by(n: usize, read: &[usize; Table::CONTROLLERS]) -> usize
+    requires { (n ≤ seats) × Bounded n read.now }
+    ensures { result ≡ reads_by n read.now }
 {
-    let mut reads: usize = 0;
-    for o in 0..n {
-        reads += read[o];
-    }
-    reads
+    read[..n].iter().sum()
 }
 
 // How often controller c, which is x, has acted: it sent a message, was the receiver of a handover or stopped.
-fn act_count(t: Table, x: Controller, c: u8) -> usize
-    requires { (t.n ≤ seats) × ((t.count ≤ capacity) × Bounded t.n x.read) }
-    ensures { result ≡ act_count t.n (messages_of t) x c }
+#[tactic(auto, using(crate::proofs::ActCounts::acts_few, crate::proofs::ActCounts::bit_few, crate::proofs::ActCounts::acts_sum))]
+fn act_count(t: &Table, x: &Controller, c: usize) -> usize
+    requires { (t.now.n ≤ seats) × (t.now.count ≤ capacity) × Bounded t.now.n x.now.read }
+    ensures { result ≡ act_count t.now.n (messages_of t.now) x.now c }
 {
-    let messages = t.messages;
-    let read = x.read;
-    let acts = sends_by(t.count, messages, c) + reads_by(t.n, read);
-    if x.running == 0 { acts + 1 } else { acts }
+    let sends = sends_by(t.sent(), c);
+    let reads = reads_by(t.n, &x.read);
+    sends + reads + usize::from(!x.is_running())
 }
 
 // THE QUESTIONS
 
-// The first no of questions 4 and 8.
-fn first_refusal(t: Table, receiver: usize, owner: usize) -> u8
-    ensures { result ≡ first_no (first_questions t (pair receiver owner)) }
+// The questions of an ask; and with an act count, those of a commit. Where they refuse nothing, how often the receiver has acted.
+#[tactic(auto, using(crate::proofs::Pairs::receiver_some, crate::proofs::Pairs::receiver_low, crate::proofs::Pairs::owner_some, crate::proofs::Pairs::owner_low, crate::proofs::Pairs::countable), unfolding(model::specs::Questions::first_no, model::specs::Questions::lent_table, model::specs::Questions::unread, model::specs::Questions::scratch_room, model::specs::Questions::handover_questions, model::specs::Questions::event_questions, model::specs::Tables::controller_in, previews::specs::Previews::ask_questions, previews::specs::Previews::commit_questions))]
+fn asked(t: &Table, pair: Pair, acts: Option<usize>, room: usize) -> Result<usize, Refusal>
+    ensures refused { refusal_in result ≡ first_no (questions_of t.now pair acts room) }
+    ensures counted { IfOk result (λ own. own ≡ acts_of t.now pair.receiver) }
 {
     if !validity::well_formed(t) {
-        return refusal::TABLE;
+        return Err(Refusal::Table);
     }
-    let n = t.n;
-    if !(((0 < receiver) & (receiver <= n)) & ((0 < owner) & (owner <= n))) {
-        return refusal::CONTROLLER;
+    if !pair.is_among(t.n) {
+        return Err(Refusal::Controller);
     }
-    refusal::ACCEPTED
-}
-
-// The first no of questions 10, 21, 13 and 15, of a handover to x from the owner's log, which is y. Question 21 is a test that the
-// caller has made.
-fn other_refusal(x: Controller, y: Controller, owner: usize, current: bool, room: usize) -> u8
-    requires { Among seats owner }
-    ensures { result ≡ first_no (other_questions x y owner current room) }
-{
-    if x.running == 0 {
-        return refusal::STOPPED;
+    let x = &t.controllers[pair.receiver - 1];
+    let own = act_count(t, x, pair.receiver);
+    let o = pair.owner - 1;
+    if !x.is_running() {
+        return Err(Refusal::Stopped);
     }
-    if !current {
-        return refusal::ACT_COUNT;
+    if acts.is_some_and(|acts| acts != own) {
+        return Err(Refusal::ActCount);
     }
-    let i = numbers::predecessor(owner);
-    let place = x.read[i];
-    if y.length <= place {
-        return refusal::NO_ENTRY;
+    if t.controllers[o].length <= x.read[o] {
+        return Err(Refusal::NoEntry);
     }
     if room < Table::SCRATCH {
-        return refusal::SCRATCH;
+        return Err(Refusal::Scratch);
     }
-    refusal::ACCEPTED
+    Ok(own)
 }
 
 // ASK
 
 // A refused ask.
 #[tactic(auto, unfolding(lists::specs::Build::overlay, previews::specs::Previews::ask_answer_of, crate::specs::Supervised::no_preview))]
-fn no_preview(refusal: u8) -> AskAnswer
-    ensures { result ≡ no_preview refusal }
+fn no_preview(refusal: Refusal) -> AskAnswer
+    ensures { result ≡ no_preview (refusal_number refusal) }
 {
-    let none = Name {
-        sender: 0,
-        number: MessageNumber(MessageNumber::NONE),
-    };
     AskAnswer {
-        refusal,
+        refusal: u8::from(refusal),
         acts: 0,
         size: 0,
-        names: [none; Table::MESSAGES],
+        names: [Name::NONE; Table::MESSAGES],
     }
 }
 
 // What the handover to the receiver from the owner's log would apply, and the receiver's act count.
-pub fn ask(t: Table, receiver: usize, owner: usize, scratch: &mut [u8]) -> AskAnswer
-    ensures { Asks t (pair receiver owner) scratch.old result scratch.new }
+pub fn ask(t: &Table, pair: Pair, scratch: &mut [u8]) -> AskAnswer
+    ensures { Asks t.now pair scratch.old result scratch.new }
 {
-    let first = first_refusal(t, receiver, owner);
-    if first != 0 {
-        return no_preview(first);
-    }
-    let r = receiver as u8;
-    let o = owner as u8;
-    let e = Event::Handover {
-        receiver: r,
-        owner: o,
+    let acts = match asked(t, pair, None, scratch.len()) {
+        Ok(acts) => acts,
+        Err(refusal) => return no_preview(refusal),
     };
-    let controllers = t.controllers;
-    let p = effects::at_hand(controllers, Command::Act(e));
-    let x = p.subject;
-    let y = p.owner;
-    let other = other_refusal(x, y, owner, true, scratch.len());
-    if other != 0 {
-        return no_preview(other);
-    }
-    let acts = act_count(t, x, r);
-    let done = effects::carry_out(t, x, y, e, scratch);
-    let answer = done.answer;
-    let names = answer.names;
+    let done = effects::act(t, effects::handover(pair), scratch);
+    let names = done.answer.names;
     AskAnswer {
         refusal: refusal::ACCEPTED,
         acts,
-        size: answer.size,
+        size: done.answer.size,
         names,
     }
 }
 
 // COMMIT
 
-// What the call answers, and the table that it leaves.
+// What the call answers, and the table that it leaves (public; beside the dispatcher's, whose answer is another).
 #[repr(C)]
 #[derive(Clone, Copy)]
 pub struct Committed {
@@ -154,43 +121,29 @@ pub struct Committed {
     pub table: Table,
 }
 
-// A refused commit: nothing is changed.
+// A refused commit: nothing is changed. The table goes by value, as in the call: a rule of the project.
 #[tactic(auto, unfolding(crate::specs::Supervised::unchanged))]
-fn refused(t: Table, refusal: u8) -> Committed
-    ensures { result ≡ unchanged t refusal }
+fn refused(t: Table, refusal: Refusal) -> Committed
+    ensures { result ≡ unchanged t (refusal_number refusal) }
 {
     Committed {
-        answer: effects::no_set(refusal),
+        answer: effects::no_set(u8::from(refusal)),
         table: t,
     }
 }
 
-// Carries out the handover to the receiver from the owner's log, if the receiver has acted as often as this.
-pub fn commit(t: Table, receiver: usize, owner: usize, acts: usize, scratch: &mut [u8]) -> Committed
-    ensures { Commits t (pair receiver owner) acts scratch.old result scratch.new }
+// Carries out the handover to the receiver from the owner's log, if the receiver has acted as often as this. The table goes by value: a
+// rule of the project.
+pub fn commit(t: Table, pair: Pair, acts: usize, scratch: &mut [u8]) -> Committed
+    ensures { Commits t pair acts scratch.old result scratch.new }
 {
-    let first = first_refusal(t, receiver, owner);
-    if first != 0 {
-        return refused(t, first);
+    if let Err(refusal) = asked(&t, pair, Some(acts), scratch.len()) {
+        return refused(t, refusal);
     }
-    let r = receiver as u8;
-    let o = owner as u8;
-    let e = Event::Handover {
-        receiver: r,
-        owner: o,
-    };
-    let controllers = t.controllers;
-    let p = effects::at_hand(controllers, Command::Act(e));
-    let x = p.subject;
-    let y = p.owner;
-    let own = act_count(t, x, r);
-    let other = other_refusal(x, y, owner, acts == own, scratch.len());
-    if other != 0 {
-        return refused(t, other);
+    let e = effects::handover(pair);
+    let done = effects::act(&t, e, scratch);
+    Committed {
+        answer: done.answer,
+        table: effects::stored(t, e, done.controller),
     }
-    let done = effects::carry_out(t, x, y, e, scratch);
-    let answer = done.answer;
-    let controller = done.controller;
-    let table = effects::stored(t, e, controller);
-    Committed { answer, table }
 }

@@ -1,4 +1,4 @@
 pub mod SumsSoFar
-pub mod PastTheArray
 pub mod RegistersSoFar
 pub mod ControllerPanel
+pub mod FinishedSync

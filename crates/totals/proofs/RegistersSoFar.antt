@@ -1,102 +1,92 @@
 -- The registers by what was applied, in one pass over the messages: what a turn writes, and what the end gives. Assumes nothing.
-use mathlib.Core.Path.{◌≡◌, refl, ap, sym, ◌∙◌}
+use mathlib.Core.Path.{◌≡◌, refl, sym, ◌∙◌}
 use mathlib.Core.Bool.{Bool, true, false, ◌&&◌, cond}
 use mathlib.Core.Logic.{◌≢◌}
 use mathlib.Core.List.{List}
-use Prim.Native.Nat.{ℕ, zero, suc, ◌+◌, ◌-◌, min, ◌≤◌, ◌<◌}
-use native.Mathlib.Numerals.{add-one}
-use native.Mathlib.Omega.{arith}
+use Prim.Native.Nat.{ℕ, suc, min, ◌<◌}
 use native.Mathlib.Decide.{ℕ_discrete}
-use lib.ListN.{length, get_or, set, replicate, length-replicate, get_or-replicate}
-use lib.Dec.{eqb, ltb}
-use borrow.Author.Tests.{eqb-true, eq-eqb, ne_eqb, lt-ltb}
-use Rattle.lists.specs.Build.{tabulate}
-use Rattle.lists.proofs.Build.{length-tabulate, tabulate_self, tabulate_ext, get_d_tabulate}
-use Rattle.lists.proofs.Stores.{set-tabulate}
-use Rattle.lists.proofs.Tests.{bool_eq}
-use Rattle.model.specs.Tables.{capacity, register_count, write_kind, yes?, no_register, no_message, flagged, first_of, message_in}
+use native.Mathlib.Omega.{arith}
+use lib.ListN.{length, get_or, set, replicate, length-set, length-replicate, get_or-replicate, get_or-eq_default}
+use lib.Seq.{get_or-set_same, get_or-set_other}
+use borrow.Author.Tests.{lt-ltb}
+use Rattle.std.specs.Prelude.{Some, None}
+use Rattle.std.proofs.lemmas.Bool.Decides.{nat_tests}
+use Rattle.lists.proofs.Build.{tabulate_self}
+use Rattle.model.specs.Tables.{capacity, register_count, yes?, no_register, flagged, first_of, message_in}
 use Rattle.model.specs.Registers.{wins, writes, written, newest, register_of, registers}
 use Rattle.model.specs.declared.Message.{Message}
 use Rattle.model.specs.declared.Register.{Register}
+use Rattle.model.proofs.Passes.{Turn, clipped}
 use Rattle.totals.specs.Shown.{index_of}
-use Rattle.totals.proofs.PastTheArray.{past}
 
--- ONE WRITE MORE
+-- THE REGISTER THAT A MESSAGE WRITES
 
--- the registers with what is written to one of them
-unfoldable pub with_write : List Register → ℕ → Register → List Register
-with_write R place w = tabulate register_count (λ i. cond (eqb place i) (wins w (get_or R i no_register)) (get_or R i no_register))
+written_at : (m : Message) (i : ℕ) → Some i ≡ index_of m.payload → writes (suc i) m ≡ true
+unfolding index_of writes
+written_at m i e = grind (arith, nat_tests)
 
-module _ (R : List Register) (place : ℕ) (w : Register) (l : length R ≡ register_count) where
-  pub write-stored : place < register_count → set R place (wins w (get_or R place no_register)) ≡ with_write R place w
-  unfolding with_write
-  write-stored h =
-      ap (λ x. set x place (wins w (get_or R place no_register))) (sym (tabulate_self R no_register register_count (λ j. get_or R j no_register) l (λ j _. refl)))
-      ∙ set-tabulate register_count _ _ no_register place _ h
-      (rw (eq-eqb place place refl))
-      (λ j _ d. rw (ne_eqb place j (λ e. d (sym e))))
+written_other : (m : Message) (i j : ℕ) → Some j ≡ index_of m.payload → i ≢ j → writes (suc i) m ≡ false
+unfolding index_of writes
+written_other m i j e d = grind (arith, nat_tests)
 
-  pub write-left : register_count ≤ place → R ≡ with_write R place w
-  unfolding with_write
-  write-left h = sym (tabulate_self R no_register register_count _ l (λ i b. rw (ne_eqb place i (omega arith))))
+written_none : (m : Message) (i : ℕ) → i < register_count → None ≡ index_of m.payload → writes (suc i) m ≡ false
+unfolding index_of writes
+written_none m i b e = grind (arith, nat_tests)
 
 -- THE PASS
-
--- slots past which none counts
-pub newest_past : (M : List Message) (f : ℕ → Bool) (r end k : ℕ) → end ≤ k → ((s : ℕ) → end ≤ s → f s ≡ false) → newest end M f r ≡ newest k M f r
-unfolding newest
-newest_past M f r zero zero h n = refl
-newest_past M f r (suc end) zero h n = absurd (omega arith)
-newest_past M f r end (suc k) h n = go (ℕ_discrete end (suc k)) (λ d. newest_past M f r end k (omega (arith, d)) n)
-  where
-    go : Dec (end ≡ suc k) → (end ≢ suc k → newest end M f r ≡ newest k M f r) → newest end M f r ≡ newest (suc k) M f r
-    go (yes e) s = rw e refl
-    go (no d) s = s d ∙ rw (n k (omega (arith, d))) refl
 
 module _ (M : List Message) (A : List ℕ) where
   -- register r by the slots below k
   abbrev below : ℕ → ℕ → Register
   below k r = newest k M (flagged A) r
 
-  passed_registers : (k : ℕ) → tabulate register_count (λ i. below k (suc i)) ≡ registers (first_of k M) A
-  unfolding registers register_of
-  passed_registers k = refl
+  hit : (s n : ℕ) (m : Message) (x r : ℕ) → Turn M A s n m x → x ≢ 0 → writes r m ≡ true → wins (written m) (below s r) ≡ below n r
+  unfolding newest message_in
+  hit s n m x r t h w =
+      let f : yes? (get_or A s 0) ≡ true = rw (← t.element 0) (lt-ltb 0 x (omega (arith, h))) in
+      rw (t.next, f, ← t.message, w) refl
 
-  pub registers-none : replicate register_count no_register ≡ registers (first_of 0 M) A
+  miss : (s n : ℕ) (m : Message) (x r : ℕ) → Turn M A s n m x → writes r m ≡ false → below s r ≡ below n r
+  unfolding newest message_in
+  miss s n m x r t w = rw (t.next, ← t.message, w) (go (yes? (get_or A s 0)))
+    where
+      go : (b : Bool) → below s r ≡ cond (b && false) (wins (written m) (below s r)) (below s r)
+      go true = refl
+      go false = refl
+
+  pass : (s n : ℕ) (m : Message) (x r : ℕ) → Turn M A s n m x → x ≡ 0 → below s r ≡ below n r
+  unfolding newest message_in
+  pass s n m x r t h =
+      let f : get_or A s 0 ≡ 0 = sym (t.element 0) ∙ h in
+      rw (t.next, f) refl
+
+  over : length A ≡ capacity → (k e r : ℕ) → e ≡ min k capacity → below e r ≡ below k r
   unfolding newest
-  registers-none =
-      sym (tabulate_self (replicate register_count no_register) no_register register_count _ (length-replicate {A = Register} register_count no_register)
-      (λ i h. sym (get_or-replicate {A = Register} register_count i no_register no_register h)))
-      ∙ passed_registers 0
+  over l k e r h = rw h (clipped (λ j. below j r) capacity (λ j q. rw (get_or-eq_default A 0 {n = j} (omega arith)) refl) k)
 
-  pub registers-length : (k : ℕ) (R : List Register) → R ≡ registers (first_of k M) A → length R ≡ register_count
-  unfolding registers
-  registers-length k R e = rw e (length-tabulate register_count _)
+  -- the registers by the slots below s
+  pub record EachHeld (s : ℕ) (R : List Register) : Type 0 where
+    pub long : length R ≡ register_count
+    pub each : (i : ℕ) → i < register_count → get_or R i no_register ≡ below s (suc i)
 
-  pub registers_more : (s : ℕ) (R S : List Register) → R ≡ registers (first_of s M) A
-      → S ≡ with_write R (index_of (get_or A s 0) (get_or M s no_message).payload) (written (get_or M s no_message)) → S ≡ registers (first_of (s + 1) M) A
-  unfolding with_write newest writes index_of message_in
-  registers_more s R S e q =
-      q ∙ tabulate_ext register_count _ _ no_register (λ i h. rw (e ∙ sym (passed_registers s), get_d_tabulate register_count (λ i. below s (suc i)) no_register i h) (sym (turn i h)))
-      ∙ passed_registers (s + 1)
+  pub held_none : EachHeld 0 (replicate register_count no_register)
+  unfolding newest
+  held_none = record { long = length-replicate {A = Register} register_count no_register; each = λ i h. get_or-replicate {A = Register} register_count i no_register no_register h }
+
+  pub held_on : (s n : ℕ) (m : Message) (x : ℕ) (R : List Register) → Turn M A s n m x → x ≡ 0 → EachHeld s R → EachHeld n R
+  held_on s n m x R t h p = record { long = p.long; each = λ i b. p.each i b ∙ pass s n m x (suc i) t h }
+
+  pub held_past : (s n : ℕ) (m : Message) (x : ℕ) (R : List Register) → Turn M A s n m x → None ≡ index_of m.payload → EachHeld s R → EachHeld n R
+  held_past s n m x R t e p = record { long = p.long; each = λ i b. p.each i b ∙ miss s n m x (suc i) t (written_none m i b e) }
+
+  pub held_more : (s n : ℕ) (m : Message) (x i : ℕ) (R S : List Register) (v : Register) → Turn M A s n m x → x ≢ 0 → EachHeld s R → i < register_count → Some i ≡ index_of m.payload
+      → v ≡ wins (written m) (get_or R i no_register) → S ≡ set R i v → EachHeld n S
+  held_more s n m x i R S v t h p k q e r = rw r (record { long = length-set R i v ∙ p.long; each = λ j b. one j b (ℕ_discrete j i) })
     where
-      -- a message writes register i + 1 where its target is i
-      target : (i : ℕ) → i < register_count → (a k : Bool) (r : ℕ) → (a && (k && eqb r (suc i))) ≡ eqb (cond (a && (k && ltb 0 r)) (r - 1) register_count) i
-      target i h true true zero = ne_eqb 0 (suc i) (omega arith) ∙ sym (ne_eqb register_count i (omega arith))
-      target i h true true (suc r) = rw (lt-ltb 0 (suc r) (omega arith)) (bool_eq (eqb (suc r) (suc i)) (eqb (suc r - 1) i) (λ e. eq-eqb (suc r - 1) i (omega (arith, eqb-true (suc r) (suc i) e))) (λ e. eq-eqb (suc r) (suc i) (omega (arith, eqb-true (suc r - 1) i e))))
-      target i h true false r = sym (ne_eqb register_count i (omega arith))
-      target i h false k r = sym (ne_eqb register_count i (omega arith))
+      one : (j : ℕ) → j < register_count → Dec (j ≡ i) → get_or (set R i v) j no_register ≡ below n (suc j)
+      one j b (yes a) = rw (a, get_or-set_same R i v no_register (omega (arith, p.long)), e, p.each i k) (hit s n m x (suc i) t h (written_at m i q))
+      one j b (no d) = get_or-set_other R i j v no_register d ∙ p.each j b ∙ miss s n m x (suc j) t (written_other m j i q d)
 
-      turn : (i : ℕ) → i < register_count → below (s + 1) (suc i)
-          ≡ cond (eqb (index_of (get_or A s 0) (get_or M s no_message).payload) i) (wins (written (get_or M s no_message)) (below s (suc i))) (below s (suc i))
-      turn i h = rw (add-one, target i h (yes? (get_or A s 0)) (eqb (get_or M s no_message).payload.kind write_kind) (get_or M s no_message).payload.reg) refl
-
-  pub registers-all : (k end : ℕ) (R : List Register) → length A ≡ capacity → end ≡ min k capacity → R ≡ registers (first_of end M) A → R ≡ registers (first_of k M) A
-  registers-all k end R l e q =
-      q ∙ sym (passed_registers end)
-      ∙ tabulate_ext register_count _ _ no_register (λ i _. clipped (suc i) (ℕ_discrete end k))
-      ∙ passed_registers k
-    where
-      clipped : (r : ℕ) → Dec (end ≡ k) → below end r ≡ below k r
-      clipped r (yes p) = rw p refl
-      clipped r (no d) = newest_past M (flagged A) r end k (omega arith) (λ s h. rw (past A 0 l s (omega (arith, d))) refl)
+  pub held_all : length A ≡ capacity → (k e : ℕ) (R : List Register) → e ≡ min k capacity → EachHeld e R → R ≡ registers (first_of k M) A
+  unfolding registers register_of
+  held_all l k e R h p = sym (tabulate_self R no_register register_count _ p.long (λ i b. sym (p.each i b ∙ over l k e (suc i) h)))

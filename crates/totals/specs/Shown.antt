@@ -1,21 +1,17 @@
 -- What the private functions answer that add up what a panel shows.
-use Rattle.std.specs.Prelude.{◌&&◌, cond, ℕ, ◌-◌, ◌*◌, ◌≤◌, eqb, ltb}
-use Rattle.model.specs.Tables.{capacity, register_count, write_kind, yes?}
+use Rattle.std.specs.Prelude.{◌&&◌, cond, ℕ, ◌-◌, ◌*◌, ◌≤◌, Option, Some, None, eqb, leb, ltb}
+use Rattle.model.specs.Tables.{capacity, register_count, write_kind}
 use Rattle.model.specs.Events.{both_of}
 use Rattle.model.specs.declared.Payload.{Payload}
 use Rattle.model.specs.declared.Sums.{Sums}
 
--- WRITES
+-- the index of the register that a message writes, if it writes one
+unfoldable pub index_of : Payload → Option ℕ
+index_of p = cond (eqb p.kind write_kind && (ltb 0 p.reg && leb p.reg register_count)) (Some (p.reg - 1)) None
 
--- the index of the register that a message writes, where the flag says that it counts; past the last if none
-unfoldable pub index_of : ℕ → Payload → ℕ
-index_of flag p = cond (yes? flag && (eqb p.kind write_kind && ltb 0 p.reg)) (p.reg - 1) register_count
-
--- ADDING UP
-
--- the parts of a message's amount, where the flag says that it counts
-unfoldable pub parts_of : ℕ → Payload → Sums
-parts_of flag p = both_of (λ w. cond (yes? flag) (w p) 0)
+-- a message's amount, part by part
+abbrev pub amount_of : Payload → Sums
+amount_of p = both_of (λ w. w p)
 
 -- the largest amount of 16 bits, and the sum of as many as there are messages
 abbrev pub largest_amount : ℕ

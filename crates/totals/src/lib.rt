@@ -2,193 +2,135 @@
 // table, what no array holds being zero.
 #![tactic(auto)]
 
-ghost use Rattle.std.specs.Prelude.{◌≡◌};
+ghost use Rattle.std.specs.Prelude.{◌≡◌, ◌<◌, IfSome};
 ghost use Rattle.lists.specs.Build.{tabulate};
-ghost use Rattle.model.specs.Tables.{class_count, first_of};
-ghost use Rattle.model.specs.Registers.{exceeds, wins, written, registers};
+ghost use Rattle.model.specs.Tables.{class_count, register_count};
+ghost use Rattle.model.specs.Registers.{wins, written, registers};
 ghost use Rattle.model.specs.Events.{plus, sums, class_sums, shown, panel_of, finishes};
-ghost use Rattle.totals.specs.Shown.{parts_of, index_of, largest_amount, largest_sum, AtMost};
+ghost use Rattle.model.specs.Handed.{all_of};
+ghost use Rattle.totals.specs.Shown.{index_of, amount_of, largest_amount, largest_sum, AtMost};
 
-use model::{Message, Panel, Payload, Register, Stamp, Sums, Table};
+use model::{Kind, Message, Messages, Panel, Payload, Register, Stamp, Sums, Table};
 
-// WHAT A PANEL SHOWS
+// WHAT A PANEL SHOWS. Flags of what is applied are bytes (the C interface). The messages and these flags go side by side, and not as one
+// struct: the flags of a controller that is not in the table yet are asked for too.
 
-// The parts of a message's amount, where the flag says that it counts.
-#[tactic(auto, unfolding(crate::specs::Shown::parts_of))]
-fn parts_of(flag: u8, p: Payload) -> Sums
-    ensures { (result ≡ parts_of flag p) × AtMost largest_amount result }
+// Adds a message's amount, each part to its own sum.
+fn add(sums: &mut Sums, p: Payload)
+    requires { AtMost largest_sum sums.old }
+    ensures added { sums.new ≡ plus sums.old (amount_of p) }
+    ensures small { AtMost largest_amount (amount_of p) }
 {
-    if flag == 0 {
-        return Sums::zero();
-    }
-    let added = p.added as u32;
-    let withdrawn = p.withdrawn as u32;
-    Sums { added, withdrawn }
+    sums.added += u32::from(p.added);
+    sums.withdrawn += u32::from(p.withdrawn);
 }
 
-// Each sum with an amount more.
-fn plus(s: Sums, more: Sums) -> Sums
-    requires { AtMost largest_sum s × AtMost largest_amount more }
-    ensures { result ≡ plus s more }
-{
-    Sums {
-        added: s.added + more.added,
-        withdrawn: s.withdrawn + more.withdrawn,
-    }
-}
-
-// The sums over the first messages, of those flagged as applied.
-pub fn sums(
-    count: usize,
-    messages: [Message; Table::MESSAGES],
-    applied: [u8; Table::MESSAGES],
-) -> Sums
-    ensures { result ≡ sums (first_of count messages) applied }
+// The sums over the messages that are flagged as applied.
+pub fn sums(messages: Messages, applied: &[u8; Table::MESSAGES]) -> Sums
+    ensures { result ≡ sums (all_of messages.entry) applied.now }
 {
     let mut sums = Sums::zero();
-    for s in 0..numbers::at_most(count, Table::MESSAGES) {
-        let m = messages[s];
-        sums = plus(sums, parts_of(applied[s], m.payload));
-    }
-    sums
-}
-
-// The sums of each class, from 0, over the first messages, of those flagged as applied. A class above the last has none.
-fn classes(
-    count: usize,
-    messages: [Message; Table::MESSAGES],
-    applied: [u8; Table::MESSAGES],
-) -> [Sums; Panel::CLASSES]
-    ensures { result ≡ tabulate class_count (class_sums (first_of count messages) applied) }
-{
-    let mut sums: [Sums; Panel::CLASSES] = [Sums::zero(); Panel::CLASSES];
-    for s in 0..numbers::at_most(count, Table::MESSAGES) {
-        let m = messages[s];
-        let more = parts_of(applied[s], m.payload);
-        let class = m.payload.class as usize;
-        if Panel::CLASSES <= class {
-            continue;
+    for (m, flag) in messages.sent().iter().zip(applied) {
+        if *flag != 0 {
+            add(&mut sums, m.payload);
         }
-        sums[class] = plus(sums[class], more);
     }
     sums
 }
 
-// Whether a stamp exceeds another: dates decide before writers.
-#[tactic(auto, unfolding(model::specs::Registers::exceeds))]
-fn exceeds(a: Stamp, b: Stamp) -> bool
-    ensures { result ≡ exceeds a b }
+// The sums of each class, from 0, over the messages that are flagged as applied. A class above the last has none. The class is
+// tested by hand: of what was written through a `get_mut` of an array a proof learns nothing.
+fn classes(messages: Messages, applied: &[u8; Table::MESSAGES]) -> [Sums; Panel::CLASSES]
+    ensures { result ≡ tabulate class_count (class_sums (all_of messages.entry) applied.now) }
 {
-    (b.date < a.date) | ((a.date == b.date) & (b.writer < a.writer))
+    let mut classes = [Sums::zero(); Panel::CLASSES];
+    for (m, flag) in messages.sent().iter().zip(applied) {
+        let class = usize::from(m.payload.class);
+        if *flag != 0 && class < Panel::CLASSES {
+            add(&mut classes[class], m.payload);
+        }
+    }
+    classes
 }
 
-// What is written, if its stamp exceeds that of what is held.
-#[tactic(auto, unfolding(model::specs::Registers::wins))]
+// What is written, if its stamp exceeds that of what is held: dates decide before writers.
+#[tactic(auto, using(std::proofs::lemmas::Bool::Decides::nat_tests), unfolding(model::specs::Registers::wins, model::specs::Registers::exceeds))]
 fn wins(w: Register, y: Register) -> Register
     ensures { result ≡ wins w y }
 {
-    let new = w.stamp;
-    let old = y.stamp;
-    if exceeds(new, old) {
-        return w;
-    }
-    y
+    if w.stamp > y.stamp { w } else { y }
 }
 
-// What a write gives its register.
-fn written(m: Message) -> Register
-    ensures { result ≡ written m }
+// What a write gives its register. (No `From`: both types are another crate's.)
+fn written(m: &Message) -> Register
+    ensures { result ≡ written m.now }
 {
     Register {
         value: m.payload.value,
         stamp: Stamp {
             date: m.date,
-            writer: m.sender as u16,
+            writer: u16::from(m.sender),
         },
     }
 }
 
-// The index of the register that a message writes, where the flag says that it counts; past the last if none.
+// The index of the register that a message writes, if it writes one.
 #[tactic(auto, unfolding(crate::specs::Shown::index_of))]
-fn register_index(flag: u8, p: Payload) -> usize
-    ensures { result ≡ index_of flag p }
+fn register_index(p: Payload) -> Option<usize>
+    ensures written { result ≡ index_of p }
+    ensures within { IfSome result (λ i. i < register_count) }
 {
-    let kind = p.kind;
-    let reg = p.reg as usize;
-    let i = numbers::predecessor(reg);
-    if (0 < flag) & ((kind == Payload::WRITE) & (0 < reg)) {
-        return i;
-    }
-    Panel::REGISTERS
+    let i = usize::from(p.reg).checked_sub(1)?;
+    (p.is(Kind::Write) && i < Panel::REGISTERS).then_some(i)
 }
 
-// The registers, from 1, by the first messages, of those flagged as applied.
+// The registers, from 1, by the messages that are flagged as applied.
 pub fn registers(
-    count: usize,
-    messages: [Message; Table::MESSAGES],
-    applied: [u8; Table::MESSAGES],
+    messages: Messages,
+    applied: &[u8; Table::MESSAGES],
 ) -> [Register; Panel::REGISTERS]
-    ensures { result ≡ registers (first_of count messages) applied }
+    ensures { result ≡ registers (all_of messages.entry) applied.now }
 {
-    let mut registers: [Register; Panel::REGISTERS] = [Register::zero(); Panel::REGISTERS];
-    for s in 0..numbers::at_most(count, Table::MESSAGES) {
-        let m = messages[s];
-        let i = register_index(applied[s], m.payload);
-        if Panel::REGISTERS <= i {
-            continue;
+    let mut registers = [Register::zero(); Panel::REGISTERS];
+    for (m, flag) in messages.sent().iter().zip(applied) {
+        if *flag != 0
+            && let Some(i) = register_index(m.payload)
+        {
+            registers[i] = wins(written(m), registers[i]);
         }
-        registers[i] = wins(written(m), registers[i]);
     }
     registers
 }
 
-// The panel of a controller that has applied what is flagged, of the first messages.
+// The panel of a controller that has applied what is flagged.
 #[tactic(auto, unfolding(model::specs::Events::shown))]
-pub fn shown(
-    count: usize,
-    messages: [Message; Table::MESSAGES],
-    applied: [u8; Table::MESSAGES],
-) -> Panel
-    ensures { result ≡ shown (first_of count messages) applied }
+pub fn shown(messages: Messages, applied: &[u8; Table::MESSAGES]) -> Panel
+    ensures { result ≡ shown (all_of messages.entry) applied.now }
 {
     Panel {
-        sums: sums(count, messages, applied),
-        classes: classes(count, messages, applied),
-        registers: registers(count, messages, applied),
+        sums: sums(messages, applied),
+        classes: classes(messages, applied),
+        registers: registers(messages, applied),
     }
 }
 
-// The panel of controller c, from 1. Past the last it shows what it would if nothing was sent.
-pub fn panel(t: Table, c: usize) -> Panel
-    ensures { result ≡ panel_of t c }
+// The panel of controller c, from 1. Past the last it shows nothing.
+pub fn panel(t: &Table, c: usize) -> Panel
+    ensures { result ≡ panel_of t.now c }
 {
-    let messages = t.messages;
-    let i = numbers::predecessor(c);
-    if Table::CONTROLLERS <= i {
-        return shown(0, messages, [0; Table::MESSAGES]);
+    match t.controllers.get(c.saturating_sub(1)) {
+        Some(x) => shown(t.sent(), &x.applied),
+        None => Panel::zero(),
     }
-    let x = t.controllers[i];
-    let applied = x.applied;
-    shown(t.count, messages, applied)
 }
 
 // A FINISHED SYNC
 
 // Whether a sync of c is among the members.
-pub fn finishes(
-    count: usize,
-    messages: [Message; Table::MESSAGES],
-    members: [bool; Table::MESSAGES],
-    c: u8,
-) -> bool
-    ensures { result ≡ finishes (first_of count messages) members c }
+pub fn finishes(messages: Messages, members: &[bool; Table::MESSAGES], c: u8) -> bool
+    ensures { result ≡ finishes (all_of messages.entry) members.now c }
 {
-    for s in 0..numbers::at_most(count, Table::MESSAGES) {
-        let kind = messages[s].payload.kind;
-        let sender = messages[s].sender;
-        if members[s] & ((kind == Payload::SYNC) & (sender == c)) {
-            return true;
-        }
-    }
-    false
+    messages.sent().iter().zip(members).any(|(m, member)| *member
+        && m.payload.is(Kind::Sync)
+        && m.sender == c)
 }

@@ -4,7 +4,7 @@ use mathlib.Core.Bool.{Bool, true, false, ◌&&◌, and-false, cond}
 use mathlib.Core.List.{List}
 use Prim.Native.Nat.{ℕ, ◌+◌, ◌*◌, ◌≤◌, ◌<◌}
 use native.Mathlib.Omega.{arith}
-use lib.ListN.{get_or, set, replicate}
+use lib.ListN.{length, get_or, set, replicate}
 use lib.Dec.{eqb, leb, ltb}
 use borrow.Author.Tests.{ltb-true, leb-true, eqb-true, eq-eqb}
 use Rattle.lists.specs.Below.{distinct}
@@ -15,6 +15,7 @@ use Rattle.model.specs.Tables.{no_message, first_of, message_in, capacity, seats
 use Rattle.model.specs.Fair.{named, fair_amount, fair_class, fair_register, fair_date}
 use Rattle.model.specs.WellFormed.{same_name, good_message, good_messages}
 use Rattle.model.specs.declared.Message.{Message}
+use Rattle.validity.specs.declared.handed.Run.{Run}
 use Rattle.validity.specs.Flags.{Bounded, AllBounded, sender_count}
 use Rattle.validity.proofs.SeenFlags.{Read, none_read, next_read, read_twice}
 
@@ -123,3 +124,8 @@ module _ (v n k : ℕ) (M : List Message) where
   all_named e s h =
       let sender = and_left _ _ (all-at k _ (and_right (distinct k alike) _ e) s h) in
       (ltb-true 0 (get_or M s no_message).sender (and_left _ _ sender), leb-true (get_or M s no_message).sender n (and_right (ltb 0 (get_or M s no_message).sender) _ sender))
+
+-- A RUN WHOSE MESSAGES ARE GOOD
+
+pub run_bounded : (r : Run) → AllBounded (length r.sent.now) r.sent.now
+run_bounded r = all_bounded _ _ _ _ r.few r.fits r.good

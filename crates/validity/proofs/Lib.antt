@@ -1,3 +1,4 @@
+pub mod Folds
 pub mod SeenFlags
 pub mod DistinctNames
 pub mod WriteStamps

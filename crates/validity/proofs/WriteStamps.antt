@@ -3,7 +3,6 @@
 use mathlib.Core.Path.{◌≡◌, refl, sym, ◌∙◌}
 use mathlib.Core.Bool.{Bool, true, false, ◌&&◌, cond}
 use mathlib.Core.List.{List}
-use mathlib.Core.Logic.{◌≢◌}
 use Prim.Native.Nat.{ℕ, suc, ◌+◌, ◌-◌, ◌*◌, ◌≤◌, ◌<◌}
 use native.Mathlib.Omega.{arith}
 use native.Mathlib.Decide.{ℕ_discrete, dec_lt}
@@ -12,14 +11,15 @@ use lib.Seq.{get_or-set_same, get_or-set_other}
 use lib.Dec.{eqb}
 use borrow.Author.Count.{below_more}
 use borrow.Author.Tests.{eqb-true, eq-eqb, ne_eqb}
-use Rattle.lists.specs.Below.{all, distinct}
+use Rattle.lists.specs.Below.{all}
 use Rattle.lists.proofs.Tests.{and_left, and_right, both, bool_eq, implies_at, implies_of}
 use Rattle.lists.proofs.Below.{all-at, all_of, distinct_of}
 use Rattle.model.specs.Tables.{no_message, at, message_in, write_kind, capacity, register_count}
 use Rattle.model.specs.WellFormed.{same_stamp, kept_write}
 use Rattle.model.specs.declared.Message.{Message}
 use Rattle.model.specs.declared.Table.{Table}
-use Rattle.validity.specs.Flags.{Bounded, writer_of, Wrote, sender_count}
+use Rattle.validity.specs.Flags.{Bounded, writer_of, sender_count}
+use Rattle.validity.specs.Reads.{Wrote, each_write}
 use Rattle.validity.specs.Parts.{keeps_own}
 use Rattle.validity.proofs.SeenFlags.{Read, none_read, passed_over, next_read, read_twice}
 
@@ -39,9 +39,9 @@ abbrev write_code : Message → ℕ
 write_code m = cond (eqb m.payload.kind write_kind) (stamp_code m) stamp_codes
 
 -- a write is like another exactly if their codes are, and like no other message
-stamp_alike : (a b : Message) → Bounded a → Bounded b → a.payload.kind ≡ write_kind → same_stamp a b ≡ eqb (write_code a) (write_code b)
+stamp_alike : (a b : Message) → Bounded a → Bounded b → eqb a.payload.kind write_kind ≡ true → same_stamp a b ≡ eqb (write_code a) (write_code b)
 unfolding same_stamp
-stamp_alike a b ha hb w = rw (eq-eqb a.payload.kind write_kind w) (go (eqb b.payload.kind write_kind))
+stamp_alike a b ha hb w = rw w (go (eqb b.payload.kind write_kind))
   where
     go : (x : Bool) → (x && (eqb a.sender b.sender && (eqb a.payload.reg b.payload.reg && eqb a.date b.date))) ≡ eqb (stamp_code a) (cond x (stamp_code b) stamp_codes)
     go true =
@@ -84,20 +84,18 @@ module _ (M : List Message) where
   unfolding StampsRead
   no_stamp = none_read stamp_codes code alike Good
 
-  pub all_apart : (k : ℕ) (seen : List Bool) → StampsRead k seen → true ≡ distinct k alike
-  unfolding StampsRead
+  pub all_apart : (k : ℕ) (seen : List Bool) → StampsRead k seen → true ≡ each_write k M
+  unfolding StampsRead each_write
   all_apart k seen r = sym r.apart
 
   module _ (s : ℕ) (seen : List Bool) (r : StampsRead s seen) (bounded : Bounded (sent s)) where
-    pub other_read : (sent s).payload.kind ≢ write_kind → StampsRead (s + 1) seen
+    pub other_read : eqb (sent s).payload.kind write_kind ≡ false → StampsRead (s + 1) seen
     unfolding StampsRead same_stamp
-    other_read w =
-        let e = ne_eqb (sent s).payload.kind write_kind w in
-        passed_over stamp_codes code alike Good s seen r bounded (rw e (omega arith)) (λ j h. rw e)
+    other_read e = passed_over stamp_codes code alike Good s seen r bounded (rw e (omega arith)) (λ j h. rw e)
 
-    module _ (w : (sent s).payload.kind ≡ write_kind) where
+    module _ (w : eqb (sent s).payload.kind write_kind ≡ true) where
       coded : code s ≡ stamp_code (sent s)
-      coded = rw (eq-eqb (sent s).payload.kind write_kind w)
+      coded = rw w
 
       told : (i : ℕ) → i < s → alike s i ≡ eqb (code s) (code i)
       unfolding StampsRead
@@ -110,8 +108,8 @@ module _ (M : List Message) where
       unfolding StampsRead
       stamp_read f = rw (← coded) (next_read stamp_codes code alike Good s seen r small told bounded (rw coded f))
 
-      pub stamp_twice : (k : ℕ) → s < k → get_or seen (stamp_code (sent s)) false ≡ true → false ≡ distinct k alike
-      unfolding StampsRead
+      pub stamp_twice : (k : ℕ) → s < k → get_or seen (stamp_code (sent s)) false ≡ true → false ≡ each_write k M
+      unfolding StampsRead each_write
       stamp_twice k h f = sym (read_twice stamp_codes code alike Good s seen r small told k h (rw coded f))
 
   -- WHO WROTE
@@ -120,21 +118,21 @@ module _ (M : List Message) where
   none_wrote = record { within = omega arith; senders = λ s h. absurd (omega arith); rest = λ s l h. get_or-replicate {A = ℕ} capacity s 0 0 h }
 
   module _ (s end : ℕ) (W : List ℕ) (fits : s < capacity) (r : Wrote s M end W) where
-    pub other_wrote : (sent s).payload.kind ≢ write_kind → Wrote (s + 1) M end W
+    pub other_wrote : eqb (sent s).payload.kind write_kind ≡ false → Wrote (s + 1) M end W
     unfolding writer_of
     other_wrote w = record {
       within = omega (arith, r.within);
-      senders = below_more _ _ r.senders (r.rest s r.within fits ∙ rw (ne_eqb (sent s).payload.kind write_kind w) refl);
+      senders = below_more _ _ r.senders (r.rest s r.within fits ∙ rw w refl);
       rest = r.rest;
     }
 
-    pub write_wrote : length W ≡ capacity → (sent s).payload.kind ≡ write_kind → Wrote (s + 1) M (s + 1) (set W s (sent s).sender)
+    pub write_wrote : length W ≡ capacity → eqb (sent s).payload.kind write_kind ≡ true → Wrote (s + 1) M (s + 1) (set W s (sent s).sender)
     unfolding writer_of
     write_wrote size w = record {
       within = omega arith;
       senders =
           below_more _ _ (λ j h. get_or-set_other W s j (sent s).sender 0 (omega arith) ∙ r.senders j h)
-          (get_or-set_same W s (sent s).sender 0 (omega arith) ∙ rw (eq-eqb (sent s).payload.kind write_kind w) refl);
+          (get_or-set_same W s (sent s).sender 0 (omega arith) ∙ rw w refl);
       rest = λ j l h. get_or-set_other W s j (sent s).sender 0 (omega arith) ∙ r.rest j (omega (arith, r.within)) h;
     }
 
@@ -156,9 +154,9 @@ module _ (M : List Message) where
         let z : get_or W s 0 ≡ 0 = r.senders s h ∙ rw (ne_eqb (sent s).payload.kind write_kind w) refl in
         absurd (omega (arith, e, z))
 
-    pub no_writes : end ≡ 0 → true ≡ distinct k alike
-    unfolding same_stamp
-    no_writes z = sym (distinct_of k _ (λ i j h l. rw (ne_eqb (sent i).payload.kind write_kind (λ w. omega (arith, z, (written i h w).0)))))
+    pub no_writes : end ≡ 0 → each_write k M ≡ true
+    unfolding each_write same_stamp
+    no_writes z = distinct_of k _ (λ i j h l. rw (ne_eqb (sent i).payload.kind write_kind (λ w. omega (arith, z, (written i h w).0))))
 
 -- every write is kept exactly if every controller keeps its own, where every sender is a controller of the run
 pub kept_are : (t : Table) (end : ℕ) (W : List ℕ) → t.count ≤ capacity → Wrote t.count t.messages end W

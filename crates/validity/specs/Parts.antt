@@ -1,23 +1,22 @@
 -- What the well-formed test asks of one controller: but for its read positions, of its own writes, and all.
-use Rattle.std.specs.Prelude.{ℕ, suc, Bool, not, ◌&&◌, ◌||◌, List, get_or, eqb, leb}
+use Rattle.std.specs.Prelude.{ℕ, Bool, not, ◌&&◌, ◌||◌, List, length, get_or, eqb, leb}
 use Rattle.std.specs.Bool.{beq}
 use Rattle.lists.specs.Below.{all}
-use Rattle.model.specs.Tables.{Messages, yes?, controller_in, held, applied, highest}
+use Rattle.model.specs.Tables.{Messages, first_of, yes?, controller_in, held, applied}
 use Rattle.model.specs.Facts.{in_log}
-use Rattle.model.specs.WellFormed.{good_log, good_marks, good_buffer, good_controller}
+use Rattle.model.specs.WellFormed.{good_log, good_marks, good_buffer, good_highest, good_controller}
 use Rattle.model.specs.declared.Controller.{Controller}
-use Rattle.model.specs.declared.Name.{Name}
-use Rattle.validity.specs.Flags.{greatest_of}
+use Rattle.model.specs.declared.Message.{Message}
 
--- the highest numbers of a controller are the greatest of the names that it applied, of a run of n controllers and that many messages
-unfoldable pub good_numbers : ℕ → ℕ → List Name → Controller → Bool
-good_numbers n count N c = all n (λ x. eqb (highest c (suc x)) (greatest_of count N c.applied (suc x)))
+-- the messages of a run, where the list has no others
+abbrev pub all_sent : List Message → Messages
+all_sent M = first_of (length M) M
 
--- the clauses of a controller, where the names of the messages and its greatest number sent are given, but for its read positions
-unfoldable pub good_alone : ℕ → ℕ → List Name → ℕ → Controller → Bool
-good_alone n count N sent c =
-    good_log count c && (good_marks n count c && (good_buffer count c && (good_numbers n count N c
-    && (not (yes? c.running) || (all count (λ s. beq (in_log c s) (held c s || applied c s)) && leb sent c.length)))))
+-- the clauses of a controller, of a run of n controllers, where its greatest number sent is given, but for its read positions
+unfoldable pub good_alone : ℕ → Messages → ℕ → Controller → Bool
+good_alone n M sent c =
+    good_log M.count c && (good_marks n M.count c && (good_buffer M.count c && (good_highest n M c
+    && (not (yes? c.running) || (all M.count (λ s. beq (in_log c s) (held c s || applied c s)) && leb sent c.length)))))
 
 -- controller i, while it runs, has each write that it sent pending or applied, where the senders of the writes in the first k slots are given
 unfoldable pub keeps_own : ℕ → List ℕ → ℕ → Controller → Bool

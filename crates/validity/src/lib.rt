@@ -1,44 +1,47 @@
 // Question 4: whether a table is well formed. What a clause asks of every message, log entry or slot is read in one pass
 // into flags, so that no clause searches; a name, a stamp, a log entry and a sender each have a flag or a number of their own.
+// Short tests of many places are joined by a `fold`: with no way out before the end, the compiler tests many places at once.
 #![tactic(auto)]
 
-ghost use Rattle.std.specs.Prelude.{◌≡◌, ◌&&◌, cond, suc, ◌+◌, ◌≤◌, get_or, eqb, leb};
-ghost use Rattle.lists.specs.Below.{all, distinct};
+ghost use Rattle.std.specs.Prelude.{◌≡◌, ◌&&◌, suc, ◌≤◌, length, get_or, eqb};
+ghost use Rattle.lists.specs.Below.{all};
 ghost use Rattle.lists.specs.Build.{tabulate};
-ghost use Rattle.model.specs.Tables.{seats, capacity, none, no_message, no_controller, yes?, first_of};
+ghost use Rattle.model.specs.Tables.{seats, capacity, none};
+ghost use Rattle.model.specs.Facts.{greatest_applied};
 ghost use Rattle.model.specs.Fair.{fair_date};
-ghost use Rattle.model.specs.WellFormed.{same_stamp, good_message, good_messages, good_mark, well_formed};
-ghost use Rattle.validity.specs.Parts.{keeps_own, good_alone, good_with};
-ghost use Rattle.validity.specs.Flags.{AllBounded, ReadsWrites, own_test, ReadsLog, allowed_marks, good_entry, ReadsBuffer, good_slot, slot_test, NamesOf, Seated, sender_count, greatest_of};
+ghost use Rattle.model.specs.WellFormed.{good_message, good_messages, good_places, well_formed};
+ghost use Rattle.validity.specs.Parts.{all_sent, keeps_own, good_alone, good_with};
+ghost use Rattle.validity.specs.Flags.{own_test, good_entry, good_slot, slot_test};
+ghost use Rattle.validity.specs.Reads.{each_write, ReadsWrites, ReadsLog, ReadsBuffer};
 
-use model::{
-    Controller, ForwardNumber, Message, MessageNumber, Name, Panel, Payload, Pending, Table,
-};
+mod handed;
+
+use handed::{AllowedMarks, Run, Writes};
+use model::{Controller, Kind, Message, MessageNumber, Panel, Pending, Table};
 
 // MESSAGES
 
 // A write has a date from 1 to the count of messages; every other message has none.
 #[tactic(auto, unfolding(model::specs::Fair::fair_date))]
-fn fair_date(count: usize, m: Message) -> bool
-    ensures { result ≡ fair_date count m }
+fn fair_date(count: usize, m: &Message) -> bool
+    ensures { result ≡ fair_date count m.now }
 {
-    let kind = m.payload.kind;
     let date = m.date as usize;
-    if kind == Payload::WRITE {
-        return (0 < date) & (date <= count);
+    if m.payload.is(Kind::Write) {
+        return (1..=count).contains(&date);
     }
     date == 0
 }
 
-#[tactic(auto, unfolding(model::specs::Fair::named, model::specs::Fair::fair_date, model::specs::WellFormed::good_message))]
-fn good_message(version: usize, n: usize, count: usize, m: Message) -> bool
-    ensures { result ≡ good_message version n count m }
+#[tactic(auto, unfolding(model::specs::WellFormed::good_message))]
+fn good_message(version: usize, n: usize, count: usize, m: &Message) -> bool
+    ensures { result ≡ good_message version n count m.now }
 {
     let number = m.number.0 as usize;
-    let named = (0 < m.sender) & ((m.sender as usize) <= n);
-    let write = Payload::fair_register(m.payload) & fair_date(count, m);
-    let fair = Payload::fair_amount(m.payload) & (Payload::fair_class(version, m.payload) & write);
-    named & ((0 < number) & ((number <= Table::MESSAGES) & fair))
+    let named = Controller::is_among(n, m.sender as usize);
+    let write = m.payload.fair_register() & fair_date(count, m);
+    let fair = m.payload.fair_amount() & (m.payload.fair_class(version) & write);
+    named & ((1..=Table::MESSAGES).contains(&number) & fair)
 }
 
 // Senders and numbers count from 1, and 0 has a place too.
@@ -46,22 +49,18 @@ const SENDERS: usize = Table::CONTROLLERS + 1;
 
 const NUMBERS: usize = Table::MESSAGES + 1;
 
-// A name has a code of its own, below this.
+// A name has a code of its own, below this. (Books have the same of names that may be out of range, and clip them.)
 const CODES: usize = SENDERS * NUMBERS;
 
-fn good_messages(
-    version: usize,
-    n: usize,
-    count: usize,
-    messages: [Message; Table::MESSAGES],
-) -> bool
-    requires { (n ≤ seats) × (count ≤ capacity) }
-    ensures { result ≡ good_messages version n (first_of count messages) }
+// Makes what `Run` carries on, so that its two bounds are asked here alone. (Of names, stamps and log entries each has flags of its own:
+// what the three have in common is one test, and a type for it is no plainer.)
+fn good_messages(version: usize, n: usize, sent: &[Message]) -> bool
+    requires { (n ≤ seats) × (length sent.now ≤ capacity) }
+    ensures { result ≡ good_messages version n (all_sent sent.now) }
 {
     let mut seen = [false; CODES];
-    for s in 0..count {
-        let m = messages[s];
-        if !good_message(version, n, count, m) {
+    for m in sent {
+        if !good_message(version, n, sent.len(), m) {
             return false;
         }
         let code = (m.sender as usize) * NUMBERS + (m.number.0 as usize);
@@ -82,15 +81,12 @@ const REGISTERS: usize = Panel::REGISTERS + 1;
 const STAMPS: usize = SENDERS * REGISTERS * NUMBERS;
 
 // No two writes of one sender and register have the same date.
-fn each_write(count: usize, messages: [Message; Table::MESSAGES]) -> bool
-    requires { (count ≤ capacity) × AllBounded count messages }
-    ensures { result ≡ distinct count (λ i j. same_stamp (get_or messages i no_message) (get_or messages j no_message)) }
+fn each_write(run: Run) -> bool
+    ensures { result ≡ each_write (length run.entry.sent.now) run.entry.sent.now }
 {
     let mut stamps = [false; STAMPS];
-    for s in 0..count {
-        let m = messages[s];
-        let kind = m.payload.kind;
-        if kind != Payload::WRITE {
+    for m in run.sent {
+        if !m.payload.is(Kind::Write) {
             continue;
         }
         let pair = (m.sender as usize) * REGISTERS + (m.payload.reg as usize);
@@ -103,176 +99,107 @@ fn each_write(count: usize, messages: [Message; Table::MESSAGES]) -> bool
     true
 }
 
-// Whether no two writes have the same stamp; for each slot the sender of its write, 0 where there is none; and where the slots with a
-// write end.
-#[derive(Clone, Copy)]
-struct WritesRead {
-    good: bool,
-    end: usize,
-    senders: [u8; Table::MESSAGES],
-}
-
-// Dates are looked at only where there is a write.
-fn read_writes(count: usize, messages: [Message; Table::MESSAGES]) -> WritesRead
-    requires { (count ≤ capacity) × AllBounded count messages }
-    ensures { ReadsWrites count messages result }
+// The writes of a run, if no two of them have the same stamp. Dates are looked at only where there is a write.
+fn read_writes(run: Run) -> Option<Writes>
+    ensures { ReadsWrites run.entry.sent.now result }
 {
-    let mut senders: [u8; Table::MESSAGES] = [0; Table::MESSAGES];
-    let mut end: usize = 0;
-    for s in 0..count {
-        let m = messages[s];
-        let kind = m.payload.kind;
-        if kind != Payload::WRITE {
+    let mut senders = [0; Table::MESSAGES];
+    let mut end = 0;
+    for (s, m) in run.sent.iter().enumerate() {
+        if !m.payload.is(Kind::Write) {
             continue;
         }
         senders[s] = m.sender;
         end = s + 1;
     }
-    if end == 0 {
-        return WritesRead {
-            good: true,
-            end,
-            senders,
-        };
+    if (end != 0) && !each_write(run) {
+        return None;
     }
-    let good = each_write(count, messages);
-    WritesRead { good, end, senders }
+    Some(Writes { end, senders })
 }
 
 // A running controller has each write that it sent pending or applied.
 fn own_kept(
-    writes: WritesRead,
+    writes: &Writes,
     who: usize,
     running: bool,
-    held: [bool; Table::MESSAGES],
-    applied: [u8; Table::MESSAGES],
+    held: &[bool; Table::MESSAGES],
+    applied: &[u8; Table::MESSAGES],
 ) -> bool
-    requires { writes.end ≤ capacity }
-    ensures { result ≡ all writes.end (own_test writes.senders who running held applied) }
+    ensures { result ≡ all writes.now.end (own_test writes.now.senders who running held.now applied.now) }
 {
-    let end = writes.end;
-    let senders = writes.senders;
-    let mut good = true;
-    for s in 0..end {
-        let own = (senders[s] as usize) == who;
-        let known = held[s] | (0 < applied[s]);
-        good = (!own | (!running | known)) & good;
-    }
-    good
+    writes.senders[..writes.end]
+        .iter()
+        .zip(held)
+        .zip(applied)
+        .fold(true, |good, ((sender, held), applied)| {
+            let own = (*sender as usize) == who;
+            (!own | (!running | (*held | (0 < *applied)))) & good
+        })
 }
 
 // LOGS
 
-// Whether the entries of a log are good, and then which slots are logged.
-#[derive(Clone, Copy)]
-struct LogRead {
-    good: bool,
-    logged: [bool; Table::MESSAGES],
-}
-
-fn read_log(count: usize, length: usize, log: [u8; Table::MESSAGES]) -> LogRead
-    requires { (count ≤ capacity) × (length ≤ capacity) }
-    ensures { ReadsLog count length log result }
+// Which slots a log names, if its entries are good.
+fn read_log(run: Run, c: &Controller) -> Option<[bool; Table::MESSAGES]>
+    ensures { ReadsLog (length run.entry.sent.now) c.now result }
 {
+    if Table::MESSAGES < c.length {
+        return None;
+    }
     let mut logged = [false; Table::MESSAGES];
-    for k in 0..length {
-        let slot = log[k] as usize;
-        if count <= slot {
-            return LogRead {
-                good: false,
-                logged,
-            };
-        }
-        if logged[slot] {
-            return LogRead {
-                good: false,
-                logged,
-            };
+    for entry in &c.log[..c.length] {
+        let slot = *entry as usize;
+        if (run.sent.len() <= slot) || logged[slot] {
+            return None;
         }
         logged[slot] = true;
     }
-    LogRead { good: true, logged }
+    Some(logged)
 }
 
-fn good_places(
-    n: usize,
-    read: [usize; Table::CONTROLLERS],
-    ends: [usize; Table::CONTROLLERS],
-) -> bool
-    requires { n ≤ seats }
-    ensures { result ≡ all n (λ o. leb (get_or read o 0) (get_or ends o 0)) }
+// No read position passes the end of the log that it is in.
+fn good_places(run: Run, controllers: &[Controller; Table::CONTROLLERS], c: &Controller) -> bool
+    ensures { result ≡ good_places run.entry.n controllers.now c.now }
 {
-    let mut good = true;
-    for o in 0..n {
-        let place = read[o];
-        let end = ends[o];
-        good = (place <= end) & good;
-    }
-    good
+    c.read[..run.n].iter().zip(controllers).fold(
+        true,
+        |good, (place, owner)| (*place <= owner.length) & good,
+    )
 }
 
-// MARKS AND BUFFERS
-
-const BYTES: usize = 256;
-
-// For each byte whether it is a good mark: a look is quicker than the comparisons, seven for each pending message.
-fn allowed_marks() -> [bool; BYTES]
-    ensures { result ≡ allowed_marks }
-{
-    let mut allowed = [false; BYTES];
-    allowed[ForwardNumber::ABSENT as usize] = true;
-    for k in 1..NUMBERS {
-        allowed[k] = true;
-    }
-    allowed
-}
-
-#[tactic(auto, using(crate::proofs::AllowedMarks::allowed_read))]
-fn good_mark(allowed: &[bool; BYTES], k: u8) -> bool
-    requires { allowed.now ≡ allowed_marks }
-    ensures { result ≡ good_mark k }
-{
-    let index = k as usize;
-    allowed[index]
-}
+// BUFFERS
 
 // The marks of a message that is not in the buffer are not read.
 #[tactic(auto, unfolding(crate::specs::Flags::good_entry))]
-fn good_entry(n: usize, allowed: &[bool; BYTES], p: Pending) -> bool
-    requires { (n ≤ seats) × (allowed.now ≡ allowed_marks) }
-    ensures { result ≡ good_entry n p }
+fn good_entry(run: Run, allowed: &AllowedMarks, p: &Pending) -> bool
+    ensures { result ≡ good_entry run.entry.n p.now }
 {
-    let held = p.held;
-    if held == 0 {
+    if !p.is_held() {
         return true;
     }
-    let marks = p.marks;
-    let mut good = true;
-    for f in 0..n {
-        good = good_mark(allowed, marks[f].0) & good;
-    }
-    good
+    p.marks
+        .iter()
+        .take(run.n)
+        .fold(true, |good, mark| allowed.allows(*mark) & good)
 }
 
-// Whether the entries of a buffer are good, and which slots are in it.
-#[derive(Clone, Copy)]
-struct BufferRead {
-    good: bool,
-    held: [bool; Table::MESSAGES],
-}
-
-fn read_buffer(n: usize, allowed: &[bool; BYTES], pending: [Pending; Table::MESSAGES]) -> BufferRead
-    requires { (n ≤ seats) × (allowed.now ≡ allowed_marks) }
-    ensures { ReadsBuffer n pending result }
+// Which slots are in a buffer, if its entries are good.
+fn read_buffer(
+    run: Run,
+    allowed: &AllowedMarks,
+    pending: &[Pending; Table::MESSAGES],
+) -> Option<[bool; Table::MESSAGES]>
+    ensures { ReadsBuffer run.entry.n pending.now result }
 {
     let mut held = [false; Table::MESSAGES];
-    let mut good = true;
-    for s in 0..Table::MESSAGES {
-        let entry = pending[s];
-        held[s] = 0 < entry.held;
-        good = good_entry(n, allowed, entry) & good;
+    for (s, p) in pending.iter().enumerate() {
+        if !good_entry(run, allowed, p) {
+            return None;
+        }
+        held[s] = p.is_held();
     }
-    BufferRead { good, held }
+    Some(held)
 }
 
 // A slot is pending or applied and not both, only if it is of the run, and of a running controller's slots exactly those
@@ -289,155 +216,89 @@ fn good_slot(inside: bool, running: bool, held: bool, done: bool, logged: bool) 
 fn good_slots(
     count: usize,
     running: bool,
-    held: [bool; Table::MESSAGES],
-    applied: [u8; Table::MESSAGES],
-    logged: [bool; Table::MESSAGES],
+    held: &[bool; Table::MESSAGES],
+    applied: &[u8; Table::MESSAGES],
+    logged: &[bool; Table::MESSAGES],
 ) -> bool
-    ensures { result ≡ all capacity (slot_test count running held applied logged) }
+    ensures { result ≡ all capacity (slot_test count running held.now applied.now logged.now) }
 {
-    let mut good = true;
-    for s in 0..Table::MESSAGES {
-        let done = 0 < applied[s];
-        good = good_slot(s < count, running, held[s], done, logged[s]) & good;
-    }
-    good
+    held.iter()
+        .zip(applied)
+        .zip(logged)
+        .enumerate()
+        .fold(true, |good, (s, ((held, done), logged))| {
+            good_slot(s < count, running, *held, 0 < *done, *logged) & good
+        })
 }
 
 // NUMBERS
 
-// The names of the first messages. What is handed on for each controller is copied each time, and names are an eighth of the messages.
-fn names(count: usize, messages: [Message; Table::MESSAGES]) -> [Name; Table::MESSAGES]
-    requires { count ≤ capacity }
-    ensures { NamesOf count messages result }
-{
-    let none = Name {
-        sender: 0,
-        number: MessageNumber(MessageNumber::NONE),
-    };
-    let mut names = [none; Table::MESSAGES];
-    for s in 0..count {
-        let m = messages[s];
-        let number = m.number;
-        names[s] = Name {
-            sender: m.sender,
-            number,
-        };
-    }
-    names
-}
-
-fn number_if(flag: u8, m: Name) -> u8
-    ensures { result ≡ cond (yes? flag) m.number.0 0 }
-{
-    if 0 < flag { m.number.0 } else { 0 }
-}
-
 // For each sender the greatest number among the messages that are flagged.
-fn greatest_numbers(
-    count: usize,
-    names: [Name; Table::MESSAGES],
-    flags: [u8; Table::MESSAGES],
-) -> [u8; SENDERS]
-    requires { (count ≤ capacity) × Seated count names }
-    ensures { result ≡ tabulate sender_count (greatest_of count names flags) }
+fn greatest_numbers(run: Run, flags: &[u8; Table::MESSAGES]) -> [u8; Table::CONTROLLERS]
+    ensures { result ≡ tabulate seats (λ x. greatest_applied (all_sent run.entry.sent.now) flags.now (suc x)) }
 {
-    let mut greatest: [u8; SENDERS] = [0; SENDERS];
-    for s in 0..count {
-        let m = names[s];
-        let sender = m.sender as usize;
-        let number = number_if(flags[s], m);
-        greatest[sender] = numbers::greater(greatest[sender], number);
+    let mut greatest = [0; Table::CONTROLLERS];
+    for (m, flag) in run.sent.iter().zip(flags) {
+        let number = if 0 < *flag { m.number.0 } else { 0 };
+        let found = &mut greatest[(m.sender as usize) - 1];
+        *found = (*found).max(number);
     }
     greatest
 }
 
 fn good_highest(
-    n: usize,
-    highest: [MessageNumber; Table::CONTROLLERS],
-    greatest: [u8; SENDERS],
+    run: Run,
+    highest: &[MessageNumber; Table::CONTROLLERS],
+    greatest: &[u8; Table::CONTROLLERS],
 ) -> bool
-    requires { n ≤ seats }
-    ensures { result ≡ all n (λ x. eqb (get_or highest x none).0 (get_or greatest (x + 1) 0)) }
+    ensures { result ≡ all run.entry.n (λ x. eqb (get_or highest.now x none).0 (get_or greatest.now x 0)) }
 {
-    let mut good = true;
-    for x in 0..n {
-        let stored = highest[x].0;
-        good = (stored == greatest[x + 1]) & good;
-    }
-    good
+    highest[..run.n]
+        .iter()
+        .zip(greatest)
+        .fold(true, |good, (stored, found)| (stored.0 == *found) & good)
 }
 
 // THE TEST
 
 // A controller, whose greatest number sent is known, and its writes; its read positions are tested where the other logs are at hand.
 fn good_controller(
-    n: usize,
-    count: usize,
-    names: [Name; Table::MESSAGES],
-    allowed: &[bool; BYTES],
+    run: Run,
+    allowed: &AllowedMarks,
     sent: u8,
-    writes: WritesRead,
+    writes: &Writes,
     who: usize,
-    c: Controller,
+    c: &Controller,
 ) -> bool
-    requires { (n ≤ seats) × (count ≤ capacity) × Seated count names × (allowed.now ≡ allowed_marks) × (writes.end ≤ capacity) }
-    ensures { result ≡ (good_alone n count names sent c && keeps_own writes.end writes.senders who c) }
+    ensures { result ≡ (good_alone run.entry.n (all_sent run.entry.sent.now) sent c.now && keeps_own writes.now.end writes.now.senders who c.now) }
 {
-    let length = c.length;
-    if Table::MESSAGES < length {
+    let Some(logged) = read_log(run, c) else {
         return false;
-    }
-    let log = c.log;
-    let entries = read_log(count, length, log);
-    if !entries.good {
+    };
+    let Some(held) = read_buffer(run, allowed, &c.pending) else {
         return false;
-    }
-    let pending = c.pending;
-    let applied = c.applied;
-    let highest = c.highest;
-    let running = 0 < c.running;
-    let buffer = read_buffer(n, allowed, pending);
-    let greatest = greatest_numbers(count, names, applied);
-    let held = buffer.held;
-    let logged = entries.logged;
-    let slots = good_slots(count, running, held, applied, logged);
-    let long = !running | ((sent as usize) <= length);
-    let kept = own_kept(writes, who, running, held, applied);
-    ((buffer.good & slots) & (good_highest(n, highest, greatest) & long)) & kept
-}
-
-fn lengths(controllers: [Controller; Table::CONTROLLERS]) -> [usize; Table::CONTROLLERS]
-    ensures { result ≡ tabulate seats (λ o. (get_or controllers o no_controller).length) }
-{
-    let mut lengths: [usize; Table::CONTROLLERS] = [0; Table::CONTROLLERS];
-    for o in 0..Table::CONTROLLERS {
-        let c = controllers[o];
-        lengths[o] = c.length;
-    }
-    lengths
+    };
+    let running = c.is_running();
+    let greatest = greatest_numbers(run, &c.applied);
+    let slots = good_slots(run.sent.len(), running, &held, &c.applied, &logged);
+    let long = !running | ((sent as usize) <= c.length);
+    let kept = own_kept(writes, who, running, &held, &c.applied);
+    (slots & (good_highest(run, &c.highest, &greatest) & long)) & kept
 }
 
 fn each_controller(
-    n: usize,
-    count: usize,
-    messages: [Message; Table::MESSAGES],
-    writes: WritesRead,
-    controllers: [Controller; Table::CONTROLLERS],
+    run: Run,
+    writes: &Writes,
+    controllers: &[Controller; Table::CONTROLLERS],
 ) -> bool
-    requires { (n ≤ seats) × (count ≤ capacity) × AllBounded count messages × (writes.end ≤ capacity) }
-    ensures { result ≡ all n (λ i. good_with n (first_of count messages) controllers writes.end writes.senders (suc i)) }
+    ensures { result ≡ all run.entry.n (λ i. good_with run.entry.n (all_sent run.entry.sent.now) controllers.now writes.now.end writes.now.senders (suc i)) }
 {
-    let ends = lengths(controllers);
-    let all_names = names(count, messages);
-    let every: [u8; Table::MESSAGES] = [1; Table::MESSAGES];
-    let sent = greatest_numbers(count, all_names, every);
-    let allowed = allowed_marks();
-    for i in 0..n {
-        let c = controllers[i];
-        let read = c.read;
-        let places = good_places(n, read, ends);
+    let sent = greatest_numbers(run, &[1; Table::MESSAGES]);
+    let allowed = AllowedMarks::new();
+    for (i, c) in controllers[..run.n].iter().enumerate() {
         let who = i + 1;
-        if !(places & good_controller(n, count, all_names, &allowed, sent[who], writes, who, c)) {
+        let places = good_places(run, controllers, c);
+        if !(places & good_controller(run, &allowed, sent[i], writes, who, c)) {
             return false;
         }
     }
@@ -445,24 +306,24 @@ fn each_controller(
 }
 
 // Ranges first, so that no clause reads past an array.
-pub fn well_formed(t: Table) -> bool
-    ensures { result ≡ well_formed t }
+pub fn well_formed(t: &Table) -> bool
+    ensures { result ≡ well_formed t.now }
 {
-    let version = t.version;
-    let n = t.n;
-    let count = t.count;
-    let some = (0 < n) & ((n <= Table::CONTROLLERS) & (count <= Table::MESSAGES));
-    if !(Table::known(version) & some) {
+    let some = (0 < t.n) & ((t.n <= Table::CONTROLLERS) & (t.count <= Table::MESSAGES));
+    if !(Table::known(t.version) & some) {
         return false;
     }
-    let messages = t.messages;
-    if !good_messages(version, n, count, messages) {
+    let sent = &t.messages[..t.count];
+    if !good_messages(t.version, t.n, sent) {
         return false;
     }
-    let writes = read_writes(count, messages);
-    if !writes.good {
-        return false;
+    let run = Run {
+        version: t.version,
+        n: t.n,
+        sent,
+    };
+    match read_writes(run) {
+        Some(writes) => each_controller(run, &writes, &t.controllers),
+        None => false,
     }
-    let controllers = t.controllers;
-    each_controller(n, count, messages, writes, controllers)
 }

@@ -1,13 +1,18 @@
 -- `apply` answers and leaves what specs/Apply.antt says, whatever the length of the scratch area.
-use Rattle.std.proofs.Common.{◌∙◌}
-use Rattle.delivery.proofs.Division.{kept_again}
-use Rattle.delivery.proofs.ApplyAnswer.{applied_with_room, applied_without_room}
+use Rattle.std.proofs.Common.{◌∙◌, arith}
+use Rattle.model.specs.Tables.{scratch_size}
+use Rattle.delivery.proofs.Named.{listed_taken, named_taken}
+use Rattle.delivery.proofs.ApplyAnswer.{cleared-all, applied_with_room, applied_without_room}
 use Rattle.delivery.proofs.apply.Goals as goal
 
-pub returns-then-scratch-lt-SCRATCH : goal.returns-then-scratch-lt-SCRATCH
-returns-then-scratch-lt-SCRATCH c = applied_without_room _ _ _ c.if-scratch-lt-SCRATCH.true
+pub returns-in_default : goal.returns-in_default
+returns-in_default c = applied_without_room _ _ _ c.in_default.ensures.cases
+
+pub set_of-members-requires : goal.set_of-members-requires
+set_of-members-requires c = listed_taken _ _ c.settle-count.ensures.listed
 
 pub returns : goal.returns
 returns c =
-    applied_with_room _ _ _ _ _ _ c.if-scratch-lt-SCRATCH.false (c.set_of-members.ensures ∙ c.settle-count.ensures.1.set)
-    (kept_again _ _ _ c.divide-start.ensures.0 c.settle-count.ensures.0) c.clear.ensures
+    applied_with_room _ _ _ _ _ c.in-Some.ensures.cases.enough
+    (c.set_of-members.ensures ∙ named_taken _ _ c.settle-count.ensures.listed ∙ c.settle-count.ensures.set)
+    (cleared-all _ _ _ scratch_size (omega (arith, c.in-Some.ensures.cases.enough)) c.settle-count.array_long (c.fill.ensures.after (λ y e. e)))

@@ -1,16 +1,15 @@
 -- `settle` ends in the set applied: the loops of line 16 are followed comparison by comparison.
-use Rattle.std.proofs.Common.{◌≡◌, ◌≤◌, leb, length, ap, ap₂, sym, ◌∙◌, arith}
+use Rattle.std.proofs.Common.{◌≡◌, leb, ap, ap₂, sym, ◌∙◌, arith}
 use borrow.Author.Tests.{lt-leb}
-use Rattle.model.specs.Tables.{scratch_size, entry}
+use Rattle.model.specs.Tables.{entry}
 use Rattle.model.specs.Delivery.{goes_before}
 use Rattle.model.specs.Largest.{precedes}
-use Rattle.delivery.specs.Apply.{Kept, front, back}
-use Rattle.delivery.proofs.Division.{kept_removed}
+use Rattle.delivery.specs.Apply.{front, back}
 use Rattle.delivery.proofs.LargestByRemoval.{member_below, other_below, removing_remove, removing_end}
 use Rattle.delivery.proofs.settle.Goals as goal
 
-pub bounds-pending-scratch : goal.bounds-pending-scratch
-bounds-pending-scratch c = other_below _ _ _ _ _ _ _ c.again.invariant.1 _ c.again-test.true
+pub bounds-pending-slots : goal.bounds-pending-slots
+bounds-pending-slots c = other_below _ _ _ _ _ _ _ c.again.invariant _ c.again-test.true
 
 pub bounds-pending-s : goal.bounds-pending-s
 bounds-pending-s c = member_below _ _ _ _ _ _ _ c.loop-place.invariant.4 _ c.loop-place-test.true
@@ -19,19 +18,12 @@ bounds-pending-s c = member_below _ _ _ _ _ _ _ c.loop-place.invariant.4 _ c.loo
 pub again-preserved-then-goes_before-m : goal.again-preserved-then-goes_before-m
 again-preserved-then-goes_before-m c =
     let i = c.loop-place.invariant in
-    let s = c.loop-place.scratch in
-    let v = i.4 in
-    let kept : Kept c.args.scratch.now s = rw i.0 c.again.invariant.0 in
-    let room : scratch_size ≤ length s = omega (arith, kept.size) in
-    let member = entry c.args.pending (front s c.loop-place.place) in
+    let s = c.loop-place.slots in
+    let member = entry c.args.pending.now (front s c.loop-place.place) in
     let compared : leb c.majority-m.result c.goes_before.result
-    ≡ precedes c.args.n c.args.pending (front s c.loop-place.place) (back s c.again.taken) =
-    ap₂ leb c.majority-m.ensures (c.goes_before.ensures ∙ ap (goes_before c.args.n member) i.3) in (
-      kept_removed _ _ _ _ _ _ (omega (arith, v.few)) kept,
-      removing_remove _ _ _ _ _ _ _ v room (omega arith) c.loop-place-test.true (sym compared ∙ lt-leb _ _ c.if-goes_before-m.true),
-    )
+    ≡ precedes c.args.n c.args.pending.now (front s c.loop-place.place) (back s c.again.taken) =
+    ap₂ leb c.majority-m.ensures (c.goes_before.ensures ∙ ap (goes_before c.args.n member) i.3) in
+    removing_remove _ _ _ _ _ _ _ i.4 (omega arith) c.loop-place-test.true (sym compared ∙ lt-leb _ _ c.if-goes_before-m.true)
 
 pub returns : goal.returns
-returns c =
-    let i = c.again.invariant in
-    (i.0, removing_end _ _ _ _ _ _ _ i.1 (omega (arith, i.0.size)) c.again-test.false)
+returns c = removing_end _ _ _ _ _ _ _ c.again.invariant c.again-test.false

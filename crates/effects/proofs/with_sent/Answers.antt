@@ -4,5 +4,5 @@ use Rattle.effects.proofs.with_sent.Goals as goal
 
 pub returns : goal.returns
 returns c = record {
-  added = λ t em q e. sent_added t _ _ q _ em _ c.at_most-slot.ensures _ _ (c.sent_message.ensures.sent t em q e);
+  added = λ t em q e. sent_added t _ _ q _ em _ c.min-slot.ensures _ _ (c.sent_message.ensures.sent t em q e);
 }

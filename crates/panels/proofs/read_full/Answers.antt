@@ -6,7 +6,7 @@ use Rattle.std.proofs.lemmas.Slice.{take-put_mid_below}
 use Rattle.std.proofs.KnownBytes.{Consumes-trans, Consumes-kept}
 use borrow.Rule.Slice.PartMut.{put_mid, post_of}
 use Rattle.panels.proofs.read_full.Goals as goal
-use Rattle.panels.proofs.read_full.Goals.{in-Ok, in-Err+else-ne}
+use Rattle.panels.proofs.read_full.Goals.{in-Ok, in-Err}
 
 -- n elements of a part that was written from place a on, and all that stand before it
 take-written : (a k n : ℕ) (xs ys : List ℕ) → a ≤ length xs → n ≤ length ys → take (a + n) (put_mid a k xs ys) ≡ take a xs ++ take n ys
@@ -25,7 +25,7 @@ loop-preserved g c =
         search rules,
         rw (w.done-is, take-written _ _ _ c.loop.buffer part within w.in-Ok.ensures.bound.0) (Consumes-trans _ _ _ _ _ c.loop.invariant.2 w.in-Ok.ensures.bytes.0),
       )
-      | in-Err+else-ne w ↦ (
+      | in-Err w ↦ (
         search rules,
         search rules,
         rw (w.done-is, take-put_mid_below _ _ c.loop.buffer part _ (le_refl _) within) (Consumes-kept _ _ _ _ c.loop.invariant.2 w.in-Err.ensures.bytes),

@@ -1,24 +1,21 @@
--- The greatest number, turn by turn.
-use Rattle.std.proofs.Common.{sym, arith}
-use borrow.Author.Tests.{eq-eqb, ne_eqb}
-use Rattle.lists.proofs.Tests.{cond_true, cond_false}
-use Rattle.lists.proofs.Loops.{greatest-start, greatest_turn, greatest_end}
-use Rattle.model.specs.Tables.{message_in}
-use Rattle.model.specs.Events.{number_of}
-use Rattle.model.specs.Questions.{latest}
+-- The greatest number, as the definition has it.
+use Rattle.std.proofs.Common.{rules, tests, ap, ◌∙◌, take, min, eqb, unwrap_or}
+use Rattle.std.proofs.lemmas.Iterator.{YieldsList-from_slice, YieldsList-from_map}
+use Rattle.std.proofs.lemmas.Iterator.Consumers.{YieldsList-at, YieldsList-from_filter, reduce_from_yields_List}
+use Rattle.std.proofs.lemmas.List.Folds.{max_of_map}
+use Rattle.std.specs.List.{filter}
+use Rattle.std.specs.Ordering.{max_by_ordering, nat_cmp}
+use Rattle.model.specs.Tables.{capacity}
+use Rattle.model.specs.Handed.{all_of}
+use Rattle.model.specs.declared.Message.{Message}
+use Rattle.questions.proofs.Messages.{latest_sent}
 use Rattle.questions.proofs.latest.Goals as goal
 
-pub loop-s-init : goal.loop-s-init
-loop-s-init c = greatest-start _
-
-pub loop-s-preserved-then-m-c : goal.loop-s-preserved-then-m-c
-unfolding number_of
-loop-s-preserved-then-m-c c = greatest_turn _ _ _ 0 _ c.loop-s.invariant (sym (cond_false _ _ (ne_eqb _ _ c.if-m-c.true))) (omega arith)
-
-pub loop-s-preserved : goal.loop-s-preserved
-unfolding number_of
-loop-s-preserved c = greatest_turn _ _ _ _ _ c.loop-s.invariant (sym (cond_true _ _ (eq-eqb _ _ c.if-m-c.false))) c.greater-latest.ensures
-
 pub returns : goal.returns
-unfolding latest message_in
-returns c = greatest_end _ _ _ _ (omega arith) c.loop-s.invariant
+returns c =
+    let own = λ (m : Message). eqb m.sender c.args.c in
+    let number = λ (m : Message). m.number.0 in
+    c.unwrap_or.ensures
+    ∙ ap (λ o. unwrap_or o 0) (reduce_from_yields_List (λ p z. max_by_ordering (nat_cmp p z) p z) _ _ c.max.ensures.ran
+    (YieldsList-from_map _ number (YieldsList-at c.map.ensures.source (YieldsList-from_filter _ own (YieldsList-at c.filter.ensures.source (YieldsList-from_slice (take (min c.args.messages.count capacity) c.args.messages.slots.now) cc)) c.filter.ensures.closure (λ x r q k. search (rules, tests)))) c.map.ensures.closure (λ x r q k. search rules)))
+    ∙ max_of_map number (filter own (take (min c.args.messages.count capacity) c.args.messages.slots.now)) ∙ latest_sent (all_of c.args.messages) c.sent.ensures.whole c.args.c

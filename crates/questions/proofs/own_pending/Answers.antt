@@ -1,17 +1,15 @@
--- What is found, or that nothing is, as the definition has it.
-use Rattle.std.proofs.Common.{arith}
-use Rattle.lists.proofs.Clipped.{below_past, any_found, any_none}
-use Rattle.model.specs.Tables.{capacity, message_in}
-use Rattle.model.specs.Questions.{own_pending}
-use Rattle.questions.proofs.Controllers.{own_past}
+-- What the search finds, as the definition has it.
+use Rattle.std.proofs.Common.{rules, tests, ◌∙◌, take, min}
+use Rattle.std.proofs.lemmas.Iterator.{YieldsList-from_slice, YieldsList-from_zip}
+use Rattle.std.proofs.lemmas.Iterator.Search.{any_from_yields_List}
+use Rattle.model.specs.Tables.{capacity}
+use Rattle.model.specs.Handed.{all_of}
+use Rattle.questions.proofs.Messages.{own_sent}
 use Rattle.questions.proofs.own_pending.Goals as goal
 
-pub returns-then-held-sender : goal.returns-then-held-sender
-unfolding own_pending message_in
-returns-then-held-sender c = any_found _ _ c.loop-s.s (omega arith) c.if-held-sender.true
-
 pub returns : goal.returns
-unfolding own_pending message_in
 returns c =
-    any_none _ _
-    (below_past _ _ capacity _ c.at_most-s-end.ensures (λ j h. c.loop-s.invariant j (omega arith)) (λ j h. own_past c.args.pending (omega arith) j h _))
+    any_from_yields_List _ c.any.new.self _ _ c.any.ensures.ran
+    (YieldsList-from_zip (YieldsList-from_slice (take (min c.args.messages.count capacity) c.args.messages.slots.now) cc) (YieldsList-from_slice c.args.pending.now cc))
+    (λ x b q k. search (rules, tests))
+    ∙ own_sent (all_of c.args.messages) c.sent.ensures.whole c.args.pending.now c.told-pending c.args.c

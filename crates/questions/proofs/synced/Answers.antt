@@ -1,14 +1,17 @@
--- What is found, or that nothing is, as the definition has it.
-use Rattle.std.proofs.Common.{arith}
-use Rattle.lists.proofs.Clipped.{any_found, any_none}
-use Rattle.model.specs.Tables.{message_in}
-use Rattle.model.specs.Questions.{synced}
+-- What the search finds, as the definition has it.
+use Rattle.std.proofs.Common.{rules, tests, ◌∙◌, take, min, ◌&&◌, ℕ}
+use Rattle.std.proofs.lemmas.Iterator.{YieldsList-from_slice, YieldsList-from_zip}
+use Rattle.std.proofs.lemmas.Iterator.Search.{any_from_yields_List}
+use Rattle.model.specs.Tables.{capacity, yes?}
+use Rattle.model.specs.Handed.{all_of}
+use Rattle.model.specs.Questions.{is_sync, latest}
+use Rattle.model.specs.declared.Message.{Message}
+use Rattle.questions.proofs.Messages.{sync_sent}
 use Rattle.questions.proofs.synced.Goals as goal
 
-pub returns-then-applied-s : goal.returns-then-applied-s
-unfolding synced message_in
-returns-then-applied-s c = rw (← c.latest-last.ensures) (any_found _ _ c.loop-s.s (omega arith) c.if-applied-s.true)
-
 pub returns : goal.returns
-unfolding synced message_in
-returns c = rw (← c.latest-last.ensures) (any_none _ _ (λ j h. c.loop-s.invariant j (omega arith)))
+returns c =
+    any_from_yields_List (λ (m : Message × ℕ). yes? m.1 && is_sync c.args.c (latest (all_of c.args.messages) c.args.c) m.0) c.any.new.self _ _ c.any.ensures.ran
+    (YieldsList-from_zip (YieldsList-from_slice (take (min c.args.messages.count capacity) c.args.messages.slots.now) cc) (YieldsList-from_slice c.args.applied.now cc))
+    (λ x b q k. let e = c.latest-last.ensures in search (rules, tests))
+    ∙ sync_sent (all_of c.args.messages) c.sent.ensures.whole c.args.applied.now c.told-applied c.args.c

@@ -1,16 +1,17 @@
--- The sum of the read positions, turn by turn.
-use Rattle.std.proofs.Common.{◌≡◌, refl, arith}
-use Rattle.lists.proofs.Clipped.{sum-start, sum_more}
-use Rattle.previews.specs.Previews.{reads_by}
+-- The sum of the first n read positions, which is far below the greatest number.
+use Rattle.std.proofs.Common.{take, ◌∙◌, arith}
+use Rattle.std.proofs.lemmas.Iterator.{YieldsList-from_slice}
+use Rattle.std.proofs.lemmas.Iterator.Consumers.{fits_from_yields_list, sum_from_yields_List}
+use Rattle.supervisor.proofs.ActCounts.{read_sum, reads_few}
 use Rattle.supervisor.proofs.reads_by.Goals as goal
 
-pub loop-o-init : goal.loop-o-init
-loop-o-init c = (omega arith, sum-start _)
-
-pub loop-o-preserved : goal.loop-o-preserved
-loop-o-preserved c =
-    (omega (arith, c.requires.1 c.loop-o.o c.loop-o-test.true), sum_more _ _ _ _ c.loop-o.invariant.1 refl)
+pub sum-requires-clause-fits : goal.sum-requires-clause-fits
+sum-requires-clause-fits c =
+    let e = read_sum c.args.n c.args.read.now c.requires.0 c.told-read in
+    let l = reads_few c.args.n c.args.read.now c.requires.0 c.requires.1 in
+    fits_from_yields_list _ _ (YieldsList-from_slice (take c.args.n c.args.read.now) cc) (omega (arith, e, l))
 
 pub returns : goal.returns
-unfolding reads_by
-returns c = let e : c.loop-o.o ≡ c.args.n = omega arith in rw (← e) c.loop-o.invariant.1
+returns c =
+    sum_from_yields_List _ _ c.sum.ensures.ran (YieldsList-from_slice (take c.args.n c.args.read.now) cc)
+    ∙ read_sum c.args.n c.args.read.now c.requires.0 c.told-read

@@ -1,23 +1,30 @@
--- `classes` adds up both parts of the amounts of each class over the slots; past the 64th none is applied.
-use Rattle.std.proofs.Common.{◌≡◌, length, arith}
-use Rattle.model.specs.Tables.{class_count}
-use Rattle.totals.specs.Shown.{largest_sum}
-use Rattle.totals.proofs.SumsSoFar.{EachAtMost, amount_stored, amount_left, each_none, each_more, each_room, each_all}
+-- `classes` adds up both parts of the amounts of each class; a class above the last has no sums, and past the 64th slot none is applied.
+use Rattle.std.proofs.Common.{rules, arith, length, refl}
+use Rattle.model.proofs.Passes.{Turn, turn, end}
+use Rattle.totals.proofs.SumsSoFar.{each_none, each_past, each_more, each_on, each_all}
 use Rattle.totals.proofs.classes.Goals as goal
+use Rattle.totals.proofs.classes.Goals.{else-flag-ne0-via-then-flag-ne0+else-class-lt-CLASSES, else-flag-ne0-via-else-flag-ne0}
 
-pub loop-s-init : goal.loop-s-init
-loop-s-init c = rw c.zero-sums.ensures (each_none _ _)
+pub loop-m-init : goal.loop-m-init
+loop-m-init c = rw c.zero-classes.ensures (each_none _ _)
 
-pub loop-s-preserved-then-class-ge-CLASSES : goal.loop-s-preserved-then-class-ge-CLASSES
-loop-s-preserved-then-class-ge-CLASSES c =
-    let room : (length c.loop-s.sums ≡ class_count) × EachAtMost largest_sum c.loop-s.sums = each_room _ _ c.loop-s.s _ (omega arith) c.loop-s.invariant in
-    each_more _ _ _ _ _ _ c.loop-s.invariant c.parts_of-more.ensures.0 c.parts_of-more.ensures.1 (amount_left _ _ _ room.0 c.if-class-ge-CLASSES.true)
+pub loop-m-preserved-then-class-lt-CLASSES : goal.loop-m-preserved-then-class-lt-CLASSES
+loop-m-preserved-then-class-lt-CLASSES c =
+    each_more _ _ _ _ _ _ c.from-class.result c.loop-m.classes _ c.add.new.sums
+    (turn c.args.messages.count _ _ c.sent.ensures.whole c.told-applied _ _ _ c.next.new.self _ (search rules) (search rules) c.loop-m.yielded_by c.next.ensures.steps _ c.in-Some.is)
+    c.if-flag-ne0.true c.loop-m.invariant c.from-class.ensures (omega (arith, c.loop-m.invariant.long)) c.add.ensures.added c.add.ensures.small refl
 
-pub loop-s-preserved : goal.loop-s-preserved
-loop-s-preserved c =
-    let room : (length c.loop-s.sums ≡ class_count) × EachAtMost largest_sum c.loop-s.sums = each_room _ _ c.loop-s.s _ (omega arith) c.loop-s.invariant in
-    each_more _ _ _ _ _ _ c.loop-s.invariant c.parts_of-more.ensures.0 c.parts_of-more.ensures.1
-    (rw c.plus.ensures (amount_stored _ _ _ room.0 (omega arith)))
+pub loop-m-preserved : goal.loop-m-preserved
+loop-m-preserved c =
+    let t : Turn c.args.messages.slots.now c.args.applied.now (length c.loop-m.yielded) _ c.in-Some.m.now c.in-Some.flag.now =
+    turn c.args.messages.count _ _ c.sent.ensures.whole c.told-applied _ _ _ c.next.new.self _ (search rules) (search rules) c.loop-m.yielded_by c.next.ensures.steps _ c.in-Some.is in
+    elim c.else-flag-ne0.branch [
+      | else-flag-ne0-via-then-flag-ne0+else-class-lt-CLASSES w ↦ each_past _ _ _ _ _ _ c.from-class.result _ t w.if-flag-ne0.true c.loop-m.invariant c.from-class.ensures (omega (arith, c.loop-m.invariant.long, w.if-class-lt-CLASSES.false))
+      | else-flag-ne0-via-else-flag-ne0 w ↦ each_on _ _ _ _ _ _ _ t w.if-flag-ne0.false c.loop-m.invariant
+    ]
 
 pub returns : goal.returns
-returns c = each_all _ _ _ c.loop-s.s _ (omega arith) (omega arith) c.loop-s.invariant
+returns c =
+    each_all _ _ c.told-applied _ _ _
+    (end c.args.messages.count _ _ c.sent.ensures.whole c.told-applied _ _ _ c.next.new.self _ (search rules) (search rules) c.loop-m.yielded_by c.next.ensures.steps c.in-None.is)
+    c.loop-m.invariant

@@ -1,7 +1,7 @@
--- `classes` adds up both parts of the amounts of each class over the slots; past the 64th none is applied. The loop's invariant: the
--- sums so far, and a bound on each.
-use Rattle.totals.proofs.SumsSoFar.{EachPassed}
+-- `classes` adds up both parts of the amounts of each class. The loop's invariant: the sums so far, and how large they are.
+use Rattle.std.proofs.Common.{length}
+use Rattle.totals.proofs.SumsSoFar.{EachClassed}
 use Rattle.totals.proofs.classes.Given as goal
 
-abbrev pub invariant-loop-s : goal.invariant-loop-s
-invariant-loop-s l = EachPassed l.messages l.applied l.s l.sums
+abbrev pub invariant-loop-m : goal.invariant-loop-m
+invariant-loop-m l = EachClassed l.messages.slots.now l.applied (length l.yielded) l.classes

@@ -1,17 +1,13 @@
 -- `finishes` searches the members for a sync of c; past the 64th slot there are none.
-use Rattle.std.proofs.Common.{arith}
-use Rattle.lists.proofs.Clipped.{below_past, any_found, any_none}
-use Rattle.model.specs.Tables.{capacity, message_in}
-use Rattle.model.specs.Events.{finishes}
-use Rattle.totals.proofs.PastTheArray.{member_past}
+use Rattle.std.proofs.Common.{rules, tests, ◌∙◌}
+use Rattle.std.proofs.lemmas.Iterator.{YieldsList-from_slice, YieldsList-from_zip}
+use Rattle.std.proofs.lemmas.Iterator.Search.{any_from_yields_List}
+use Rattle.totals.proofs.FinishedSync.{asked, finishes_any}
 use Rattle.totals.proofs.finishes.Goals as goal
 
-pub returns-then-members-s : goal.returns-then-members-s
-unfolding finishes message_in
-returns-then-members-s c = any_found _ _ c.loop-s.s (omega arith) c.if-members-s.true
-
 pub returns : goal.returns
-unfolding finishes message_in
 returns c =
-    any_none _ _
-    (below_past _ _ capacity _ c.at_most-s-end.ensures (λ j h. c.loop-s.invariant j (omega arith)) (λ j h. member_past c.args.members (omega arith) j h _))
+    any_from_yields_List (asked c.args.c) c.any.new.self _ _ c.any.ensures.ran
+    (YieldsList-from_zip (YieldsList-from_slice c.sent.result.now cc) (YieldsList-from_slice c.args.members.now cc))
+    (λ x b q k. search (rules, tests))
+    ∙ rw c.sent.ensures.sent (finishes_any c.args.messages.count c.args.c c.args.messages.slots.now c.args.members.now c.sent.ensures.whole c.told-members)

@@ -1,9 +1,7 @@
--- `registers` has of each register the write with the greatest stamp over the slots; past the 64th none is applied. The loop's invariant:
--- the registers so far.
-use Rattle.std.proofs.Common.{◌≡◌}
-use Rattle.model.specs.Tables.{first_of}
-use Rattle.model.specs.Registers.{registers}
+-- `registers` has of each register the write with the greatest stamp. The loop's invariant: the registers so far.
+use Rattle.std.proofs.Common.{length}
+use Rattle.totals.proofs.RegistersSoFar.{EachHeld}
 use Rattle.totals.proofs.registers.Given as goal
 
-abbrev pub invariant-loop-s : goal.invariant-loop-s
-invariant-loop-s l = l.registers ≡ registers (first_of l.s l.messages) l.applied
+abbrev pub invariant-loop-m : goal.invariant-loop-m
+invariant-loop-m l = EachHeld l.messages.slots.now l.applied (length l.yielded) l.registers

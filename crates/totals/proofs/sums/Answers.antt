@@ -1,16 +1,32 @@
--- `sums` adds up both parts of the amounts over the slots; past the 64th none is applied.
-use Rattle.std.proofs.Common.{arith}
-use Rattle.totals.proofs.SumsSoFar.{passed_none, passed_more, passed_room, passed_all}
+-- `sums` adds up both parts of the amounts of the messages that were applied; past the 64th slot none is.
+use Rattle.std.proofs.Common.{rules}
+use Rattle.model.proofs.Passes.{turn, end}
+use Rattle.totals.proofs.SumsSoFar.{summed_none, summed_room, summed_more, summed_on, summed_all}
 use Rattle.totals.proofs.sums.Goals as goal
 
-pub loop-s-init : goal.loop-s-init
-loop-s-init c = rw c.zero-sums.ensures (passed_none _ _)
+pub loop-m-init : goal.loop-m-init
+loop-m-init c = rw c.zero-sums.ensures (summed_none _ _)
 
-pub plus-sums-requires : goal.plus-sums-requires
-plus-sums-requires c = (passed_room _ _ c.loop-s.s _ (omega arith) c.loop-s.invariant, c.parts_of.ensures.1)
+pub add-requires : goal.add-requires
+add-requires c =
+    summed_room _ _ _ _ _ _ _
+    (turn c.args.messages.count _ _ c.sent.ensures.whole c.told-applied _ _ _ c.next.new.self _ (search rules) (search rules) c.loop-m.yielded_by c.next.ensures.steps _ c.in-Some.is)
+    c.loop-m.invariant
 
-pub loop-s-preserved : goal.loop-s-preserved
-loop-s-preserved c = passed_more _ _ _ _ _ _ c.loop-s.invariant c.parts_of.ensures.0 c.parts_of.ensures.1 c.plus-sums.ensures
+pub loop-m-preserved-then-flag-ne0 : goal.loop-m-preserved-then-flag-ne0
+loop-m-preserved-then-flag-ne0 c =
+    summed_more _ _ _ _ _ _ _ _
+    (turn c.args.messages.count _ _ c.sent.ensures.whole c.told-applied _ _ _ c.next.new.self _ (search rules) (search rules) c.loop-m.yielded_by c.next.ensures.steps _ c.in-Some.is)
+    c.if-flag-ne0.true c.loop-m.invariant c.add.ensures.added c.add.ensures.small
+
+pub loop-m-preserved : goal.loop-m-preserved
+loop-m-preserved c =
+    summed_on _ _ _ _ _ _ _
+    (turn c.args.messages.count _ _ c.sent.ensures.whole c.told-applied _ _ _ c.next.new.self _ (search rules) (search rules) c.loop-m.yielded_by c.next.ensures.steps _ c.in-Some.is)
+    c.if-flag-ne0.false c.loop-m.invariant
 
 pub returns : goal.returns
-returns c = passed_all _ _ _ c.loop-s.s _ (omega arith) (omega arith) c.loop-s.invariant
+returns c =
+    summed_all _ _ c.told-applied _ _ _
+    (end c.args.messages.count _ _ c.sent.ensures.whole c.told-applied _ _ _ c.next.new.self _ (search rules) (search rules) c.loop-m.yielded_by c.next.ensures.steps c.in-None.is)
+    c.loop-m.invariant

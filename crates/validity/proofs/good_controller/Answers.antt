@@ -1,19 +1,17 @@
--- `good_controller` tests one controller: a log that is too long or bad ends the test, and then all that was read of it is joined.
-use Rattle.std.proofs.Common.{sym, ◌∙◌}
-use borrow.Author.Tests.{not-true, not-false}
-use Rattle.validity.proofs.ControllerTests.{long_log, bad_log, asked_is}
+-- `good_controller` tests one controller: a log or a buffer that is not good ends the test, and then all that was read of it is joined.
+use Rattle.validity.proofs.ControllerTests.{bad_log, bad_buffer, asked_is}
 use Rattle.validity.proofs.good_controller.Goals as goal
 
-pub returns-then-length-gt-MESSAGES : goal.returns-then-length-gt-MESSAGES
-returns-then-length-gt-MESSAGES c = long_log _ _ _ _ _ _ _ _ c.if-length-gt-MESSAGES.true
+pub returns-in_default : goal.returns-in_default
+returns-in_default c = bad_log _ _ _ _ _ _ _ _ c.in_default.ensures
 
-pub returns-then-not-entries : goal.returns-then-not-entries
-returns-then-not-entries c =
-    bad_log _ _ _ _ _ _ _ _ c.if-length-gt-MESSAGES.false (sym c.read_log-entries.ensures.good ∙ not-true _ c.if-not-entries.true)
+pub returns-in_default-read_buffer : goal.returns-in_default-read_buffer
+returns-in_default-read_buffer c =
+    bad_buffer _ _ _ _ _ _ _ _ c.args.run.few c.args.run.fits c.in-Some.ensures.0 c.in_default-read_buffer.ensures
 
 pub returns : goal.returns
 returns c =
-    asked_is _ _ _ _ _ _ _ _ c.requires.0 c.requires.1 c.if-length-gt-MESSAGES.false
-    _ c.read_log-entries.ensures (not-false _ c.if-not-entries.false)
-    _ c.read_buffer-buffer.ensures _ c.greatest_numbers-greatest.ensures
-    _ _ _ c.good_slots-slots.ensures c.good_highest.ensures c.requires.4 c.own_kept-kept.ensures
+    let log = c.in-Some.ensures in
+    let buffer = c.in-Some-read_buffer.ensures in
+    asked_is _ _ _ _ _ _ _ _ c.args.run.few c.args.run.fits log.0 _ _ buffer.1 log.1 _ c.greatest_numbers-greatest.ensures _ _ _ _
+    buffer.0 c.is_running-running.ensures c.good_slots-slots.ensures c.good_highest.ensures c.args.writes.now.inside c.own_kept-kept.ensures

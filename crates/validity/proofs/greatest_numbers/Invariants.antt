@@ -1,8 +1,9 @@
--- `greatest_numbers` finds the greatest number of each sender in one pass: so far among the first s names.
-use Rattle.std.proofs.Common.{◌≡◌}
+-- `greatest_numbers` finds the greatest number of each sender in one pass: so far among the messages yielded.
+use Rattle.std.proofs.Common.{◌≡◌, length}
 use Rattle.lists.specs.Build.{tabulate}
-use Rattle.validity.specs.Flags.{greatest_of, sender_count}
+use Rattle.model.specs.Tables.{seats}
+use Rattle.validity.proofs.GreatestNumbers.{greatest_so_far}
 use Rattle.validity.proofs.greatest_numbers.Given as goal
 
-abbrev pub invariant-loop-s : goal.invariant-loop-s
-invariant-loop-s l = l.greatest ≡ tabulate sender_count (greatest_of l.s l.names l.flags)
+abbrev pub invariant-loop-m : goal.invariant-loop-m
+invariant-loop-m l = l.greatest ≡ tabulate seats (greatest_so_far l.run.sent.now l.flags (length l.yielded))

@@ -1,6 +1,7 @@
--- `read_log` reads a log once: the first k entries were read.
+-- `read_log` reads a log once: the entries so far were read.
+use Rattle.std.proofs.Common.{length}
 use Rattle.validity.proofs.LogEntries.{EntriesRead}
 use Rattle.validity.proofs.read_log.Given as goal
 
-abbrev pub invariant-loop-k : goal.invariant-loop-k
-invariant-loop-k l = EntriesRead l.count l.log l.k l.logged
+abbrev pub invariant-loop-entry : goal.invariant-loop-entry
+invariant-loop-entry l = EntriesRead (length l.run.sent.now) l.c l.entry-index l.logged

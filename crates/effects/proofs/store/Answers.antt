@@ -1,0 +1,26 @@
+-- `stored` is the table after the event: its subject is stored, and a send's message.
+use Rattle.std.proofs.Common.{◌-◌, refl, ap, ◌∙◌}
+use Rattle.model.specs.Events.{subject}
+use Rattle.model.specs.declared.Event.{Event}
+use Rattle.effects.specs.Parties.{seat_of}
+use Rattle.effects.proofs.Room.{subject_seated}
+use Rattle.effects.proofs.Seats.{seat_is}
+use Rattle.effects.proofs.StoredEffect.{stored_send, stored_else, other_kind}
+use Rattle.effects.proofs.store.Goals as goal
+
+pub returns-in-Send : goal.returns-in-Send
+unfolding subject
+returns-in-Send c = record {
+  stored = λ l.
+      let e = c.in-Send.is in
+      let index = seat_is _ _ (c.seat.ensures ∙ ap seat_of c.subject.ensures) (subject_seated _ _ l.0) in
+      let m = rw e at l in
+      rw e (stored_send _ _ _ _ _ m.1 (index ∙ ap (λ (x : Event). subject x - 1) e) _ ((rw c.sent.ensures at c.with_sent-sent.ensures).added _ refl m.0 m.1));
+}
+
+pub returns-in_default : goal.returns-in_default
+returns-in_default c = record {
+  stored = λ l.
+      let index = seat_is _ _ (c.seat.ensures ∙ ap seat_of c.subject.ensures) (subject_seated _ _ l.0) in
+      stored_else _ _ _ _ (other_kind _ c.in_default.not-Send) index l.1;
+}
