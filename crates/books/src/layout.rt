@@ -114,7 +114,7 @@ impl<'a> Iterator for Sets<'a> {
 impl<'a> Sets<'a> {
     // They are read if all of them are there, each with a message.
     #[tactic(auto, using(crate::proofs::Laid::set_bad, crate::proofs::Laid::set_good, crate::proofs::Laid::good_none, crate::proofs::Laid::good_short, crate::proofs::Laid::good_laid))]
-    pub fn read(bytes: &'a [u8]) -> Option<Self>
+    pub(crate) fn read(bytes: &'a [u8]) -> Option<Self>
         requires { length bytes.now ≤ longest_file }
         ensures { MatchOption result (good_book bytes.now ≡ false) (λ b. (good_book bytes.now ≡ true) × (b.bytes.now ≡ bytes.now)) }
     {
@@ -161,7 +161,7 @@ impl<'a> Books<'a> {
 
     // They are read if all of them are there, as many as there can be panels.
     #[tactic(auto, using(crate::proofs::Laid::book_bad, crate::proofs::Laid::book_good, crate::proofs::Laid::pass_none, crate::proofs::Laid::pass_short, crate::proofs::Laid::pass_laid, crate::proofs::Laid::panels_refused, crate::proofs::Laid::panels_read, crate::proofs::Laid::panels_none, crate::proofs::Laid::panels_many))]
-    pub fn read(bytes: &'a [u8]) -> Option<Self>
+    pub(crate) fn read(bytes: &'a [u8]) -> Option<Self>
         requires { length bytes.now ≤ longest_file }
         ensures { MatchOption result (good_panels bytes.now ≡ false) (λ b. (good_panels bytes.now ≡ true) × (b.bytes.now ≡ bytes.now)) }
     {
