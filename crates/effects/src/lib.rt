@@ -382,13 +382,14 @@ pub fn with_sent(messages: Messages, c: &Controller, sender: u8, payload: Payloa
 pub fn store(t: &mut Table, e: Event, c: Controller)
     ensures { Stores t.old e c t.new }
 {
-    t.controllers[seat(subject(e))] = c;
+    let i = seat(subject(e));
     if let Event::Send { sender, payload } = e {
         let sent = with_sent(t.sent(), &c, sender, payload);
         let messages = sent.messages;
         t.count = sent.count;
         t.messages = messages;
     }
+    t.controllers[i] = c;
 }
 
 // The table after an event that leaves its subject as c. By value, as the by-value event call has it: a rule of the project.

@@ -134,7 +134,7 @@ fn refused(t: Table, refusal: Refusal) -> Committed
 
 // Carries out the handover to the receiver from the owner's log, if the receiver has acted as often as this. The table goes by value: a
 // rule of the project.
-pub fn commit(t: Table, pair: Pair, acts: usize, scratch: &mut [u8]) -> Committed
+pub fn commit(mut t: Table, pair: Pair, acts: usize, scratch: &mut [u8]) -> Committed
     ensures { Commits t pair acts scratch.old result scratch.new }
 {
     if let Err(refusal) = asked(&t, pair, Some(acts), scratch.len()) {
@@ -142,8 +142,9 @@ pub fn commit(t: Table, pair: Pair, acts: usize, scratch: &mut [u8]) -> Committe
     }
     let e = effects::handover(pair);
     let done = effects::act(&t, e, scratch);
+    effects::store(&mut t, e, done.controller);
     Committed {
         answer: done.answer,
-        table: effects::stored(t, e, done.controller),
+        table: t,
     }
 }

@@ -7,20 +7,18 @@ use Rattle.effects.proofs.Room.{subject_seated}
 use Rattle.effects.proofs.Seats.{seat_is}
 use Rattle.effects.proofs.StoredEffect.{stored_send, stored_else, other_kind}
 use Rattle.effects.proofs.store.Goals as goal
+use Rattle.effects.proofs.store.Goals.{in-Send, in_default}
 
-pub returns-in-Send : goal.returns-in-Send
+pub returns : goal.returns
 unfolding subject
-returns-in-Send c = record {
+returns c = record {
   stored = λ l.
-      let e = c.in-Send.is in
-      let index = seat_is _ _ (c.seat.ensures ∙ ap seat_of c.subject.ensures) (subject_seated _ _ l.0) in
-      let m = rw e at l in
-      rw e (stored_send _ _ _ _ _ m.1 (index ∙ ap (λ (x : Event). subject x - 1) e) _ ((rw c.sent.ensures at c.with_sent-sent.ensures).added _ refl m.0 m.1));
-}
-
-pub returns-in_default : goal.returns-in_default
-returns-in_default c = record {
-  stored = λ l.
-      let index = seat_is _ _ (c.seat.ensures ∙ ap seat_of c.subject.ensures) (subject_seated _ _ l.0) in
-      stored_else _ _ _ _ (other_kind _ c.in_default.not-Send) index l.1;
+      let index = seat_is _ _ (c.seat-i.ensures ∙ ap seat_of c.subject.ensures) (subject_seated _ _ l.0) in
+      elim c.match-e.branch [
+        | in-Send w ↦
+            let e = w.in-Send.is in
+            let m = rw e at l in
+            rw (w.t-is, e) (stored_send _ _ _ _ _ m.1 (index ∙ ap (λ (x : Event). subject x - 1) e) _ ((rw w.sent.ensures at w.with_sent-sent.ensures).added _ refl m.0 m.1))
+        | in_default w ↦ rw w.t-is (stored_else _ _ _ _ (other_kind _ w.in_default.not-Send) index l.1)
+      ];
 }

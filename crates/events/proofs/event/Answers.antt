@@ -20,7 +20,7 @@ returns-in-Act c =
     let a = allowed _ _ _ z.0 z.1 _ e in
     let f = c.carry_out-done.ensures.effected (allowed_hand _ _ a _ c.in-Act.is _ c.at_hand-p.ensures) (enough _ _ _ z.0 z.1) in
     event_stepped _ _ _ _ _ z.0
-    (step_acted _ _ _ z.1 _ (ap (λ (x : Record). x.used) r) _ e _ _ f _ (c.stored.ensures.stored (a, ap (λ (x : Effect). x.controller) f.effect)))
+    (step_acted _ _ _ z.1 _ (ap (λ (x : Record). x.used) r) _ e _ _ f _ (c.store.ensures.stored (a, ap (λ (x : Effect). x.controller) f.effect)))
 
 pub returns-in-Read : goal.returns-in-Read
 returns-in-Read c =

@@ -10,4 +10,4 @@ returns c =
     let e = c.in_default.ensures.refused in
     let g = commit_granted _ _ c.args.scratch.now _ e in
     let h = c.handover-e.ensures g.receiver g.owner in
-    commit_taken _ _ _ _ e _ _ (rw h at c.act-done.ensures) _ (rw h at c.stored.ensures)
+    commit_taken _ _ _ _ e _ _ (rw h at c.act-done.ensures) _ (rw h at c.store.ensures)
