@@ -1,12 +1,12 @@
 // The record cutter and the decoder: what the bytes of a run file say, before any table is asked.
 #![tactic(auto)]
 
-ghost use Rattle.std.specs.Prelude.{◌≡◌, ◌+◌, ◌<◌, [], ◌∷◌, drop, IfOk};
+ghost use Rattle.std.specs.Prelude.{◌≡◌, ◌+◌, ◌<◌, [], ◌∷◌, drop, IfOk, IfErr};
 ghost use Rattle.model.specs.Kinds.{kind_number};
 ghost use Rattle.model.specs.Records.{byte, word, long, size_of, report_class, reported, decode};
 ghost use Rattle.model.specs.Refusals.{refusal_in};
 ghost use Rattle.model.specs.Questions.{first_no, kind_questions, record_questions};
-ghost use Rattle.records.specs.Cuts.{cut, found, longest_record, record_of};
+ghost use Rattle.records.specs.Cuts.{cut, found, longest_record, record_of, record_refusal};
 
 use model::refusal::Refusal;
 use model::{Command, Event, Kind, Payload, Table};
@@ -16,6 +16,21 @@ use model::{Command, Event, Kind, Payload, Table};
 pub struct Record {
     pub used: usize,
     pub command: Command,
+}
+
+// A record that question 5, 6 or 7 refuses, of which no byte is used: the refusal, and what the record would have asked for.
+#[derive(Clone, Copy)]
+pub struct RefusedRecord {
+    pub refusal: Refusal,
+    pub command: Command,
+}
+
+impl From<RefusedRecord> for Refusal {
+    ghost from_gives = { λ e r. r ≡ e.refusal };
+
+    fn from(refused: RefusedRecord) -> Refusal {
+        refused.refusal
+    }
 }
 
 // A byte; 0 past the end.
@@ -55,12 +70,11 @@ fn size_of_kind(version: usize, kind: Kind) -> usize
     }
 }
 
-// The kind with this number, of a record of this many bytes after its length byte: questions 6 and 7 ask whether there is
-// one, and whether the record has its length.
+// Questions 6 and 7, of a record of this many bytes after its length byte: is there a kind with this number, and is the length that of
+// the kind?
 #[tactic(auto, unfolding(model::specs::Questions::first_no, model::specs::Questions::kind_questions))]
-fn kind_of(version: usize, size: usize, number: u8) -> Result<Kind, Refusal>
-    ensures asked { refusal_in result ≡ first_no (kind_questions version size number) }
-    ensures found { IfOk result (λ kind. kind_number kind ≡ number) }
+fn kind_refusal(version: usize, size: usize, number: u8) -> Result<(), Refusal>
+    ensures { refusal_in result ≡ first_no (kind_questions version size number) }
 {
     if size == 0 {
         return Err(Refusal::Kind);
@@ -69,7 +83,7 @@ fn kind_of(version: usize, size: usize, number: u8) -> Result<Kind, Refusal>
     if size != size_of_kind(version, kind) {
         return Err(Refusal::RecordLength);
     }
-    Ok(kind)
+    Ok(())
 }
 
 // Two bytes, the high one first; past the end a byte is 0, which no method of the library has. (`long_at` likewise: one of both is no
@@ -120,50 +134,57 @@ fn report_of(class: u8, x: u16) -> Payload
     }
 }
 
-// What a record of this kind and of that kind's length asks for.
+// What a record asks for, if it has a kind and that kind's length; what is no kind is taken for a local read.
 #[tactic(auto, unfolding(model::specs::Records::decode))]
-fn decode_record(version: usize, kind: Kind, bytes: &[u8]) -> Command
-    requires { kind_number kind ≡ byte bytes.now 1 }
+fn decode_record(version: usize, bytes: &[u8]) -> Command
     ensures { result ≡ decode version bytes.now }
 {
     let first = byte_at(bytes, 2);
-    match kind {
-        Kind::Report => Command::Act(Event::Send {
+    match Kind::try_from(byte_at(bytes, 1)) {
+        Ok(Kind::Report) => Command::Act(Event::Send {
             sender: first,
             payload: report_of(class_of(version, bytes), word_at(bytes, 3)),
         }),
-        Kind::Sync => Command::Act(Event::Send {
+        Ok(Kind::Sync) => Command::Act(Event::Send {
             sender: first,
             payload: Payload::sync(),
         }),
-        Kind::Handover => Command::Act(Event::Handover {
+        Ok(Kind::Handover) => Command::Act(Event::Handover {
             receiver: first,
             owner: byte_at(bytes, 3),
         }),
-        Kind::Stop => Command::Act(Event::Stop {
+        Ok(Kind::Stop) => Command::Act(Event::Stop {
             controller: first,
             kept: word_at(bytes, 3) as usize,
         }),
-        Kind::Read => Command::Read(first),
-        Kind::Write => Command::Act(Event::Send {
+        Ok(Kind::Write) => Command::Act(Event::Send {
             sender: first,
             payload: Payload::write(byte_at(bytes, 3) as u16, long_at(bytes, 4)),
         }),
+        Ok(Kind::Read) | Err(_) => Command::Read(first),
     }
 }
 
-// Cuts off the record at the head of the bytes, puts questions 5 to 7 to it and decodes it, as files of a version have it.
+// Cuts off the record at the head of the bytes, puts questions 5 to 7 to it and decodes it, as files of a version have it. A record that
+// is refused is decoded too.
 #[tactic(auto, unfolding(model::specs::Questions::first_no, model::specs::Questions::record_questions))]
-pub fn read_record(version: usize, bytes: &[u8]) -> Result<Record, Refusal>
-    ensures asked { refusal_in result ≡ first_no (record_questions version bytes.now) }
+pub fn read_record(version: usize, bytes: &[u8]) -> Result<Record, RefusedRecord>
+    ensures asked { record_refusal result ≡ first_no (record_questions version bytes.now) }
     ensures found { IfOk result (λ r. r ≡ record_of version bytes.now) }
+    ensures refused { IfErr result (λ r. r.command ≡ decode version bytes.now) }
 {
+    let command = decode_record(version, bytes);
     let Some(size) = cut_record(bytes) else {
-        return Err(Refusal::Record);
+        return Err(RefusedRecord {
+            refusal: Refusal::Record,
+            command,
+        });
     };
-    let kind = kind_of(version, size, byte_at(bytes, 1))?;
+    if let Err(refusal) = kind_refusal(version, size, byte_at(bytes, 1)) {
+        return Err(RefusedRecord { refusal, command });
+    }
     Ok(Record {
         used: size + 1,
-        command: decode_record(version, kind, bytes),
+        command,
     })
 }
