@@ -589,7 +589,7 @@ void furnacejade_fresh(size_t version, size_t n, furnacejade_fresh_answer *answe
  * and 17 after 9 in version 2; 11 and 12 to a sync; 13 to a handover; 14 to a stop; 18 to a local read; 19, 11, 12 and 20 to a
  * write. Returns how many bytes are left: the unread rest is that many bytes at the end of bytes. An accepted event leaves the
  * table as the rules say, the first 64 scratch bytes zero and later ones as they were. A refused one leaves table and scratch as
- * they were, and the record in the rest: a loop that goes on must step over it, by 1 + its length byte. Takes 31 KB of stack.
+ * they were, and the record in the rest: a loop that goes on must step over it, by 1 + its length byte. Takes 19 KB of stack.
  *
  *     while (size > 0) {
  *         size_t left = furnacejade_event(table, bytes, size, scratch, sizeof scratch, &answer);
@@ -643,7 +643,7 @@ void furnacejade_ask(const furnacejade_table *t, size_t receiver, size_t owner, 
 /* A commit: the handover to a receiver from the log of an owner, made only if the receiver has acted as often as acts says.
  * It is given what an ask of the same receiver and owner answered as acts. Questions 4, 8, 10, 21, 13 and 15 are put, in this
  * order, 8 to receiver and owner; 21 is no if acts is not the receiver's act count. An accepted commit answers and leaves, table
- * and scratch, what the handover's record does. A refused one leaves both as they were. Takes 31 KB of stack.
+ * and scratch, what the handover's record does. A refused one leaves both as they were. Takes 20 KB of stack.
  *
  * The set applied is the one that the ask showed, whatever other controllers did in between. As long as the receiver has not
  * acted since the ask, the commit is accepted, unless a stop of the owner has cut the entry away, and then 13 refuses it.
