@@ -217,8 +217,8 @@ pub fn sums(t: &Table, c: &Controller) -> Sums
     totals::sums(t.sent(), &c.applied)
 }
 
-// The effect of a command that applies nothing and leaves its subject as c, which is moved in. Whatever is accepted leaves scratch zero: here, or by
-// the delivery rule of a handover.
+// The effect of a command that applies nothing and leaves its subject as c, which is moved in. Whatever is accepted leaves scratch zero: here, in
+// `read_answer`, or by the delivery rule of a handover.
 pub fn quiet(c: Controller, scratch: &mut [u8]) -> Effect
     ensures { Quiet c scratch.old result scratch.new }
 {

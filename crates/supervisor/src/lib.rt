@@ -1,4 +1,4 @@
-// Ask and commit, by value: what a handover would apply, and that handover, made if its receiver has not acted since.
+// Ask, and commit by value: what a handover would apply, and that handover, made if its receiver has not acted since.
 #![tactic(auto)]
 
 ghost use Rattle.std.specs.Prelude.{◌≡◌, ◌≤◌, IfOk};
