@@ -1,1 +1,3 @@
+pub mod Names
 pub mod Lines
+pub mod Writing

@@ -1,7 +1,8 @@
 -- What a loop gives that runs only as far as an array reaches, where nothing counts past its end. Assumes nothing.
 use mathlib.Core.Path.{◌≡◌, refl, sym, ◌∙◌}
 use mathlib.Core.Bool.{Bool, true, false, false≢true}
-use Prim.Native.Nat.{ℕ, zero, suc, min, ◌≤◌, ◌<◌}
+use Prim.Native.Nat.{ℕ, zero, suc, ◌+◌, min, ◌≤◌, ◌<◌}
+use native.Mathlib.Numerals.{add-one}
 use native.Mathlib.Omega.{arith}
 use native.Mathlib.Decide.{dec_lt}
 use lib.Dec.{ltb}
@@ -9,6 +10,10 @@ use borrow.Author.Tests.{lt-ltb}
 use Rattle.lists.specs.Below.{count, all, sum}
 use Rattle.lists.proofs.Below.{count_pos, count_none, all-at}
 use Rattle.lists.proofs.Tests.{refuted}
+
+-- what holds as far as the loop runs, and of everything past the end, holds below n
+pub below_past {ℓ} : (P : ℕ → Type ℓ) (n m end : ℕ) → end ≡ min n m → ((k : ℕ) → k < end → P k) → ((k : ℕ) → m ≤ k → P k) → (k : ℕ) → k < n → P k
+below_past P n m end e f g k h = elim (dec_lt k m) [ yes l ↦ f k (omega arith) | no l ↦ g k (omega arith) ]
 
 -- A SEARCH
 
@@ -27,6 +32,10 @@ module _ (f : ℕ → ℕ) where
   pub sum-start : 0 ≡ sum 0 f
   unfolding sum
   sum-start = refl
+
+  pub sum_more : (k a x : ℕ) → a ≡ sum k f → x ≡ f k → a + x ≡ sum (k + 1) f
+  unfolding sum
+  sum_more k a x e h = rw (add-one, e, h)
 
   sum_clipped : (n m : ℕ) → ((k : ℕ) → m ≤ k → f k ≡ 0) → sum (min n m) f ≡ sum n f
   unfolding sum

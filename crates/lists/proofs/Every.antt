@@ -4,7 +4,7 @@ use native.Mathlib.Omega.{arith}
 use mathlib.Core.Path.{◌≡◌, refl}
 use mathlib.Core.Bool.{Bool, true, false, ◌&&◌, and_assoc}
 use mathlib.Core.List.{List, [], ◌∷◌, ◌++◌, map}
-use lib.ListN.{length, get_or}
+use lib.ListN.{length, get_or, take}
 use Rattle.lists.proofs.Tests.{and_left, and_right, both, contradiction}
 use Rattle.lists.specs.Every.{Every, every}
 
@@ -17,6 +17,12 @@ pub every_weaker : {A : Type 0} (P Q : A → Type 0) → ((x : A) → P x → Q 
 unfolding Every
 every_weaker P Q f [] h = h
 every_weaker P Q f (x ∷ xs) h = (f x h.0, every_weaker P Q f xs h.1)
+
+pub every_take : {A : Type 0} (P : A → Type 0) (k : ℕ) (xs : List A) → Every P xs → Every P (take k xs)
+unfolding Every
+every_take P zero xs h = tt
+every_take P (suc k) [] h = tt
+every_take P (suc k) (x ∷ xs) h = (h.0, every_take P k xs h.1)
 
 pub tests_append : {A : Type 0} (p : A → Bool) (xs ys : List A) → every p (xs ++ ys) ≡ (every p xs && every p ys)
 unfolding every

@@ -13,12 +13,15 @@ use denote.RattleType.{RattleType}
 use denote.Builtin.{u8, usize}
 use Rattle.model.specs.Tables.{seats, capacity, no_pending, no_controller}
 use Rattle.model.specs.Sized.{Sized, SizedController}
+use Rattle.model.specs.declared.Answer.{Answer}
 use Rattle.model.specs.declared.Pending.{Pending}
 use Rattle.model.specs.declared.Controller.{Controller}
 use Rattle.model.specs.declared.Table.{Table}
 use Rattle.model.specs.contracts.ForwardNumber as forward_number
 use Rattle.model.specs.contracts.MessageNumber as message_number
 use Rattle.model.specs.contracts.Message as message
+use Rattle.model.specs.contracts.Name as name
+use Rattle.model.specs.contracts.Answer as answer
 use Rattle.model.specs.contracts.Pending as pending
 use Rattle.model.specs.contracts.Controller as controller
 use Rattle.model.specs.contracts.Table as table
@@ -42,6 +45,9 @@ module _ (R : RattleType) (n : ℕ) (xs : List R.Denot) (vs : List Val) (owned :
       go (y ∷ ys) (u ∷ us) e (suc i) h = go ys us e.1 i (le_of_suc-le-suc h)
 
 -- THE ANSWER
+
+pub answer_sized : (a : Answer) (vs : List Val) → Is answer.the_row a vs → length a.names ≡ capacity
+answer_sized a vs g = array_length name.the_row capacity a.names _ g.1.1.1.1.1.1.0
 
 -- THE TABLE
 

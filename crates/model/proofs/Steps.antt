@@ -49,6 +49,9 @@ module _ (t : Table) (s : List ℕ) (room : ℕ) where
   pub step_is_accepted : first_no (step_questions t s room) ≡ 0 → step t s room ≡ accepted t s
   step_is_accepted e = step_case (λ (o : Outcome). o ≡ accepted t s) (λ _. refl) (λ n. absurd (n e))
 
+  pub step_is_refused : first_no (step_questions t s room) ≢ 0 → step t s room ≡ refused t s (first_no (step_questions t s room))
+  step_is_refused n = step_case (λ (o : Outcome). o ≡ refused t s (first_no (step_questions t s room))) (λ e. absurd (n e)) (λ _. refl)
+
   -- on a well-formed table the event call is a step
   pub event_is_step : well_formed t ≡ true → event t s room ≡ step t s room
   unfolding event step first_no lent_table

@@ -1,3 +1,4 @@
+pub mod Owned
 pub mod NameOrder
 pub mod Inserting
 pub mod NamesSoFar

@@ -1,15 +1,25 @@
 -- The number that a list of questions gives, from the answers as a function's tests have them. Assumes nothing.
 use mathlib.Core.Path.{◌≡◌, refl, sym, ◌∙◌}
 use mathlib.Core.Logic.{◌≢◌}
-use mathlib.Core.Bool.{Bool, true, false, cond}
+use mathlib.Core.Bool.{Bool, true, false, not, cond}
 use mathlib.Core.List.{List, [], ◌∷◌, ◌++◌}
 use Prim.Native.Nat.{ℕ}
+use borrow.Author.Tests.{not-true, not-false}
 use Rattle.model.specs.Refusals.{refusal_number}
 use Rattle.model.specs.Questions.{Question, first_no, payload_questions}
 use Rattle.model.specs.declared.Payload.{Payload}
 use Rattle.model.specs.declared.refusal.Refusal.{Refusal}
 use Rattle.model.proofs.Allowed.{Numbered, none, more, no_no}
 use Rattle.model.proofs.Refused.{refusal_is}
+
+-- an answer r to what b says, as the test `!r` came out
+
+module _ {r b : Bool} (e : r ≡ b) where
+  pub seen_no : not r ≡ true → b ≡ false
+  seen_no t = sym e ∙ not-true r t
+
+  pub seen_yes : not r ≡ false → b ≡ true
+  seen_yes t = sym e ∙ not-false r t
 
 -- TWO LISTS OF QUESTIONS, one after the other
 

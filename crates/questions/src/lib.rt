@@ -13,8 +13,8 @@ ghost use Rattle.questions.specs.Seats.{or_none};
 use model::refusal::Refusal;
 use model::{Command, Controller, Event, Kind, Messages, Payload, Pending, Table};
 
-// Question 8: c is one of n controllers.
-#[tactic(auto, unfolding(model::specs::Questions::first_no))]
+// Question 8: c is one of n controllers. (`Fair.named` is unfolded, so that a test by comparisons is proved too, and a wrong one refused.)
+#[tactic(auto, unfolding(model::specs::Questions::first_no, model::specs::Fair::named))]
 fn named(n: usize, c: u8) -> Result<(), Refusal>
     ensures { refusal_in result ≡ first_no (ask 8 (named n c) ∷ []) }
 {
